@@ -1,0 +1,68 @@
+-- What a mutant does on the test suite (01: list), and the judgement.
+use Prim.Native.Nat.{ℕ, zero, suc}
+use mathlib.Core.Path.{_≡_}
+use mathlib.Core.Bool.{Bool, true, false, cond}
+use mathlib.Core.Option.{Option, none, some}
+use mathlib.Core.List.{List, [], _∷_}
+use lib.Dec.{eqb}
+use Rattle.sheet.specs.Lists.{maybe}
+use Rattle.sheet.specs.Sheet.{Sheet}
+use Rattle.model.specs.Mutant.{later, outputs, specified, mutants, against}
+use Rattle.model.specs.Compare.{comparePair}
+
+-- the position of the first output that differs from the specified ones
+unfoldable pub firstWrong : List ℕ → List ℕ → Option ℕ
+firstWrong [] os = none
+firstWrong (r ∷ rs) [] = some zero
+firstWrong (r ∷ rs) (o ∷ os) =
+    let rest = later (firstWrong rs os) in
+    cond (eqb r o) rest (some zero)
+
+-- the position of the mutant's first wrong output in a test
+unfoldable pub wrongIn : Sheet → List ℕ → List ℕ → Option ℕ
+wrongIn sh b t = maybe (specified sh t) none (λ os. firstWrong os (outputs sh b t))
+
+pub record Place : Type 0 where
+  pub test : ℕ
+  pub position : ℕ
+
+abbrev pub laterTest : Option Place → Option Place
+laterTest none = none
+laterTest (some f) = some (record { test = suc (f .test); position = f .position })
+
+unfoldable pub firstFailedIn : Sheet → List ℕ → List (List ℕ) → Option Place
+firstFailedIn sh b [] = none
+firstFailedIn sh b (t ∷ ts) =
+    let rest = laterTest (firstFailedIn sh b ts) in
+    maybe (wrongIn sh b t) rest (λ i. some (record { test = zero; position = i }))
+
+-- the first test that the mutant fails, and the position in it of the first wrong output, both from 0
+unfoldable pub firstFailedOf : Sheet → List ℕ → Option Place
+firstFailedOf sh b = firstFailedIn sh b (sh .tests)
+
+-- the mutant fails no test
+abbrev pub Passes : Sheet → List ℕ → Type 0
+Passes sh b = firstFailedOf sh b ≡ none
+
+-- the mutant's shortest, then smallest, distinguishing sequence; none if it conforms
+unfoldable pub compareOf : Sheet → List ℕ → Option (List ℕ)
+compareOf sh b = comparePair (against sh b)
+
+pub data Judgement : Type 0 where
+  complete : Judgement
+  survivor : List ℕ → List ℕ → Judgement
+
+abbrev pub orElse : List ℕ → Option (List ℕ) → Judgement → Judgement
+orElse b none j = j
+orElse b (some xs) j = survivor b xs
+
+-- the first of the mutants that passes the suite and is nonconforming, with its distinguishing sequence
+unfoldable pub firstSurvivor : Sheet → List (List ℕ) → Judgement
+firstSurvivor sh [] = complete
+firstSurvivor sh (b ∷ bs) =
+    let rest = firstSurvivor sh bs in
+    let found = orElse b (compareOf sh b) rest in
+    maybe (firstFailedOf sh b) found (λ f. rest)
+
+unfoldable pub judgeOf : Sheet → Judgement
+judgeOf sh = firstSurvivor sh (mutants sh)

@@ -1,0 +1,7 @@
+pub mod Lists
+pub mod Sheet
+pub mod Reading
+pub mod Encode
+pub mod Part
+pub mod Tables
+pub mod WellFormed
