@@ -5,3 +5,4 @@ pub mod Suite
 pub mod Implementation
 pub mod Verdict
 pub mod Operations
+pub mod laws

@@ -119,7 +119,7 @@ refusal sh (size z) = firstBroken ((not (sizeInRange z), 4) ∷ [])
 refusal sh (rule r) = firstBroken ((not (inRange (sh .size) r), 5) ∷ (not (ascends pairOf (sh .rules) r), 6) ∷ [])
 refusal sh (fault r) =
     firstBroken
-    ( (not (inRange (sh .size) r), 5)
+    ((not (inRange (sh .size) r), 5)
     ∷ (not (ascends rowOf (sh .faults) r), 6)
     ∷ (not (isOther (ruleAt (sh .rules) (r .source) (r .input)) r), 7)
     ∷ (leb 256 (length (sh .faults)), 8)
@@ -127,7 +127,7 @@ refusal sh (fault r) =
 refusal sh test = firstBroken ((leb 256 (length (sh .tests)), 8) ∷ [])
 refusal sh (press x) =
     firstBroken
-    ( (leb (sh .size .inputs) x, 5)
+    ((leb (sh .size .inputs) x, 5)
     ∷ (leb 256 (length (lastTest (sh .tests))), 8)
     ∷ (isNone (ruleAfter (sh .rules) (lastTest (sh .tests)) x), 9)
     ∷ [])
