@@ -5,3 +5,4 @@ pub mod Encode
 pub mod Part
 pub mod Tables
 pub mod WellFormed
+pub mod laws

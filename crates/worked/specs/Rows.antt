@@ -1,0 +1,316 @@
+-- P1 to P10 of 01, the other sheets that it lists, and the order of the refusals: rows from the sheets' bytes through the
+-- operations' definitions, with the whole expected answers, and one theorem that all rows hold, by computation.
+use Prim.Native.Nat.{ℕ}
+use mathlib.Core.Path.{_≡_, refl, ap}
+use mathlib.Core.Option.{Option, none, some}
+use mathlib.Core.List.{List, [], _∷_, _++_, map}
+use lib.ListN.{length, getD, take, drop, replicate}
+use Rattle.sheet.specs.declared.Summary.{Summary}
+use Rattle.sheet.specs.declared.Span.{Span}
+use Rattle.sheet.specs.Lists.{last, precedes, count, any, all, upTo, joined}
+use Rattle.sheet.specs.Sheet.{Sheet, rowsAt, ruleAt, after, leads, within as reachedWithin, allReached, unruledChoices, choicesAt, isOpen, openBelow, openPairs}
+use Rattle.sheet.specs.Reading.{Result, accepted, refused, firstBroken, ascends, lastTest, ruleAfter, refusal, addPress, advance, finishing, doing, step as command, from, blank, reading, summaryOf}
+use Rattle.sheet.specs.Encode.{rowBytes, pressBytes, testBytes, sizeBytes, machineBytes}
+use Rattle.sheet.specs.Part.{spanOf, parting}
+use Rattle.sheet.specs.laws.Accepted.{well-formed}
+use Rattle.model.specs.Machine.{outputsFrom, specifiedFrom}
+use Rattle.model.specs.Mutant.{rule, unruled, transitions, Suspect, suspects, slots, siteIn, siteOf, choiceLists, mutants, step, initial, outputs, specified}
+use Rattle.model.specs.Compare.{least, shows, within, best, shortest, distance, compareFrom, comparePair}
+use Rattle.model.specs.Suite.{Place, Judgement, complete, survivor, firstWrong, wrongIn, firstFailedIn, firstFailedOf, compareOf, firstSurvivor, judgeOf}
+use Rattle.model.specs.Operations.{reads, firstHigh, firstOver, withMutant, running, failing, comparing, judging}
+use Rattle.model.specs.laws.Quick.{tabulate, cellAt, rounds, compareQuick, firstQuick, judgeQuick, quick}
+use Rattle.worked.specs.Sheets.{p1machine, p1, p2, p3, emptyTest, p4machine, p4, p5, p6, p9machine, bababa, p9, p10, stuck, chain, open32, open33, manyTests}
+
+-- the sheet that was read
+abbrev sheetOf : Result Sheet → Sheet
+sheetOf (accepted sh) = sh
+sheetOf (refused number place) = blank .sheet
+
+-- what an operation is to answer
+pub data Row : Type 0 where
+  read : List ℕ → Result Summary → Row
+  open-pairs : List ℕ → Result (List Suspect) → Row
+  choices : List ℕ → Result (List ℕ) → Row
+  part : List ℕ → ℕ → Result Span → Row
+  run : List ℕ → List ℕ → List ℕ → ℕ → Result (List ℕ) → Row
+  failed : List ℕ → List ℕ → Result (Option Place) → Row
+  compared : List ℕ → List ℕ → ℕ → Result (Option (List ℕ)) → Row
+  judged : List ℕ → ℕ → ℕ → Result Judgement → Row
+
+unfoldable pub Holds : Row → Type 0
+Holds (read s r) = reads (reading s) (λ sh. accepted (summaryOf sh)) ≡ r
+Holds (open-pairs s r) = reads (reading s) (λ sh. accepted (suspects sh)) ≡ r
+Holds (choices s r) = reads (reading s) (λ sh. accepted (slots sh)) ≡ r
+Holds (part s i r) = parting s i ≡ r
+Holds (run s b xs room r) = running s b xs room ≡ r
+Holds (failed s b r) = failing s b ≡ r
+Holds (compared s b room r) = comparing s b room ≡ r
+Holds (judged s boardRoom sequenceRoom r) = judging s boardRoom sequenceRoom ≡ r
+
+unfoldable pub AllHold : List Row → Type 0
+AllHold [] = Unit {0}
+AllHold (r ∷ rs) = Holds r × AllHold rs
+
+-- n, k, m and the numbers of RULEs, FAULTs, TESTs and open pairs
+abbrev summary : ℕ → ℕ → ℕ → ℕ → ℕ → ℕ → ℕ → Result Summary
+summary n k m rules faults tests suspects =
+    accepted (record { states = n; inputs = k; outputs = m; rules = rules; faults = faults; tests = tests; suspects = suspects })
+
+abbrev pair : ℕ → ℕ → Suspect
+pair s x = record { state = s; input = x }
+
+abbrev place : ℕ → ℕ → Result (Option Place)
+place test position = accepted (some (record { test = test; position = position }))
+
+unfoldable pub listed : List Row
+listed =
+    judged p1 1 4 (accepted (survivor (1 ∷ []) (0 ∷ 1 ∷ 0 ∷ [])))
+    ∷ judged p2 1 4 (accepted complete)
+    ∷ judged p3 1 4 (accepted (survivor (1 ∷ []) (0 ∷ 1 ∷ 0 ∷ [])))
+    ∷ open-pairs p4 (accepted (pair 0 1 ∷ pair 1 1 ∷ []))
+    ∷ choices p4 (accepted (4 ∷ 2 ∷ []))
+    ∷ judged p4 2 4 (accepted (survivor (0 ∷ 1 ∷ []) (0 ∷ 1 ∷ 0 ∷ [])))
+    ∷ judged p5 2 4 (accepted complete)
+    ∷ read p6 (summary 1 1 1 0 0 0 0)
+    ∷ judged p6 0 1 (accepted complete)
+    ∷ run p1 (1 ∷ []) (0 ∷ 1 ∷ 0 ∷ []) 3 (accepted (1 ∷ 1 ∷ 0 ∷ []))
+    ∷ failed p2 (1 ∷ []) (place 0 2)
+    ∷ judged p9 4 16 (accepted (survivor (0 ∷ 0 ∷ 0 ∷ 1 ∷ []) (1 ∷ 0 ∷ 1 ∷ 0 ∷ 0 ∷ 1 ∷ 0 ∷ [])))
+    ∷ read [] (refused 2 0)
+    ∷ read (0 ∷ []) (refused 3 0)
+    ∷ read (1 ∷ 2 ∷ []) (refused 2 0)
+    ∷ read (1 ∷ 0x11 ∷ 1 ∷ 1 ∷ 6 ∷ []) (refused 4 0)
+    ∷ read (1 ∷ 0x10 ∷ 1 ∷ 1 ∷ 6 ∷ []) (refused 11 4)
+    ∷ read (1 ∷ 2 ∷ 1 ∷ 1 ∷ 6 ∷ []) (refused 11 4)
+    ∷ read open32 (summary 2 16 1 1 1 0 32)
+    ∷ read open33 (refused 12 24)
+    ∷ read (manyTests 256) (summary 1 1 1 0 0 256 0)
+    ∷ read (manyTests 257) (refused 8 260)
+    ∷ read (replicate 16385 0) (refused 1 16384)
+    ∷ []
+
+-- the empty test, the empty list, a mutant with an unreachable state, choice 255, and 13 to 17 in their order, each at its lowest index
+unfoldable pub further : List Row
+further =
+    read p1 (summary 2 2 2 4 1 1 1)
+    ∷ failed emptyTest (1 ∷ []) (accepted none)
+    ∷ judged emptyTest 1 4 (accepted (survivor (1 ∷ []) (0 ∷ 1 ∷ 0 ∷ [])))
+    ∷ part emptyTest 0 (accepted (record { start = 30; length = 0 }))
+    ∷ failed p3 (1 ∷ []) (accepted none)
+    ∷ part p1 0 (accepted (record { start = 30; length = 4 }))
+    ∷ part p1 1 (refused 17 0)
+    ∷ part [] 1 (refused 2 0)
+    ∷ compared stuck (1 ∷ []) 4 (accepted (some (0 ∷ 0 ∷ [])))
+    ∷ judged stuck 1 4 (accepted (survivor (1 ∷ []) (0 ∷ 0 ∷ [])))
+    ∷ choices chain (accepted (256 ∷ []))
+    ∷ run chain (255 ∷ []) (replicate 17 0) 17 (accepted (replicate 15 0 ++ 15 ∷ 15 ∷ []))
+    ∷ run [] [] (9 ∷ []) 0 (refused 2 0)
+    ∷ run p1 [] (9 ∷ []) 0 (refused 13 0)
+    ∷ run p1 (2 ∷ []) (9 ∷ []) 0 (refused 14 0)
+    ∷ run p4 (4 ∷ 2 ∷ []) (9 ∷ []) 0 (refused 14 0)
+    ∷ run p4 (3 ∷ 2 ∷ []) (9 ∷ []) 0 (refused 14 1)
+    ∷ run p1 (1 ∷ []) (0 ∷ 2 ∷ 9 ∷ []) 0 (refused 15 1)
+    ∷ run p1 (1 ∷ []) (0 ∷ []) 0 (refused 16 0)
+    ∷ run p4 (3 ∷ 1 ∷ []) (1 ∷ 1 ∷ 0 ∷ []) 9 (accepted (1 ∷ 1 ∷ 0 ∷ []))
+    ∷ failed p1 [] (refused 13 0)
+    ∷ failed p4 (3 ∷ 2 ∷ []) (refused 14 1)
+    ∷ failed p1 (1 ∷ []) (accepted none)
+    ∷ compared p1 (0 ∷ 0 ∷ []) 0 (refused 13 0)
+    ∷ compared p1 (2 ∷ []) 0 (refused 14 0)
+    ∷ compared p1 (1 ∷ []) 3 (refused 16 0)
+    ∷ compared p1 (1 ∷ []) 4 (accepted (some (0 ∷ 1 ∷ 0 ∷ [])))
+    ∷ compared p1 (0 ∷ []) 4 (accepted none)
+    ∷ judged [] 0 0 (refused 2 0)
+    ∷ judged p1 0 3 (refused 16 0)
+    ∷ judged p1 1 3 (refused 16 1)
+    ∷ []
+
+unfoldable pub rows : List Row
+rows = listed ++ (judged p10 4 16 (accepted complete) ∷ further)
+
+-- P10's eight conforming mutants that pass are compared over all sequences of 16 inputs: a quicker judgement, proved to be
+-- the same, computes it
+sheet10 : Sheet
+unfolding p1machine p1 p2 p3 emptyTest p4machine p4 p5 p6 p9machine bababa p9 p10 stuck chain open32 open33 manyTests last precedes count any all upTo joined rowsAt ruleAt after leads reachedWithin allReached unruledChoices choicesAt isOpen openBelow openPairs firstBroken ascends lastTest ruleAfter refusal addPress advance finishing doing command from blank reading summaryOf rowBytes pressBytes testBytes sizeBytes machineBytes spanOf parting outputsFrom specifiedFrom rule unruled transitions suspects slots siteIn siteOf choiceLists mutants step initial outputs specified least shows within best shortest distance compareFrom comparePair firstWrong wrongIn firstFailedIn firstFailedOf compareOf firstSurvivor judgeOf firstHigh firstOver withMutant running failing comparing judging
+sheet10 = sheetOf (reading p10)
+
+p10-read : reading p10 ≡ accepted sheet10
+unfolding sheet10 p1machine p1 p2 p3 emptyTest p4machine p4 p5 p6 p9machine bababa p9 p10 stuck chain open32 open33 manyTests last precedes count any all upTo joined rowsAt ruleAt after leads reachedWithin allReached unruledChoices choicesAt isOpen openBelow openPairs firstBroken ascends lastTest ruleAfter refusal addPress advance finishing doing command from blank reading summaryOf rowBytes pressBytes testBytes sizeBytes machineBytes spanOf parting outputsFrom specifiedFrom rule unruled transitions suspects slots siteIn siteOf choiceLists mutants step initial outputs specified least shows within best shortest distance compareFrom comparePair firstWrong wrongIn firstFailedIn firstFailedOf compareOf firstSurvivor judgeOf firstHigh firstOver withMutant running failing comparing judging
+p10-read = refl
+
+p10-judged : judgeOf sheet10 ≡ complete
+unfolding sheet10 p1machine p1 p2 p3 emptyTest p4machine p4 p5 p6 p9machine bababa p9 p10 stuck chain open32 open33 manyTests last precedes count any all upTo joined rowsAt ruleAt after leads reachedWithin allReached unruledChoices choicesAt isOpen openBelow openPairs firstBroken ascends lastTest ruleAfter refusal addPress advance finishing doing command from blank reading summaryOf rowBytes pressBytes testBytes sizeBytes machineBytes spanOf parting outputsFrom specifiedFrom rule unruled transitions suspects slots siteIn siteOf choiceLists mutants step initial outputs specified least shows within best shortest distance compareFrom comparePair firstWrong wrongIn firstFailedIn firstFailedOf compareOf firstSurvivor judgeOf firstHigh firstOver withMutant running failing comparing judging tabulate cellAt rounds compareQuick firstQuick judgeQuick
+p10-judged = quick sheet10 (well-formed p10 sheet10 p10-read)
+
+p10-holds : judging p10 4 16 ≡ accepted complete
+unfolding sheet10 p1machine p1 p2 p3 emptyTest p4machine p4 p5 p6 p9machine bababa p9 p10 stuck chain open32 open33 manyTests last precedes count any all upTo joined rowsAt ruleAt after leads reachedWithin allReached unruledChoices choicesAt isOpen openBelow openPairs firstBroken ascends lastTest ruleAfter refusal addPress advance finishing doing command from blank reading summaryOf rowBytes pressBytes testBytes sizeBytes machineBytes spanOf parting outputsFrom specifiedFrom rule unruled transitions suspects slots siteIn siteOf choiceLists mutants step initial outputs specified least shows within best shortest distance compareFrom comparePair firstWrong wrongIn firstFailedIn firstFailedOf compareOf firstSurvivor judgeOf firstHigh firstOver withMutant running failing comparing judging
+p10-holds = ap accepted p10-judged
+
+pub rows-hold : AllHold rows
+unfolding rows listed further Holds AllHold p1machine p1 p2 p3 emptyTest p4machine p4 p5 p6 p9machine bababa p9 p10 stuck chain open32 open33 manyTests last precedes count any all upTo joined rowsAt ruleAt after leads reachedWithin allReached unruledChoices choicesAt isOpen openBelow openPairs firstBroken ascends lastTest ruleAfter refusal addPress advance finishing doing command from blank reading summaryOf rowBytes pressBytes testBytes sizeBytes machineBytes spanOf parting outputsFrom specifiedFrom rule unruled transitions suspects slots siteIn siteOf choiceLists mutants step initial outputs specified least shows within best shortest distance compareFrom comparePair firstWrong wrongIn firstFailedIn firstFailedOf compareOf firstSurvivor judgeOf firstHigh firstOver withMutant running failing comparing judging
+rows-hold = (
+  refl,
+  (
+    refl,
+    (
+      refl,
+      (
+        refl,
+        (
+          refl,
+          (
+            refl,
+            (
+              refl,
+              (
+                refl,
+                (
+                  refl,
+                  (
+                    refl,
+                    (
+                      refl,
+                      (
+                        refl,
+                        (
+                          refl,
+                          (
+                            refl,
+                            (
+                              refl,
+                              (
+                                refl,
+                                (
+                                  refl,
+                                  (
+                                    refl,
+                                    (
+                                      refl,
+                                      (
+                                        refl,
+                                        (
+                                          refl,
+                                          (
+                                            refl,
+                                            (
+                                              refl,
+                                              (
+                                                p10-holds,
+                                                (
+                                                  refl,
+                                                  (
+                                                    refl,
+                                                    (
+                                                      refl,
+                                                      (
+                                                        refl,
+                                                        (
+                                                          refl,
+                                                          (
+                                                            refl,
+                                                            (
+                                                              refl,
+                                                              (
+                                                                refl,
+                                                                (
+                                                                  refl,
+                                                                  (
+                                                                    refl,
+                                                                    (
+                                                                      refl,
+                                                                      (
+                                                                        refl,
+                                                                        (
+                                                                          refl,
+                                                                          (
+                                                                            refl,
+                                                                            (
+                                                                              refl,
+                                                                              (
+                                                                                refl,
+                                                                                (
+                                                                                  refl,
+                                                                                  (
+                                                                                    refl,
+                                                                                    (
+                                                                                      refl,
+                                                                                      (
+                                                                                        refl,
+                                                                                        (
+                                                                                          refl,
+                                                                                          (
+                                                                                            refl,
+                                                                                            (
+                                                                                              refl,
+                                                                                              (
+                                                                                                refl,
+                                                                                                (
+                                                                                                  refl,
+                                                                                                  (
+                                                                                                    refl,
+                                                                                                    (
+                                                                                                      refl,
+                                                                                                      (
+                                                                                                        refl,
+                                                                                                        (
+                                                                                                          refl,
+                                                                                                          (
+                                                                                                            refl,
+                                                                                                            (
+                                                                                                              refl,
+                                                                                                              tt,
+                                                                                                            ),
+                                                                                                          ),
+                                                                                                        ),
+                                                                                                      ),
+                                                                                                    ),
+                                                                                                  ),
+                                                                                                ),
+                                                                                              ),
+                                                                                            ),
+                                                                                          ),
+                                                                                        ),
+                                                                                      ),
+                                                                                    ),
+                                                                                  ),
+                                                                                ),
+                                                                              ),
+                                                                            ),
+                                                                          ),
+                                                                        ),
+                                                                      ),
+                                                                    ),
+                                                                  ),
+                                                                ),
+                                                              ),
+                                                            ),
+                                                          ),
+                                                        ),
+                                                      ),
+                                                    ),
+                                                  ),
+                                                ),
+                                              ),
+                                            ),
+                                          ),
+                                        ),
+                                      ),
+                                    ),
+                                  ),
+                                ),
+                              ),
+                            ),
+                          ),
+                        ),
+                      ),
+                    ),
+                  ),
+                ),
+              ),
+            ),
+          ),
+        ),
+      ),
+    ),
+  ),
+)

@@ -1,0 +1,126 @@
+-- The bytes of the sheets that 01 lists, and of a few more: a command to a line.
+use Prim.Native.Nat.{ℕ}
+use mathlib.Core.List.{List, [], _∷_, _++_}
+use lib.ListN.{replicate}
+
+-- P1's machine: two states, two inputs, two outputs
+unfoldable pub p1machine : List ℕ
+p1machine =
+    0x01 ∷ 2 ∷ 2 ∷ 2 ∷
+    0x02 ∷ 0 ∷ 0 ∷ 1 ∷ 1 ∷
+    0x02 ∷ 0 ∷ 1 ∷ 0 ∷ 0 ∷
+    0x02 ∷ 1 ∷ 0 ∷ 0 ∷ 1 ∷
+    0x02 ∷ 1 ∷ 1 ∷ 1 ∷ 0 ∷
+    0x03 ∷ 1 ∷ 1 ∷ 1 ∷ 1 ∷ []
+
+unfoldable pub p1 : List ℕ
+p1 = p1machine ++ 0x04 ∷ 0x05 ∷ 0 ∷ 0x05 ∷ 1 ∷ 0x06 ∷ []
+
+unfoldable pub p2 : List ℕ
+p2 = p1machine ++ 0x04 ∷ 0x05 ∷ 0 ∷ 0x05 ∷ 1 ∷ 0x05 ∷ 0 ∷ 0x06 ∷ []
+
+unfoldable pub p3 : List ℕ
+p3 = p1machine ++ 0x06 ∷ []
+
+-- P1 with a test that has no PRESS
+unfoldable pub emptyTest : List ℕ
+emptyTest = p1machine ++ 0x04 ∷ 0x06 ∷ []
+
+-- P1 without the RULE for (0, 1)
+unfoldable pub p4machine : List ℕ
+p4machine =
+    0x01 ∷ 2 ∷ 2 ∷ 2 ∷
+    0x02 ∷ 0 ∷ 0 ∷ 1 ∷ 1 ∷
+    0x02 ∷ 1 ∷ 0 ∷ 0 ∷ 1 ∷
+    0x02 ∷ 1 ∷ 1 ∷ 1 ∷ 0 ∷
+    0x03 ∷ 1 ∷ 1 ∷ 1 ∷ 1 ∷ []
+
+unfoldable pub p4 : List ℕ
+p4 = p4machine ++ 0x04 ∷ 0x05 ∷ 0 ∷ 0x05 ∷ 1 ∷ 0x06 ∷ []
+
+unfoldable pub p5 : List ℕ
+p5 = p4machine ++ 0x04 ∷ 0x05 ∷ 0 ∷ 0x05 ∷ 1 ∷ 0x05 ∷ 0 ∷ 0x06 ∷ []
+
+unfoldable pub p6 : List ℕ
+p6 = 0x01 ∷ 1 ∷ 1 ∷ 1 ∷ 0x06 ∷ []
+
+-- the machine of 000
+unfoldable pub p9machine : List ℕ
+p9machine =
+    0x01 ∷ 4 ∷ 2 ∷ 2 ∷
+    0x02 ∷ 0 ∷ 0 ∷ 0 ∷ 0 ∷
+    0x02 ∷ 0 ∷ 1 ∷ 0 ∷ 1 ∷
+    0x02 ∷ 1 ∷ 0 ∷ 0 ∷ 2 ∷
+    0x02 ∷ 2 ∷ 0 ∷ 0 ∷ 2 ∷
+    0x02 ∷ 2 ∷ 1 ∷ 0 ∷ 3 ∷
+    0x02 ∷ 3 ∷ 0 ∷ 1 ∷ 0 ∷
+    0x02 ∷ 3 ∷ 1 ∷ 0 ∷ 1 ∷
+    0x03 ∷ 2 ∷ 0 ∷ 1 ∷ 2 ∷
+    0x03 ∷ 2 ∷ 1 ∷ 0 ∷ 2 ∷
+    0x03 ∷ 3 ∷ 0 ∷ 1 ∷ 1 ∷ []
+
+-- the test bababa
+unfoldable pub bababa : List ℕ
+bababa = 0x04 ∷ 0x05 ∷ 1 ∷ 0x05 ∷ 0 ∷ 0x05 ∷ 1 ∷ 0x05 ∷ 0 ∷ 0x05 ∷ 1 ∷ 0x05 ∷ 0 ∷ []
+
+unfoldable pub p9 : List ℕ
+p9 = p9machine ++ (bababa ++ 0x06 ∷ [])
+
+-- and the tests baa and babaaba
+unfoldable pub p10 : List ℕ
+p10 =
+    p9machine ++ (bababa ++
+    0x04 ∷ 0x05 ∷ 1 ∷ 0x05 ∷ 0 ∷ 0x05 ∷ 0 ∷
+    0x04 ∷ 0x05 ∷ 1 ∷ 0x05 ∷ 0 ∷ 0x05 ∷ 1 ∷ 0x05 ∷ 0 ∷ 0x05 ∷ 0 ∷ 0x05 ∷ 1 ∷ 0x05 ∷ 0 ∷
+    0x06 ∷ [])
+
+-- a fault keeps the machine in state 0
+unfoldable pub stuck : List ℕ
+stuck =
+    0x01 ∷ 2 ∷ 1 ∷ 2 ∷
+    0x02 ∷ 0 ∷ 0 ∷ 0 ∷ 1 ∷
+    0x02 ∷ 1 ∷ 0 ∷ 1 ∷ 0 ∷
+    0x03 ∷ 0 ∷ 0 ∷ 0 ∷ 0 ∷
+    0x06 ∷ []
+
+-- sixteen states in a row, sixteen outputs, no rule at the last state: a suspect of 256 choices
+unfoldable pub chain : List ℕ
+chain =
+    0x01 ∷ 16 ∷ 1 ∷ 16 ∷
+    0x02 ∷ 0 ∷ 0 ∷ 0 ∷ 1 ∷
+    0x02 ∷ 1 ∷ 0 ∷ 0 ∷ 2 ∷
+    0x02 ∷ 2 ∷ 0 ∷ 0 ∷ 3 ∷
+    0x02 ∷ 3 ∷ 0 ∷ 0 ∷ 4 ∷
+    0x02 ∷ 4 ∷ 0 ∷ 0 ∷ 5 ∷
+    0x02 ∷ 5 ∷ 0 ∷ 0 ∷ 6 ∷
+    0x02 ∷ 6 ∷ 0 ∷ 0 ∷ 7 ∷
+    0x02 ∷ 7 ∷ 0 ∷ 0 ∷ 8 ∷
+    0x02 ∷ 8 ∷ 0 ∷ 0 ∷ 9 ∷
+    0x02 ∷ 9 ∷ 0 ∷ 0 ∷ 10 ∷
+    0x02 ∷ 10 ∷ 0 ∷ 0 ∷ 11 ∷
+    0x02 ∷ 11 ∷ 0 ∷ 0 ∷ 12 ∷
+    0x02 ∷ 12 ∷ 0 ∷ 0 ∷ 13 ∷
+    0x02 ∷ 13 ∷ 0 ∷ 0 ∷ 14 ∷
+    0x02 ∷ 14 ∷ 0 ∷ 0 ∷ 15 ∷
+    0x06 ∷ []
+
+-- 32 open pairs, and 33
+unfoldable pub open32 : List ℕ
+open32 =
+    0x01 ∷ 2 ∷ 16 ∷ 1 ∷
+    0x02 ∷ 0 ∷ 0 ∷ 0 ∷ 1 ∷
+    0x03 ∷ 0 ∷ 0 ∷ 0 ∷ 0 ∷
+    0x06 ∷ []
+
+unfoldable pub open33 : List ℕ
+open33 =
+    0x01 ∷ 3 ∷ 11 ∷ 1 ∷
+    0x02 ∷ 0 ∷ 0 ∷ 0 ∷ 1 ∷
+    0x02 ∷ 1 ∷ 0 ∷ 0 ∷ 2 ∷
+    0x03 ∷ 0 ∷ 0 ∷ 0 ∷ 0 ∷
+    0x03 ∷ 1 ∷ 0 ∷ 0 ∷ 0 ∷
+    0x06 ∷ []
+
+-- P6 with n tests without a PRESS
+unfoldable pub manyTests : ℕ → List ℕ
+manyTests n = 0x01 ∷ 1 ∷ 1 ∷ 1 ∷ replicate n 0x04 ++ 0x06 ∷ []
