@@ -1,4 +1,5 @@
 pub mod Machine
+pub mod Traces
 pub mod Mutant
 pub mod Compare
 pub mod Suite

@@ -79,6 +79,7 @@ abbrev pub idle : Move
 idle = record { output = 0; target = 0 }
 
 -- what the mutant b does at a state and an input: the transition that its byte names at a suspect, otherwise the only one
+-- (and nothing beyond the sheet's states and inputs, where no run gets)
 unfoldable pub step : Sheet → List ℕ → ℕ → ℕ → Move
 step sh b =
     let us = suspects sh in

@@ -57,12 +57,12 @@ orElse b none j = j
 orElse b (some xs) j = survivor b xs
 
 -- the first of the mutants that passes the suite and is nonconforming, with its distinguishing sequence
-unfoldable pub firstSurvivor : Sheet → List (List ℕ) → Judgement
-firstSurvivor sh [] = complete
-firstSurvivor sh (b ∷ bs) =
-    let rest = firstSurvivor sh bs in
+unfoldable pub survivorAmong : Sheet → List (List ℕ) → Judgement
+survivorAmong sh [] = complete
+survivorAmong sh (b ∷ bs) =
+    let rest = survivorAmong sh bs in
     let found = orElse b (compareOf sh b) rest in
     maybe (firstFailedOf sh b) found (λ f. rest)
 
 unfoldable pub judgeOf : Sheet → Judgement
-judgeOf sh = firstSurvivor sh (mutants sh)
+judgeOf sh = survivorAmong sh (mutants sh)

@@ -6,3 +6,11 @@ pub mod CompareLaw
 pub mod MutantLaw
 pub mod JudgeLaw
 pub mod Quick
+pub mod ListLaw
+pub mod SuspectLaw
+pub mod TransitionLaw
+pub mod SuiteLaw
+pub mod Published
+pub mod GuaranteeLaw
+pub mod OperationLaw
+pub mod Demands

@@ -35,7 +35,7 @@ unfoldable pub Ascending : {A : Type 0} → (A → A → Type 0) → List A → 
 Ascending R [] = Unit {0}
 Ascending R (x ∷ xs) = All (R x) xs × Ascending R xs
 
--- dictionary order of lists of numbers: the smaller number where the two first differ stands first
+-- dictionary order of lists of numbers of the same length: the smaller number where the two first differ stands first
 unfoldable pub Before : List ℕ → List ℕ → Type 0
 Before [] ys = ⊥
 Before (x ∷ xs) [] = ⊥

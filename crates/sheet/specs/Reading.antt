@@ -200,7 +200,8 @@ abbrev pub resume : Outcome → (Progress → ℕ → Reading) → Reading
 resume (go p at) f = f p at
 resume (stop r) f = r
 
--- the reading from a place on; each command takes a byte at least, so fuel of one more than the bytes never runs out
+-- the reading from a place on; each command takes a byte at least, so fuel of one more than the bytes never runs out (the
+-- law `refusal-numbers`)
 unfoldable pub from : ℕ → Progress → List ℕ → ℕ → Reading
 from zero p s at = refused 0 0
 from (suc fuel) p s at = resume (step p s at) (λ q next. from fuel q s next)

@@ -59,7 +59,7 @@ allReached sh = all (within sh (sh .size .states)) (sh .size .states)
 unfoldable pub unruledChoices : Sheet → ℕ
 unruledChoices sh = sh .size .outputs * sh .size .states
 
--- how many choices a state and an input have: the RULE and its FAULTs
+-- how many choices a state and an input of the sheet have: the RULE and its FAULTs
 unfoldable pub choicesAt : Sheet → ℕ → ℕ → ℕ
 choicesAt sh s x = maybe (ruleAt (sh .rules) s x) (unruledChoices sh) (λ r. suc (length (rowsAt (sh .faults) s x)))
 

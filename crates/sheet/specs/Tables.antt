@@ -46,6 +46,7 @@ firstFault faults s x = cond (isNone (first (rowsAt faults s x))) 0 (firstAt fau
 abbrev pub noRow : Row
 noRow = record { source = 0; input = 0; output = 0; target = 0 }
 
+-- by pair for every state and input below 16, also beyond the sheet's own; by fault and by test, with 0 past the last
 unfoldable pub tablesOf : Sheet → Tables
 tablesOf sh =
     record {

@@ -10,7 +10,7 @@ use Rattle.sheet.specs.Sheet.{Sheet}
 use Rattle.sheet.specs.WellFormed.{WellFormed}
 use Rattle.model.specs.Mutant.{mutants, IsMutant, initial, against, Conforming}
 use Rattle.model.specs.Compare.{comparePair}
-use Rattle.model.specs.Suite.{Place, firstFailedOf, Passes, compareOf, Judgement, complete, survivor, firstSurvivor, judgeOf}
+use Rattle.model.specs.Suite.{Place, firstFailedOf, Passes, compareOf, Judgement, complete, survivor, survivorAmong, judgeOf}
 use Rattle.model.specs.Verdict.{ShortestOf, ComparedMeans, Survives, FirstSurvivor, Complete}
 use Rattle.model.specs.laws.Basics.{all-mem}
 use Rattle.model.specs.laws.Closed.{closed, some-state, start-below}
@@ -23,11 +23,11 @@ Cleared sh b = Passes sh b → compareOf sh b ≡ none
 
 -- one mutant more: it is cleared, or it is the answer
 data Turn (sh : Sheet) (b : List ℕ) (bs : List (List ℕ)) : Type 0 where
-  over : Cleared sh b → firstSurvivor sh (b ∷ bs) ≡ firstSurvivor sh bs → Turn sh b bs
-  here : (xs : List ℕ) → Passes sh b → compareOf sh b ≡ some xs → firstSurvivor sh (b ∷ bs) ≡ survivor b xs → Turn sh b bs
+  over : Cleared sh b → survivorAmong sh (b ∷ bs) ≡ survivorAmong sh bs → Turn sh b bs
+  here : (xs : List ℕ) → Passes sh b → compareOf sh b ≡ some xs → survivorAmong sh (b ∷ bs) ≡ survivor b xs → Turn sh b bs
 
 turn : (sh : Sheet) (b : List ℕ) (bs : List (List ℕ)) → Turn sh b bs
-unfolding firstSurvivor
+unfolding survivorAmong
 turn sh b bs = go (firstFailedOf sh b) refl (compareOf sh b) refl
   where
     go : (f : Option Place) → firstFailedOf sh b ≡ f → (o : Option (List ℕ)) → compareOf sh b ≡ o → Turn sh b bs
@@ -36,22 +36,22 @@ turn sh b bs = go (firstFailedOf sh b) refl (compareOf sh b) refl
     go (some f) ef o eo = over (λ p. let z : _≡_ {A = ℕ} 0 1 = cc in absurd (omega arith)) (rw ef refl)
 
 -- `complete`: every mutant of the list is cleared
-all-cleared : (sh : Sheet) (bs : List (List ℕ)) → firstSurvivor sh bs ≡ complete → (b : List ℕ) → List·Memᴰ b bs → Cleared sh b
+all-cleared : (sh : Sheet) (bs : List (List ℕ)) → survivorAmong sh bs ≡ complete → (b : List ℕ) → List·Memᴰ b bs → Cleared sh b
 all-cleared sh [] e b m p = absurd (List·Memᴰ·not-nil m)
 all-cleared sh (c ∷ bs) e b m p = go (turn sh c bs) (all-cleared sh bs)
   where
-    go : Turn sh c bs → (firstSurvivor sh bs ≡ complete → (d : List ℕ) → List·Memᴰ d bs → Cleared sh d) → compareOf sh b ≡ none
+    go : Turn sh c bs → (survivorAmong sh bs ≡ complete → (d : List ℕ) → List·Memᴰ d bs → Cleared sh d) → compareOf sh b ≡ none
     go (over cleared q) ih =
         ⊎-elim (λ eb. subst (Cleared sh) (sym eb) cleared p) (λ t. ih (sym q ∙ e) b t p) (List·Memᴰ·cases-cons m)
     go (here xs pc ec q) ih = let z : _≡_ {A = ℕ} 0 1 = cc in absurd (omega arith)
 
 -- where every mutant of the list is cleared: `complete`
-cleared-all : (sh : Sheet) (bs : List (List ℕ)) → ((b : List ℕ) → List·Memᴰ b bs → Cleared sh b) → firstSurvivor sh bs ≡ complete
-unfolding firstSurvivor
+cleared-all : (sh : Sheet) (bs : List (List ℕ)) → ((b : List ℕ) → List·Memᴰ b bs → Cleared sh b) → survivorAmong sh bs ≡ complete
+unfolding survivorAmong
 cleared-all sh [] h = refl
 cleared-all sh (c ∷ bs) h = go (turn sh c bs) (cleared-all sh bs (λ b m. h b (List·Memᴰ·tail m)))
   where
-    go : Turn sh c bs → firstSurvivor sh bs ≡ complete → firstSurvivor sh (c ∷ bs) ≡ complete
+    go : Turn sh c bs → survivorAmong sh bs ≡ complete → survivorAmong sh (c ∷ bs) ≡ complete
     go (over cleared q) ih = q ∙ ih
     go (here xs pc ec q) ih = let w = h c (List·Memᴰ·head refl) pc in let z : _≡_ {A = ℕ} 0 1 = cc in absurd (omega arith)
 
@@ -63,13 +63,13 @@ record FirstIn (sh : Sheet) (bs : List (List ℕ)) (b xs : List ℕ) : Type 0 wh
   least : (c : List ℕ) → List·Memᴰ c bs → Cleared sh c ⊎ ((c ≡ b) ⊎ Before b c)
 
 -- the answer of an ascending list is such a mutant
-first-in : (sh : Sheet) (bs : List (List ℕ)) (b xs : List ℕ) → Ascending Before bs → firstSurvivor sh bs ≡ survivor b xs →
+first-in : (sh : Sheet) (bs : List (List ℕ)) (b xs : List ℕ) → Ascending Before bs → survivorAmong sh bs ≡ survivor b xs →
     FirstIn sh bs b xs
-unfolding firstSurvivor Ascending
+unfolding survivorAmong Ascending
 first-in sh [] b xs a e = let z : _≡_ {A = ℕ} 0 1 = cc in absurd (omega arith)
 first-in sh (c ∷ bs) b xs a e = go (turn sh c bs) (first-in sh bs b xs (a .1))
   where
-    go : Turn sh c bs → (firstSurvivor sh bs ≡ survivor b xs → FirstIn sh bs b xs) → FirstIn sh (c ∷ bs) b xs
+    go : Turn sh c bs → (survivorAmong sh bs ≡ survivor b xs → FirstIn sh bs b xs) → FirstIn sh (c ∷ bs) b xs
     go (over cleared q) ih =
         let f = ih (sym q ∙ e) in
         record {
@@ -91,7 +91,7 @@ first-in sh (c ∷ bs) b xs a e = go (turn sh c bs) (first-in sh bs b xs (a .1))
 -- of an ascending list the mutant that passes and is not cleared, where all before it are cleared, is the answer
 first-of : (sh : Sheet) (bs : List (List ℕ)) (b xs : List ℕ) → Ascending Before bs → List·Memᴰ b bs → Passes sh b →
     compareOf sh b ≡ some xs →
-    ((c : List ℕ) → List·Memᴰ c bs → Before c b → Cleared sh c) → firstSurvivor sh bs ≡ survivor b xs
+    ((c : List ℕ) → List·Memᴰ c bs → Before c b → Cleared sh c) → survivorAmong sh bs ≡ survivor b xs
 unfolding Ascending
 first-of sh [] b xs a m p e h = absurd (List·Memᴰ·not-nil m)
 first-of sh (c ∷ bs) b xs a m p e h =
@@ -99,7 +99,7 @@ first-of sh (c ∷ bs) b xs a m p e h =
     (λ t. later (turn sh c bs) t (first-of sh bs b xs (a .1) t p e (λ d md. h d (List·Memᴰ·tail md))))
     (List·Memᴰ·cases-cons m)
   where
-    at : Turn sh c bs → b ≡ c → firstSurvivor sh (c ∷ bs) ≡ survivor b xs
+    at : Turn sh c bs → b ≡ c → survivorAmong sh (c ∷ bs) ≡ survivor b xs
     at (over cleared q) eb =
         let w : compareOf sh c ≡ none = cleared (rw (← eb) p) in
         let w′ : compareOf sh c ≡ some xs = rw (← eb) e in
@@ -109,7 +109,7 @@ first-of sh (c ∷ bs) b xs a m p e h =
         let ey : ys ≡ xs = cc in
         q ∙ cc
 
-    later : Turn sh c bs → List·Memᴰ b bs → firstSurvivor sh bs ≡ survivor b xs → firstSurvivor sh (c ∷ bs) ≡ survivor b xs
+    later : Turn sh c bs → List·Memᴰ b bs → survivorAmong sh bs ≡ survivor b xs → survivorAmong sh (c ∷ bs) ≡ survivor b xs
     later (over cleared q) t ih = q ∙ ih
     later (here ys pc ec q) t ih =
         let w : compareOf sh c ≡ none = h c (List·Memᴰ·head refl) (all-mem (Before c) bs b (a .0) t) pc in
@@ -126,11 +126,6 @@ pub judge-first : (sh : Sheet) (b xs : List ℕ) → IsMutant sh b → Passes sh
 unfolding judgeOf
 judge-first sh b xs is p e h =
     first-of sh (mutants sh) b xs (mutants-ascending sh) (listed sh b is) p e (λ c m. h c (listed-in-range sh c m))
-
--- what judge says, in the words of the demands, but for implementations
-abbrev pub Judged : Sheet → Judgement → Type 0
-Judged sh complete = Complete sh
-Judged sh (survivor b xs) = FirstSurvivor sh b × ShortestOf sh b xs
 
 module _ (sh : Sheet) (wf : WellFormed sh) where
   -- compare means what it says, of any bytes
@@ -164,11 +159,15 @@ module _ (sh : Sheet) (wf : WellFormed sh) where
       go none e = refl
       go (some xs) e = absurd (some-nonconforming b xs e c)
 
-  -- judge means what it says
-  pub judged : (j : Judgement) → judgeOf sh ≡ j → Judged sh j
+  -- what judge calls complete is complete
+  pub judged-complete : judgeOf sh ≡ complete → Complete sh
   unfolding judgeOf Complete
-  judged complete e = λ b is departs p. departs (compared-none b (all-cleared sh (mutants sh) e b (listed sh b is) p))
-  judged (survivor b xs) e = go (first-in sh (mutants sh) b xs (mutants-ascending sh) e)
+  judged-complete e = λ b is departs p. departs (compared-none b (all-cleared sh (mutants sh) e b (listed sh b is) p))
+
+  -- what judge shows is the first survivor, with its shortest distinguishing sequence
+  pub judged-survivor : (b xs : List ℕ) → judgeOf sh ≡ survivor b xs → FirstSurvivor sh b × ShortestOf sh b xs
+  unfolding judgeOf
+  judged-survivor b xs e = go (first-in sh (mutants sh) b xs (mutants-ascending sh) e)
     where
       first : FirstIn sh (mutants sh) b xs → (c : List ℕ) → Survives sh c → (c ≡ b) ⊎ Before b c
       first f c v =
@@ -192,9 +191,9 @@ module _ (sh : Sheet) (wf : WellFormed sh) where
       go : (j : Judgement) → judgeOf sh ≡ j → j ≡ complete
       go complete e = refl
       go (survivor b xs) e =
-          let s = judged (survivor b xs) e .0 .survives in
+          let s = judged-survivor b xs e .0 .survives in
           absurd (h b (s .is) (s .nonconforming) (s .passes))
 
   -- judge says complete of exactly the complete suites
   pub complete-exactly : (judgeOf sh ≡ complete → Complete sh) × (Complete sh → judgeOf sh ≡ complete)
-  complete-exactly = (judged complete, exact)
+  complete-exactly = (judged-complete, exact)

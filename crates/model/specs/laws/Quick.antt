@@ -14,7 +14,7 @@ use Rattle.sheet.specs.WellFormed.{WellFormed}
 use Rattle.model.specs.Machine.{Pair}
 use Rattle.model.specs.Mutant.{against, mutants}
 use Rattle.model.specs.Compare.{least, shows, within, best, shortest, distance, compareFrom, comparePair}
-use Rattle.model.specs.Suite.{firstFailedOf, compareOf, Judgement, complete, orElse, firstSurvivor, judgeOf}
+use Rattle.model.specs.Suite.{firstFailedOf, compareOf, Judgement, complete, orElse, survivorAmong, judgeOf}
 use Rattle.model.specs.laws.Closed.{Closed, closed, some-state, start-below}
 use Rattle.model.specs.laws.CompareLaw.{best-agrees}
 
@@ -73,8 +73,8 @@ compare-same : (m : Pair) → Closed m → 0 < m .states → m .start < m .state
 unfolding compareQuick comparePair compareFrom
 compare-same m cl l ls = rw (rounds-within m (m .states * m .states) 0 (m .start) cl l ls) refl
 
-first-same : (sh : Sheet) → WellFormed sh → (bs : List (List ℕ)) → firstQuick sh bs ≡ firstSurvivor sh bs
-unfolding firstQuick firstSurvivor compareOf
+first-same : (sh : Sheet) → WellFormed sh → (bs : List (List ℕ)) → firstQuick sh bs ≡ survivorAmong sh bs
+unfolding firstQuick survivorAmong compareOf
 first-same sh wf [] = refl
 first-same sh wf (b ∷ bs) = rw (first-same sh wf bs, compare-same (against sh b) (closed sh b wf) (some-state sh wf) (start-below sh b wf)) refl
 
