@@ -1,4 +1,5 @@
 pub mod Basics
+pub mod ListLaw
 pub mod LeastLaw
 pub mod SumLaw
 pub mod Closed
@@ -6,11 +7,12 @@ pub mod CompareLaw
 pub mod MutantLaw
 pub mod JudgeLaw
 pub mod Quick
-pub mod ListLaw
 pub mod SuspectLaw
 pub mod TransitionLaw
+pub mod FaultLaw
+pub mod OperationLaw
+pub mod StepLaw
 pub mod SuiteLaw
 pub mod Published
 pub mod GuaranteeLaw
-pub mod OperationLaw
 pub mod Demands

@@ -1,17 +1,16 @@
 -- Demand 3: a complete suite guarantees every specified output, on every list of resets and inputs, of whatever length.
-use Prim.Native.Nat.{ℕ, zero, suc, _<_}
+use Prim.Native.Nat.{ℕ, _<_}
 use native.Mathlib.Omega.{arith}
 use mathlib.Core.Path.{_≡_, refl, sym, _∙_, ap}
-use mathlib.Core.Logic.{_⊎_, ⊎-elim}
+use mathlib.Core.Logic.{⊎-elim}
 use mathlib.Core.Option.{Option, none, some}
 use mathlib.Core.List.{List, [], _∷_, _++_, map}
-use lib.ListN.{length, getD}
 use Rattle.sheet.specs.declared.Row.{Row}
 use Rattle.sheet.specs.Lists.{maybe, All}
 use Rattle.sheet.specs.Sheet.{Sheet, ruleAt, after}
 use Rattle.sheet.specs.WellFormed.{TestIn, WellFormed}
 use Rattle.model.specs.Machine.{Move, Pair, outputsFrom, specifiedFrom, ConformingFrom}
-use Rattle.model.specs.Mutant.{rule, step, initial, outputs, specified, against, IsMutant, Conforming}
+use Rattle.model.specs.Mutant.{rule, initial, outputs, specified, against, IsMutant, Conforming}
 use Rattle.model.specs.Suite.{Passes}
 use Rattle.model.specs.Implementation.{Event, reset, input, InputsBelow, ResetFirst, Proper, respondFrom, respond, moveFrom, outputOf, targetOf, requiredFrom, required, Gives, Implementation, BehavesAs, GivesAll, suiteEvents, PassesSuite, Guaranteed}
 use Rattle.model.specs.Verdict.{RightOn, Complete}
@@ -51,7 +50,8 @@ module _ (m : Pair) where
   Ok none q = Unit {0}
   Ok (some p) q = ConformingFrom m p q
 
-  ok-next : (st : Option ℕ) (q x : ℕ) → Ok st q → (o : Option Move) → moveFrom (m .rule) st x ≡ o → Given o (m .move q x .output) × Ok (targetOf o) (m .move q x .target)
+  ok-next : (st : Option ℕ) (q x : ℕ) → Ok st q → (o : Option Move) → moveFrom (m .rule) st x ≡ o →
+      Given o (m .move q x .output) × Ok (targetOf o) (m .move q x .target)
   unfolding Ok Given
   ok-next none q x ok none e = (tt, tt)
   ok-next none q x ok (some r) e = let z : _≡_ {A = ℕ} 0 1 = cc in absurd (omega arith)
@@ -96,8 +96,9 @@ module _ (m : Pair) where
       let f = specified-uncons (m .rule) p x xs os e in
       let t = m .move q x in
       let es = map input xs ++ rest in
-      let g₁ : Gives (t .output ∷ respondFrom (m .move) start (t .target) es) (outputOf (m .rule p x) ∷ requiredFrom (m .rule) (targetOf (m .rule p x)) es) = g in
-      let h = gives-uncons (some (f .move)) (t .output) (respondFrom (m .move) start (t .target) es) (requiredFrom (m .rule) (some (f .move .target)) es) (rw (f .ruled) at g₁) in
+      let outs = respondFrom (m .move) start (t .target) es in
+      let g₁ : Gives (t .output ∷ outs) (outputOf (m .rule p x) ∷ requiredFrom (m .rule) (targetOf (m .rule p x)) es) = g in
+      let h = gives-uncons (some (f .move)) (t .output) outs (requiredFrom (m .rule) (some (f .move .target)) es) (rw (f .ruled) at g₁) in
       let ih = test-right start xs rest (f .move .target) (t .target) (f .rest) (h .1) (f .specifies) in
       f .is ∙ ap (λ o. o ∷ f .rest) (sym (h .0)) ∙ ap (λ l. t .output ∷ l) ih
 
@@ -115,12 +116,14 @@ module _ (m : Pair) where
       let same : t .output ≡ f .move .output = cc in
       let others : f .rest ≡ outs = cc in
       rw (f .ruled)
-      (gives-cons (some (f .move)) (t .output) (respondFrom (m .move) start (t .target) es) (requiredFrom (m .rule) (some (f .move .target)) es) same
+      (gives-cons (some (f .move)) (t .output) (respondFrom (m .move) start (t .target) es)
+      (requiredFrom (m .rule) (some (f .move .target)) es) same
       (right-gives start xs rest (f .move .target) (t .target) (f .specifies ∙ ap (λ os. some os) others) h))
 
 module _ (sh : Sheet) (b : List ℕ) where
   -- a mutant that gives every specified output on the suite's list is right on each test
-  suite-right : (ts : List (List ℕ)) → All (Specified sh) ts → (st : Option ℕ) (q : ℕ) → GivesFrom (against sh b) (initial sh b) st q (suiteEvents ts) → All (RightOn sh b) ts
+  suite-right : (ts : List (List ℕ)) → All (Specified sh) ts → (st : Option ℕ) (q : ℕ) →
+      GivesFrom (against sh b) (initial sh b) st q (suiteEvents ts) → All (RightOn sh b) ts
   unfolding suiteEvents respondFrom requiredFrom specified outputs
   suite-right [] a st q g = tt
   suite-right (t ∷ ts) a st q g =
@@ -132,7 +135,8 @@ module _ (sh : Sheet) (b : List ℕ) where
       )
 
   -- a mutant that is right on each test gives every specified output on the suite's list
-  suite-gives : (ts : List (List ℕ)) → All (RightOn sh b) ts → (st : Option ℕ) (q : ℕ) → GivesFrom (against sh b) (initial sh b) st q (suiteEvents ts)
+  suite-gives : (ts : List (List ℕ)) → All (RightOn sh b) ts → (st : Option ℕ) (q : ℕ) →
+      GivesFrom (against sh b) (initial sh b) st q (suiteEvents ts)
   unfolding suiteEvents respondFrom requiredFrom specified outputs Gives
   suite-gives [] a st q = tt
   suite-gives (t ∷ ts) a st q = right-gives (against sh b) (initial sh b) t (suiteEvents ts) 0 (initial sh b) (a .0) (suite-gives ts (a .1))
@@ -143,13 +147,16 @@ suite-reset-first [] = tt
 suite-reset-first (t ∷ ts) = tt
 
 module _ (sh : Sheet) (wf : WellFormed sh) where
-  test-below : (s t : ℕ) (xs : List ℕ) (rest : List Event) → after (sh .rules) s xs ≡ some t → InputsBelow (sh .size .inputs) rest → InputsBelow (sh .size .inputs) (map input xs ++ rest)
+  test-below : (s t : ℕ) (xs : List ℕ) (rest : List Event) → after (sh .rules) s xs ≡ some t → InputsBelow (sh .size .inputs) rest →
+      InputsBelow (sh .size .inputs) (map input xs ++ rest)
   unfolding after InputsBelow
   test-below s t [] rest e below = below
   test-below s t (x ∷ xs) rest e below = go (ruleAt (sh .rules) s x) refl (λ s′ h. test-below s′ t xs rest h below) e
     where
-      go : (o : Option Row) → ruleAt (sh .rules) s x ≡ o → ((s′ : ℕ) → after (sh .rules) s′ xs ≡ some t → InputsBelow (sh .size .inputs) (map input xs ++ rest)) →
-          maybe o none (λ r. after (sh .rules) (r .target) xs) ≡ some t → (x < sh .size .inputs) × InputsBelow (sh .size .inputs) (map input xs ++ rest)
+      go : (o : Option Row) → ruleAt (sh .rules) s x ≡ o →
+          ((s′ : ℕ) → after (sh .rules) s′ xs ≡ some t → InputsBelow (sh .size .inputs) (map input xs ++ rest)) →
+          maybe o none (λ r. after (sh .rules) (r .target) xs) ≡ some t →
+          (x < sh .size .inputs) × InputsBelow (sh .size .inputs) (map input xs ++ rest)
       go none er ih h = let z : _≡_ {A = ℕ} 0 1 = cc in absurd (omega arith)
       go (some r) er ih h = let at = rule-row sh wf s x r er in (omega (arith, at .input, at .row .input), ih (r .target) h)
 

@@ -2,7 +2,7 @@
 use Prim.Native.Nat.{ℕ, zero, suc, _<_, _≤_, suc-le-suc}
 use native.Mathlib.Nat.{le-of-suc-le-suc}
 use native.Mathlib.Omega.{arith}
-use mathlib.Core.Path.{_≡_, refl, sym, _∙_, ap}
+use mathlib.Core.Path.{_≡_, refl, ap}
 use mathlib.Core.Bool.{Bool, true, false, cond, not}
 use mathlib.Core.Option.{Option, none, some}
 use mathlib.Core.List.{List, [], _∷_}
@@ -10,9 +10,9 @@ use borrow.Author.Tests.{ltb-true, ltb-false, lt-ltb, le-ltb, eq-eqb, ne-eqb}
 use lib.Dec.{eqb, ltb}
 use lib.ListN.{length, getD}
 use Rattle.sheet.specs.Sheet.{Sheet}
-use Rattle.sheet.specs.Reading.{Result, accepted, refused}
+use Rattle.sheet.specs.Reading.{Result, refused}
 use Rattle.model.specs.Mutant.{slots, later, InRange, IsMutant}
-use Rattle.model.specs.Operations.{refuseIf, refuseAt, firstHigh, firstOver, withMutant}
+use Rattle.model.specs.Operations.{firstHigh, firstOver, withMutant}
 
 -- in range: as long as the list of numbers
 pub in-range-length : (cs b : List ℕ) → InRange cs b → length b ≡ length cs
@@ -56,7 +56,8 @@ high-first (c ∷ cs) (a ∷ b) i e = go (ltb a c) refl (firstHigh cs b) (λ j. 
     then k la h zero l = la
     then k la h (suc j) l = h j (le-of-suc-le-suc l)
 
-    go : (t : Bool) → ltb a c ≡ t → (o : Option ℕ) → ((j : ℕ) → o ≡ some j → FirstHigh cs b j) → cond t (later o) (some zero) ≡ some i → FirstHigh (c ∷ cs) (a ∷ b) i
+    go : (t : Bool) → ltb a c ≡ t → (o : Option ℕ) → ((j : ℕ) → o ≡ some j → FirstHigh cs b j) → cond t (later o) (some zero) ≡ some i →
+        FirstHigh (c ∷ cs) (a ∷ b) i
     go true et none ih h = let z : _≡_ {A = ℕ} 0 1 = cc in absurd (omega arith)
     go true et (some j) ih h =
         let z : suc j ≡ i = cc in
@@ -75,7 +76,13 @@ first-high (c ∷ cs) (a ∷ b) zero f = rw (le-ltb a c (f .high)) refl
 first-high (c ∷ cs) (a ∷ b) (suc i) f =
     rw (
       lt-ltb a c (f .low 0 (omega arith)),
-      first-high cs b i (record { is = le-of-suc-le-suc (f .is); slot = le-of-suc-le-suc (f .slot); high = f .high; low = λ j l. f .low (suc j) (suc-le-suc l) }),
+      first-high cs b i
+          (record {
+            is = le-of-suc-le-suc (f .is);
+            slot = le-of-suc-le-suc (f .slot);
+            high = f .high;
+            low = λ j l. f .low (suc j) (suc-le-suc l);
+          }),
     )
     refl
 
@@ -115,7 +122,8 @@ over-first k (x ∷ xs) i e = go (ltb x k) refl (firstOver k xs) (λ j. over-fir
     then n lx h zero l = lx
     then n lx h (suc j) l = h j (le-of-suc-le-suc l)
 
-    go : (t : Bool) → ltb x k ≡ t → (o : Option ℕ) → ((j : ℕ) → o ≡ some j → FirstOver k xs j) → cond t (later o) (some zero) ≡ some i → FirstOver k (x ∷ xs) i
+    go : (t : Bool) → ltb x k ≡ t → (o : Option ℕ) → ((j : ℕ) → o ≡ some j → FirstOver k xs j) → cond t (later o) (some zero) ≡ some i →
+        FirstOver k (x ∷ xs) i
     go true et none ih h = let z : _≡_ {A = ℕ} 0 1 = cc in absurd (omega arith)
     go true et (some j) ih h =
         let z : suc j ≡ i = cc in
@@ -143,8 +151,8 @@ unfolding firstOver
 over-none k [] e j l = absurd (omega arith)
 over-none k (x ∷ xs) e j l = go (ltb x k) refl (firstOver k xs) (over-none k xs) e j l
   where
-    go : (t : Bool) → ltb x k ≡ t → (o : Option ℕ) → (o ≡ none → (i : ℕ) → i < length xs → getD xs i 0 < k) → cond t (later o) (some zero) ≡ none →
-        (i : ℕ) → i < suc (length xs) → getD (x ∷ xs) i 0 < k
+    go : (t : Bool) → ltb x k ≡ t → (o : Option ℕ) → (o ≡ none → (i : ℕ) → i < length xs → getD xs i 0 < k) →
+        cond t (later o) (some zero) ≡ none → (i : ℕ) → i < suc (length xs) → getD (x ∷ xs) i 0 < k
     go true et none ih h zero m = ltb-true x k et
     go true et none ih h (suc i) m = ih refl i (le-of-suc-le-suc m)
     go true et (some n) ih h i m = let z : _≡_ {A = ℕ} 0 1 = cc in absurd (omega arith)
@@ -157,11 +165,12 @@ none-over k [] h = refl
 none-over k (x ∷ xs) h = rw (lt-ltb x k (h 0 (omega arith)), none-over k xs (λ j l. h (suc j) (suc-le-suc l))) refl
 
 module _ (sh : Sheet) (b : List ℕ) where
-  -- a mutant has the right length and no choice too high
+  -- a mutant has one byte for each suspect
   pub mutant-length : IsMutant sh b → length b ≡ length (slots sh)
   unfolding IsMutant
   mutant-length r = in-range-length (slots sh) b r
 
+  -- and no choice too high
   pub mutant-high : IsMutant sh b → firstHigh (slots sh) b ≡ none
   unfolding IsMutant
   mutant-high r = none-high (slots sh) b r

@@ -1,7 +1,7 @@
 -- The machines here are 000's: their runs are traces, conforming is quasi-equivalence, and a run is the response after one reset.
 use Prim.Native.Nat.{ℕ, suc}
 use native.Mathlib.Omega.{arith}
-use mathlib.Core.Path.{_≡_, refl, sym, _∙_, ap}
+use mathlib.Core.Path.{_≡_, refl, ap}
 use mathlib.Core.Option.{Option, none, some}
 use mathlib.Core.List.{List, [], _∷_, _++_, map}
 use lib.ListN.{length, replicate}
@@ -9,14 +9,15 @@ use Rattle.sheet.specs.Lists.{maybe}
 use Rattle.sheet.specs.Sheet.{Sheet}
 use Rattle.model.specs.Machine.{Move, prepend, outputsFrom, specifiedFrom, ConformingFrom}
 use Rattle.model.specs.Mutant.{rule, step, initial, outputs, specified, Conforming}
-use Rattle.model.specs.Implementation.{Event, reset, input, respondFrom, respond, outputOf, targetOf, requiredFrom, required}
+use Rattle.model.specs.Implementation.{reset, input, respondFrom, respond, requiredFrom, required}
 use Rattle.model.specs.Traces.{TraceFrom, QuasiEquivalent, specification, machine}
-use Rattle.model.specs.laws.SuiteLaw.{specified-uncons, specified-cons}
+use Rattle.model.specs.laws.SuiteLaw.{specified-uncons}
 
 -- xs has specified outputs, or it begins with ys, which has, and goes on with an input x that has no rule there
 pub data DefinedOr (specifies : List ℕ → Option (List ℕ)) (xs : List ℕ) : Type 0 where
   defined : (os : List ℕ) → specifies xs ≡ some os → DefinedOr specifies xs
-  undefined : (ys : List ℕ) (x : ℕ) (zs os : List ℕ) → xs ≡ ys ++ x ∷ zs → specifies ys ≡ some os → specifies (ys ++ x ∷ []) ≡ none → DefinedOr specifies xs
+  undefined : (ys : List ℕ) (x : ℕ) (zs os : List ℕ) → xs ≡ ys ++ x ∷ zs → specifies ys ≡ some os → specifies (ys ++ x ∷ []) ≡ none →
+      DefinedOr specifies xs
 
 module _ (rule : ℕ → ℕ → Option Move) where
   -- a specification's traces are the defined sequences with their specified outputs
@@ -27,6 +28,7 @@ module _ (rule : ℕ → ℕ → Option Move) where
   trace-specified s (x ∷ xs) [] h = absurd h
   trace-specified s (x ∷ xs) (o ∷ os) (t, e, h) = rw (e, trace-specified t xs os h) refl
 
+  -- and back
   pub specified-trace : (s : ℕ) (xs os : List ℕ) → specifiedFrom rule s xs ≡ some os → TraceFrom (specification rule) s xs os
   unfolding TraceFrom specifiedFrom
   specified-trace s [] [] e = tt
@@ -49,10 +51,13 @@ module _ (rule : ℕ → ℕ → Option Move) where
   required-lost (x ∷ xs) = ap (λ l. none ∷ l) (required-lost xs)
 
   -- and none from the first input without a rule on
-  required-undefined : (s : ℕ) (xs : List ℕ) (x : ℕ) (ys os : List ℕ) → specifiedFrom rule s xs ≡ some os → specifiedFrom rule s (xs ++ x ∷ []) ≡ none →
+  required-undefined : (s : ℕ) (xs : List ℕ) (x : ℕ) (ys os : List ℕ) →
+      specifiedFrom rule s xs ≡ some os → specifiedFrom rule s (xs ++ x ∷ []) ≡ none →
       requiredFrom rule (some s) (map input (xs ++ x ∷ ys)) ≡ map (λ o. some o) os ++ replicate (suc (length ys)) none
   unfolding specifiedFrom requiredFrom
-  required-undefined s [] x ys os e n = let z : [] ≡ os = cc in rw (← z, unruled (rule s x) n) (ap (λ l. none ∷ l) (required-lost ys))
+  required-undefined s [] x ys os e n =
+      let z : [] ≡ os = cc in
+      rw (← z, unruled (rule s x) n) (ap (λ l. none ∷ l) (required-lost ys))
     where
       unruled : (o : Option Move) → maybe o none (λ r. prepend (r .output) (some [])) ≡ none → o ≡ none
       unruled none h = refl
@@ -61,7 +66,8 @@ module _ (rule : ℕ → ℕ → Option Move) where
       let f = specified-uncons rule s y xs os e in
       let h : maybe (rule s y) none (λ r. prepend (r .output) (specifiedFrom rule (r .target) (xs ++ x ∷ []))) ≡ none = n in
       let n′ = unprepend (f .move .output) (specifiedFrom rule (f .move .target) (xs ++ x ∷ [])) (rw (f .ruled) at h) in
-      rw (f .is, f .ruled) (ap (λ l. some (f .move .output) ∷ l) (required-undefined (f .move .target) xs x ys (f .rest) (f .specifies) n′))
+      rw (f .is, f .ruled)
+      (ap (λ l. some (f .move .output) ∷ l) (required-undefined (f .move .target) xs x ys (f .rest) (f .specifies) n′))
     where
       unprepend : (o : ℕ) (w : Option (List ℕ)) → prepend o w ≡ none → w ≡ none
       unprepend o none h = refl
@@ -91,10 +97,12 @@ module _ (move : ℕ → ℕ → Move) where
   trace-outputs s (x ∷ xs) [] h = absurd h
   trace-outputs s (x ∷ xs) (o ∷ os) (t, e, h) = rw (e, trace-outputs t xs os h) refl
 
+  -- and back
   pub outputs-trace : (s : ℕ) (xs os : List ℕ) → outputsFrom move s xs ≡ os → TraceFrom (machine move) s xs os
   unfolding TraceFrom outputsFrom
   outputs-trace s [] os e = rw (← e) tt
-  outputs-trace s (x ∷ xs) os e = rw (← e) (move s x .target, refl, outputs-trace (move s x .target) xs (outputsFrom move (move s x .target) xs) refl)
+  outputs-trace s (x ∷ xs) os e =
+      rw (← e) (move s x .target, refl, outputs-trace (move s x .target) xs (outputsFrom move (move s x .target) xs) refl)
 
   inputs-only : (start s : ℕ) (xs : List ℕ) → respondFrom move start s (map input xs) ≡ outputsFrom move s xs
   unfolding respondFrom outputsFrom

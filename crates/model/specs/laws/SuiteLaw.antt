@@ -18,7 +18,6 @@ use Rattle.model.specs.Mutant.{moveOf, rule, later, initial, step, outpu
 use Rattle.model.specs.Suite.{firstWrong, wrongIn, Place, laterTest, firstFailedIn, firstFailedOf, Passes}
 use Rattle.model.specs.Verdict.{RightOn, FirstFailed, FailedMeans}
 use Rattle.model.specs.laws.Basics.{all-imp}
-use Rattle.model.specs.laws.ListLaw.{all-at-index}
 
 -- as many outputs as inputs
 pub outputs-length : (move : ℕ → ℕ → Move) (s : ℕ) (xs : List ℕ) → length (outputsFrom move s xs) ≡ length xs
@@ -26,7 +25,7 @@ unfolding outputsFrom
 outputs-length move s [] = refl
 outputs-length move s (x ∷ xs) = ap suc (outputs-length move (move s x .target) xs)
 
--- the specified outputs of a longer sequence: the first input has a rule, and the others follow from its next state
+-- the first input has a rule, and the others follow from its next state
 pub record Following (rule : ℕ → ℕ → Option Move) (s x : ℕ) (xs os : List ℕ) : Type 0 where
   pub move : Move
   pub ruled : rule s x ≡ some move
@@ -34,18 +33,23 @@ pub record Following (rule : ℕ → ℕ → Option Move) (s x : ℕ) (xs os : L
   pub specifies : specifiedFrom rule (move .target) xs ≡ some rest
   pub is : os ≡ move .output ∷ rest
 
-pub specified-uncons : (rule : ℕ → ℕ → Option Move) (s x : ℕ) (xs os : List ℕ) → specifiedFrom rule s (x ∷ xs) ≡ some os → Following rule s x xs os
+-- the specified outputs of a longer sequence, taken apart
+pub specified-uncons : (rule : ℕ → ℕ → Option Move) (s x : ℕ) (xs os : List ℕ) → specifiedFrom rule s (x ∷ xs) ≡ some os →
+    Following rule s x xs os
 unfolding specifiedFrom
 specified-uncons rule s x xs os e = go (rule s x) refl e
   where
-    more : (r : Move) → rule s x ≡ some r → (w : Option (List ℕ)) → specifiedFrom rule (r .target) xs ≡ w → prepend (r .output) w ≡ some os → Following rule s x xs os
+    more : (r : Move) → rule s x ≡ some r → (w : Option (List ℕ)) → specifiedFrom rule (r .target) xs ≡ w → prepend (r .output) w ≡ some os →
+        Following rule s x xs os
     more r er none ew h = let z : _≡_ {A = ℕ} 0 1 = cc in absurd (omega arith)
     more r er (some rest) ew h = let z : os ≡ r .output ∷ rest = cc in record { move = r; ruled = er; rest = rest; specifies = ew; is = z }
 
-    go : (o : Option Move) → rule s x ≡ o → maybe o none (λ r. prepend (r .output) (specifiedFrom rule (r .target) xs)) ≡ some os → Following rule s x xs os
+    go : (o : Option Move) → rule s x ≡ o → maybe o none (λ r. prepend (r .output) (specifiedFrom rule (r .target) xs)) ≡ some os →
+        Following rule s x xs os
     go none er h = let z : _≡_ {A = ℕ} 0 1 = cc in absurd (omega arith)
     go (some r) er h = more r er (specifiedFrom rule (r .target) xs) refl h
 
+-- and put together
 pub specified-cons : (rule : ℕ → ℕ → Option Move) (s x : ℕ) (xs os : List ℕ) (r : Move) → rule s x ≡ some r →
     specifiedFrom rule (r .target) xs ≡ some os → specifiedFrom rule s (x ∷ xs) ≡ some (r .output ∷ os)
 unfolding specifiedFrom
@@ -118,7 +122,8 @@ first-wrong [] os i l e = let z : _≡_ {A = ℕ} 0 1 = cc in absurd (omega arit
 first-wrong (r ∷ rs) [] i l e = absurd (omega arith)
 first-wrong (r ∷ rs) (o ∷ os) i l e = go (eqb r o) refl (firstWrong rs os) (λ j. first-wrong rs os j (omega arith)) e
   where
-    go : (b : Bool) → eqb r o ≡ b → (w : Option ℕ) → ((j : ℕ) → w ≡ some j → Differ rs os j) → cond b (later w) (some zero) ≡ some i → Differ (r ∷ rs) (o ∷ os) i
+    go : (b : Bool) → eqb r o ≡ b → (w : Option ℕ) → ((j : ℕ) → w ≡ some j → Differ rs os j) → cond b (later w) (some zero) ≡ some i →
+        Differ (r ∷ rs) (o ∷ os) i
     go true eb none h e′ = let z : _≡_ {A = ℕ} 0 1 = cc in absurd (omega arith)
     go true eb (some j) h e′ =
         let z : suc j ≡ i = cc in
@@ -146,11 +151,12 @@ module _ (sh : Sheet) (b : List ℕ) where
   unfolding outputs
   same-length t s = s .long ∙ sym (outputs-length (step sh b) (initial sh b) t)
 
-  -- no output of the test is wrong exactly where the mutant is right on it
+  -- no output of the test is wrong: the mutant is right on it
   pub none-right : (t : List ℕ) → Specified sh t → wrongIn sh b t ≡ none → RightOn sh b t
   unfolding wrongIn
   none-right t s e = rw (s .is) (ap (λ os. some os) (none-wrong (s .expected) (outputs sh b t) (same-length t s) (rw (s .is) at e)))
 
+  -- and back
   pub right-none : (t : List ℕ) → RightOn sh b t → wrongIn sh b t ≡ none
   unfolding wrongIn
   right-none t e = rw e (same-right (outputs sh b t))
@@ -161,6 +167,7 @@ module _ (sh : Sheet) (b : List ℕ) where
     pub specifies : specified sh t ≡ some expected
     pub differ : Differ expected (outputs sh b t) i
 
+  -- a wrong output is the first one
   pub some-wrong : (t : List ℕ) (i : ℕ) → Specified sh t → wrongIn sh b t ≡ some i → WrongOn t i
   unfolding wrongIn
   some-wrong t i s e =
@@ -170,6 +177,7 @@ module _ (sh : Sheet) (b : List ℕ) where
         differ = first-wrong (s .expected) (outputs sh b t) i (same-length t s) (rw (s .is) at e);
       }
 
+  -- and only the first one is the answer
   pub wrong-some : (t : List ℕ) (i : ℕ) → Specified sh t → WrongOn t i → wrongIn sh b t ≡ some i
   unfolding wrongIn
   wrong-some t i s w =

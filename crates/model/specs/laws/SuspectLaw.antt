@@ -1,7 +1,7 @@
 -- The suspects of a sheet: how many there are, which states and inputs they are, and which byte of a mutant each uses.
 use Prim.Native.Nat.{ℕ, zero, suc, _+_, _<_, suc-le-suc}
 use native.Mathlib.Omega.{arith}
-use mathlib.Core.Path.{_≡_, refl, sym, _∙_, ap, subst}
+use mathlib.Core.Path.{_≡_, refl, sym, _∙_, ap}
 use mathlib.Core.Bool.{Bool, true, false, cond, _&&_}
 use mathlib.Core.Option.{Option, none, some}
 use mathlib.Core.List.{List, [], _∷_, _++_, map, append-assoc}
@@ -25,7 +25,9 @@ suspectsBelow sh i = joined (λ s. suspectsAt sh s (sh .size .inputs)) (upTo i)
 at-count : (sh : Sheet) (s i : ℕ) → length (suspectsAt sh s i) ≡ count (isOpen sh s) i
 unfolding suspectsAt count upTo joined
 at-count sh s zero = refl
-at-count sh s (suc i) = length-joined-snoc (λ x. keepOpen sh s x) i ∙ ap (λ c. c + length (keepOpen sh s i)) (at-count sh s i) ∙ one-more (isOpen sh s i) (record { state = s; input = i }) (count (isOpen sh s) i)
+at-count sh s (suc i) =
+    length-joined-snoc (λ x. keepOpen sh s x) i ∙ ap (λ c. c + length (keepOpen sh s i)) (at-count sh s i)
+    ∙ one-more (isOpen sh s i) (record { state = s; input = i }) (count (isOpen sh s) i)
   where
     one-more : (b : Bool) (u : Suspect) (c : ℕ) → c + length (cond b (u ∷ []) []) ≡ cond b (suc c) c
     one-more true u c = omega arith
@@ -35,7 +37,8 @@ below-count : (sh : Sheet) (i : ℕ) → length (suspectsBelow sh i) ≡ openBel
 unfolding suspectsBelow openBelow upTo joined
 below-count sh zero = refl
 below-count sh (suc i) =
-    length-joined-snoc (λ s. suspectsAt sh s (sh .size .inputs)) i ∙ rw (at-count sh i (sh .size .inputs)) (ap (λ c. c + count (isOpen sh i) (sh .size .inputs)) (below-count sh i))
+    length-joined-snoc (λ s. suspectsAt sh s (sh .size .inputs)) i
+    ∙ rw (at-count sh i (sh .size .inputs)) (ap (λ c. c + count (isOpen sh i) (sh .size .inputs)) (below-count sh i))
 
 -- as many suspects as open pairs
 pub suspect-count : (sh : Sheet) → length (suspects sh) ≡ openPairs sh
@@ -66,7 +69,9 @@ Other s x u = u .state ≡ s → u .input ≡ x → ⊥
 
 all-at : (sh : Sheet) (s i : ℕ) → All (OpenAt sh s i) (suspectsAt sh s i)
 unfolding suspectsAt
-all-at sh s i = all-joined (OpenAt sh s i) (λ x. keepOpen sh s x) (upTo i) (all-imp _ (λ (x : ℕ). x < i) (λ x l. kept x l (isOpen sh s x) refl) (upTo i) (upTo-below i))
+all-at sh s i =
+    all-joined (OpenAt sh s i) (λ x. keepOpen sh s x) (upTo i)
+    (all-imp _ (λ (x : ℕ). x < i) (λ x l. kept x l (isOpen sh s x) refl) (upTo i) (upTo-below i))
   where
     kept : (x : ℕ) → x < i → (b : Bool) → isOpen sh s x ≡ b → All (OpenAt sh s i) (cond b (record { state = s; input = x } ∷ []) [])
     kept x l true e = ((refl, l, e), tt)
@@ -77,16 +82,21 @@ unfolding suspectsBelow
 all-below sh i =
     all-joined (OpenBelow sh i) (λ s. suspectsAt sh s (sh .size .inputs)) (upTo i)
     (all-imp _ (λ (s : ℕ). s < i)
-    (λ s l. all-imp (OpenBelow sh i) (OpenAt sh s (sh .size .inputs)) (λ (u : Suspect) h. (rw (h .0) l, h .1, h .2)) (suspectsAt sh s (sh .size .inputs)) (all-at sh s (sh .size .inputs)))
+    (λ s l.
+    all-imp (OpenBelow sh i) (OpenAt sh s (sh .size .inputs)) (λ (u : Suspect) h. (rw (h .0) l, h .1, h .2))
+    (suspectsAt sh s (sh .size .inputs)) (all-at sh s (sh .size .inputs)))
     (upTo i) (upTo-below i))
 
 -- every suspect is an open pair of the sheet
 pub suspects-are : (sh : Sheet) → All (IsSuspect sh) (suspects sh)
 unfolding suspects suspectsBelow suspectsAt
-suspects-are sh = all-imp (IsSuspect sh) (OpenBelow sh (sh .size .states)) (λ (u : Suspect) h. record { state = h .0; input = h .1; several = h .2 }) (suspects sh) (all-below sh (sh .size .states))
+suspects-are sh =
+    all-imp (IsSuspect sh) (OpenBelow sh (sh .size .states)) (λ (u : Suspect) h. record { state = h .0; input = h .1; several = h .2 })
+    (suspects sh) (all-below sh (sh .size .states))
 
 -- the byte that a state and an input use belongs to the suspect of that state and input
-pub site-in : (us : List Suspect) (s x i : ℕ) (d : Suspect) → siteIn us s x ≡ some i → (i < length us) × (getD us i d ≡ record { state = s; input = x })
+pub site-in : (us : List Suspect) (s x i : ℕ) (d : Suspect) → siteIn us s x ≡ some i →
+    (i < length us) × (getD us i d ≡ record { state = s; input = x })
 unfolding siteIn
 site-in [] s x i d e = let z : _≡_ {A = ℕ} 0 1 = cc in absurd (omega arith)
 site-in (u ∷ us) s x i d e = go (eqb (u .state) s) refl (eqb (u .input) x) refl (siteIn us s x) (λ j. site-in us s x j d) e
@@ -171,14 +181,18 @@ module _ (sh : Sheet) (s x : ℕ) where
   -- a pair that is not open uses no byte
   pub site-none : isOpen sh s x ≡ false → siteOf sh s x ≡ none
   unfolding siteOf
-  site-none e = no-site (suspects sh) s x (all-imp (Other s x) (IsSuspect sh) (λ (u : Suspect) h es ex. clash (isOpen sh s x) (rw (es, ex) at (h .several)) e) (suspects sh) (suspects-are sh))
+  site-none e =
+      no-site (suspects sh) s x
+      (all-imp (Other s x) (IsSuspect sh) (λ (u : Suspect) h es ex. clash (isOpen sh s x) (rw (es, ex) at (h .several)) e)
+      (suspects sh) (suspects-are sh))
 
   -- nor does a pair outside the sheet's states and inputs
   pub site-outside : (s < sh .size .states → x < sh .size .inputs → ⊥) → siteOf sh s x ≡ none
   unfolding siteOf
   site-outside out =
       no-site (suspects sh) s x
-      (all-imp (Other s x) (IsSuspect sh) (λ (u : Suspect) h es ex. out (rw es at (h .state)) (rw ex at (h .input))) (suspects sh) (suspects-are sh))
+      (all-imp (Other s x) (IsSuspect sh) (λ (u : Suspect) h es ex. out (rw es at (h .state)) (rw ex at (h .input)))
+      (suspects sh) (suspects-are sh))
 
   -- an open pair uses the byte with the number of open pairs before it
   pub site-open : s < sh .size .states → x < sh .size .inputs → isOpen sh s x ≡ true → siteOf sh s x ≡ some (openBefore sh s x)
@@ -196,7 +210,8 @@ module _ (sh : Sheet) (s x : ℕ) where
       go false e = site-none e
 
   -- and how many choices that byte has
-  pub slot-choices : s < sh .size .states → x < sh .size .inputs → isOpen sh s x ≡ true → getD (slots sh) (openBefore sh s x) 0 ≡ choicesAt sh s x
+  pub slot-choices : s < sh .size .states → x < sh .size .inputs → isOpen sh s x ≡ true →
+      getD (slots sh) (openBefore sh s x) 0 ≡ choicesAt sh s x
   unfolding slots
   slot-choices ls lx e =
       let d = split ls lx e in
@@ -205,7 +220,8 @@ module _ (sh : Sheet) (s x : ℕ) where
       (getD-at (map f (d .earlier)) (choicesAt sh s x) (map f (d .rest)) 0 (openBefore sh s x) (length-map (d .earlier) f ∙ d .many))
 
   -- a byte that a pair uses is a byte of the mutant, has the pair's number of choices, and the pair is open
-  pub site-is : (i : ℕ) → siteOf sh s x ≡ some i → (i < length (slots sh)) × (getD (slots sh) i 0 ≡ choicesAt sh s x) × (isOpen sh s x ≡ true)
+  pub site-is : (i : ℕ) → siteOf sh s x ≡ some i →
+      (i < length (slots sh)) × (getD (slots sh) i 0 ≡ choicesAt sh s x) × (isOpen sh s x ≡ true)
   unfolding siteOf slots
   site-is i e =
       let f : Suspect → ℕ = λ u. choicesAt sh (u .state) (u .input) in

@@ -2,23 +2,23 @@
 use Prim.Native.Nat.{ℕ, zero, suc, _+_, _*_, _/_, _%_, _<_, _≤_}
 use native.Mathlib.Nat.{div-lt-iff-lt-mul, div-add-mod', mod-lt, mul-zero, mul-pos, mul-le-mul, mul-le-mul-right}
 use native.Mathlib.Omega.{arith}
-use mathlib.Core.Path.{_≡_, refl, sym, _∙_, ap, subst}
-use mathlib.Core.Logic.{_⊎_, inl, inr, ⊎-elim, by-cases}
+use mathlib.Core.Path.{_≡_, refl, sym, _∙_, ap}
+use mathlib.Core.Logic.{inl, inr, by-cases}
 use native.Mathlib.Decide.{ℕ-discrete, decLt}
-use mathlib.Core.Bool.{Bool, true, false, cond, _&&_}
+use mathlib.Core.Bool.{Bool, true, false, cond}
 use mathlib.Core.Option.{Option, none, some}
 use mathlib.Core.List.{List, [], _∷_, _++_, map}
-use lib.ListN.{length, getD, length-append, length-map, List·getD-append, List·getD-map}
+use lib.ListN.{length, getD, length-map, List·getD-append, List·getD-map}
 use lib.Seq.{getD-append-add}
 use Rattle.sheet.specs.declared.Row.{Row}
 use Rattle.sheet.specs.declared.Size.{Size}
 use Rattle.sheet.specs.Lists.{maybe, All, Ascending, Before, upTo, joined}
 use Rattle.sheet.specs.Sheet.{Sheet, rowOf, isAt, rowsAt, ruleAt, unruledChoices, choicesAt}
 use Rattle.sheet.specs.Tables.{noRow}
-use Rattle.sheet.specs.WellFormed.{RowIn, Mutates, WellFormed}
+use Rattle.sheet.specs.WellFormed.{Mutates, WellFormed}
 use Rattle.model.specs.Machine.{Move}
 use Rattle.model.specs.Mutant.{moveOf, unruled, transitions, idle}
-use Rattle.model.specs.laws.Basics.{all-imp, all-getD}
+use Rattle.model.specs.laws.Basics.{all-getD}
 use Rattle.model.specs.laws.ListLaw.{all-both, ascending-of, getD-map-below, joined-split, length-upTo, getD-upTo, length-joined-even}
 use Rattle.model.specs.laws.Closed.{MoveIn, RowAt, rows-at, rule-row, transitions-in}
 
@@ -86,35 +86,45 @@ pub unruled-choice : (sh : Sheet) (s x c : ℕ) → ruleAt (sh .rules) s x ≡ n
 unfolding transitions unruled
 unruled-choice sh s x c e l = rw e (unruled-at (sh .size .states) (sh .size .outputs) c l)
 
+-- from lo on and below n; and not r
+abbrev InFrom : {A : Type 0} → (A → ℕ) → ℕ → ℕ → A → Type 0
+InFrom key n lo y = (lo ≤ key y) × (key y < n)
+
+abbrev InFromBut : {A : Type 0} → (A → ℕ) → ℕ → ℕ → ℕ → A → Type 0
+InFromBut key n r lo y = (lo ≤ key y) × (key y < n) × (key y ≡ r → ⊥)
+
 -- numbers that ascend from lo and stay below n
 ascending-few : {A : Type 0} (key : A → ℕ) (n : ℕ) (ys : List A) (lo : ℕ) → lo ≤ n →
-    All (λ (y : A). (lo ≤ key y) × (key y < n)) ys → Ascending (λ (y z : A). key y < key z) ys → length ys + lo ≤ n
+    All (InFrom key n lo) ys → Ascending (λ (y z : A). key y < key z) ys → length ys + lo ≤ n
 unfolding Ascending
 ascending-few key n [] lo l a c = omega arith
-ascending-few {A} key n (y ∷ ys) lo l a c =
-    let ih = ascending-few key n ys (suc (key y)) (a .0 .1) (all-both (λ (z : A). key y < key z) (λ (z : A). (lo ≤ key z) × (key z < n)) (λ (z : A). (suc (key y) ≤ key z) × (key z < n)) (λ z h g. (h, g .1)) ys (c .0) (a .1)) (c .1) in
+ascending-few key n (y ∷ ys) lo l a c =
+    let later = all-both _ _ (InFrom key n (suc (key y))) (λ z h g. (h, g .1)) ys (c .0) (a .1) in
+    let ih = ascending-few key n ys (suc (key y)) (a .0 .1) later (c .1) in
     omega (arith, a .0 .0)
 
 -- and leave out one number r
 ascending-fewer : {A : Type 0} (key : A → ℕ) (n r : ℕ) → r < n → (ys : List A) (lo : ℕ) → lo ≤ r →
-    All (λ (y : A). (lo ≤ key y) × (key y < n) × (key y ≡ r → ⊥)) ys → Ascending (λ (y z : A). key y < key z) ys → length ys + lo < n
+    All (InFromBut key n r lo) ys → Ascending (λ (y z : A). key y < key z) ys → length ys + lo < n
 unfolding Ascending
 ascending-fewer key n r lr [] lo l a c = omega arith
-ascending-fewer {A} key n r lr (y ∷ ys) lo l a c =
+ascending-fewer key n r lr (y ∷ ys) lo l a c =
     by-cases (decLt (key y) r)
     (λ less.
-    let ih = ascending-fewer key n r lr ys (suc (key y)) less (all-both (λ (z : A). key y < key z) (λ (z : A). (lo ≤ key z) × (key z < n) × (key z ≡ r → ⊥)) (λ (z : A). (suc (key y) ≤ key z) × (key z < n) × (key z ≡ r → ⊥)) (λ z h g. (h, g .1, g .2)) ys (c .0) (a .1)) (c .1) in
+    let later = all-both _ _ (InFromBut key n r (suc (key y))) (λ z h g. (h, g .1, g .2)) ys (c .0) (a .1) in
+    let ih = ascending-fewer key n r lr ys (suc (key y)) less later (c .1) in
     omega (arith, a .0 .0))
     (λ more.
     let ne : r < key y = apart (key y) (a .0 .2) more in
-    let rest = ascending-few key n ys (suc (key y)) (a .0 .1) (all-both (λ (z : A). key y < key z) (λ (z : A). (lo ≤ key z) × (key z < n) × (key z ≡ r → ⊥)) (λ (z : A). (suc (key y) ≤ key z) × (key z < n)) (λ z h g. (h, g .1)) ys (c .0) (a .1)) (c .1) in
+    let later = all-both _ _ (InFrom key n (suc (key y))) (λ z h g. (h, g .1)) ys (c .0) (a .1) in
+    let rest = ascending-few key n ys (suc (key y)) (a .0 .1) later (c .1) in
     omega arith)
   where
     apart : (k : ℕ) → (k ≡ r → ⊥) → (k < r → ⊥) → r < k
     apart k ne nl = by-cases (ℕ-discrete k r) (λ e. absurd (ne e)) (λ g. omega arith)
 
 module _ (s x : ℕ) where
-  -- what holds of each row, or in their order, holds of the rows at a state and an input
+  -- what holds of each row holds of the rows at a state and an input
   pub all-rows : (P : Row → Type 0) (rs : List Row) → All P rs → All P (rowsAt rs s x)
   unfolding rowsAt
   all-rows P [] a = tt
@@ -124,6 +134,7 @@ module _ (s x : ℕ) where
       go true h = (a .0, h)
       go false h = h
 
+  -- and so does their order
   pub ascending-rows : (R : Row → Row → Type 0) (rs : List Row) → Ascending R rs → Ascending R (rowsAt rs s x)
   unfolding rowsAt Ascending
   ascending-rows R [] a = tt
@@ -180,10 +191,13 @@ module _ (sh : Sheet) (wf : WellFormed sh) where
       go (some r) = omega arith
 
   moves-few : sh .size .outputs * sh .size .states ≤ 256
-  moves-few = let h : sh .size .outputs * sh .size .states ≤ 16 * 16 = mul-le-mul (wf .size .outputs .few) (wf .size .states .few) in omega arith
+  moves-few =
+      let h : sh .size .outputs * sh .size .states ≤ 16 * 16 = mul-le-mul (wf .size .outputs .few) (wf .size .states .few) in
+      omega arith
 
   -- the faults of a pair are fewer than all moves: they differ from each other and from the rule
-  pub faults-few : (s x : ℕ) (r : Row) → ruleAt (sh .rules) s x ≡ some r → length (rowsAt (sh .faults) s x) < sh .size .outputs * sh .size .states
+  pub faults-few : (s x : ℕ) (r : Row) → ruleAt (sh .rules) s x ≡ some r →
+      length (rowsAt (sh .faults) s x) < sh .size .outputs * sh .size .states
   faults-few s x r e =
       let z = sh .size in
       let here = rowsAt (sh .faults) s x in
@@ -191,9 +205,11 @@ module _ (sh : Sheet) (wf : WellFormed sh) where
       let there = rule-row sh wf s x r e in
       let at = rows-at z s x (sh .faults) (wf .faults) in
       let few = ascending-fewer key (z .outputs * z .states) (key r) (code-below z s x r there) here 0 (omega arith)
-      (all-both (RowAt z s x) (Mutates (sh .rules)) _ (λ q a m. (omega arith, code-below z s x q a, λ same. other q a m (code-same z s x q r a there same))) here
-      at (all-rows s x (Mutates (sh .rules)) (sh .faults) (wf .faults-mutate)))
-      (ascending-of (RowAt z s x) (λ (p q : Row). Before (rowOf p) (rowOf q)) _ (code-less z s x) here at (ascending-rows s x _ (sh .faults) (wf .faults-ascend))) in
+      (all-both (RowAt z s x) (Mutates (sh .rules)) _
+      (λ q a m. (omega arith, code-below z s x q a, λ same. other q a m (code-same z s x q r a there same)))
+      here at (all-rows s x (Mutates (sh .rules)) (sh .faults) (wf .faults-mutate)))
+      (ascending-of (RowAt z s x) (λ (p q : Row). Before (rowOf p) (rowOf q)) _ (code-less z s x) here at
+      (ascending-rows s x _ (sh .faults) (wf .faults-ascend))) in
       omega arith
     where
       other : (q : Row) → RowAt (sh .size) s x q → Mutates (sh .rules) q → q ≡ r → ⊥
@@ -207,7 +223,8 @@ module _ (sh : Sheet) (wf : WellFormed sh) where
   unfolding choicesAt unruledChoices
   choices-few s x = go (ruleAt (sh .rules) s x) refl
     where
-      go : (o : Option Row) → ruleAt (sh .rules) s x ≡ o → maybe o (sh .size .outputs * sh .size .states) (λ r. suc (length (rowsAt (sh .faults) s x))) ≤ 256
+      go : (o : Option Row) → ruleAt (sh .rules) s x ≡ o →
+          maybe o (sh .size .outputs * sh .size .states) (λ r. suc (length (rowsAt (sh .faults) s x))) ≤ 256
       go none e = moves-few
       go (some r) e = omega (arith, faults-few s x r e, moves-few)
 
