@@ -5,4 +5,6 @@ pub mod Encode
 pub mod Part
 pub mod Tables
 pub mod WellFormed
+pub mod Fetch
+pub mod Held
 pub mod laws

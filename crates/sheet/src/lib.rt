@@ -1,4 +1,12 @@
 // Reading sheets: the layer below, which knows nothing of mutants.
+ghost use mathlib.Core.Path.{_≡_};
+ghost use Rattle.sheet.specs.Reading as reading;
+ghost use Rattle.sheet.specs.Tables.{readAnswer};
+
+mod fetch;
+mod finish;
+mod rules;
+mod scan;
 
 // SIZE: how many states, inputs (01: presses) and outputs (01: sounds).
 pub struct Size {
@@ -62,4 +70,14 @@ pub struct Tables {
 pub struct Loaded {
     pub reading: Reading,
     pub tables: Tables,
+}
+
+// 01's Read.
+pub fn read(sheet: &[u8]) -> Reading
+    ensures { λ r. ⌜ r ≡ readAnswer (reading.reading (now (sheet .entry))) ⌝ }
+{
+    let mut output = [0u8; 256];
+    let mut target = [0u8; 256];
+    let mut faulty = [0u8; 256];
+    scan::answer(scan::scan(sheet, &mut output, &mut target, &mut faulty))
 }

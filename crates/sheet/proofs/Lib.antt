@@ -1,0 +1,9 @@
+pub mod Laws
+pub mod RuleLaws
+pub mod FaultLaws
+pub mod PressLaws
+pub mod StateLaws
+pub mod EndLaws
+pub mod StepLaws
+pub mod FetchLaws
+pub mod ScanLaws

@@ -1,0 +1,65 @@
+use Rattle.sheet.specs.declared.Size.{Size}
+use mathlib.Core.Path.{ap}
+use denote.Ref.{now}
+use Rattle.sheet.specs.declared.Row.{Row}
+use mathlib.Core.List.{List}
+use mathlib.Core.Bool.{Bool, true, false}
+use mathlib.Core.Logic.{⊎-elim}
+use Rattle.sheet.specs.Sheet.{Sheet, isOpen, openBelow, leads, within}
+use Rattle.sheet.specs.Lists.{count, any, all}
+use Rattle.sheet.specs.Held.{Within16, Linked, Leads, Marks}
+use Prim.Native.Nat.{ℕ, _+_, _-_, _*_, _<_, _≤_}
+use Rattle.sheet.proofs.EndLaws as laws
+use mathlib.Core.Path.{_∙_, sym, _≡_, refl}
+use borrow.Author.Needs.{needs}
+use native.Mathlib.Omega.{arith}
+use Rattle.sheet.proofs.finish.open_at.Statement.{statement}
+use Rattle.sheet.proofs.finish.open_at.Tie as tie
+
+abbrev Inv-loop : tie.InvT-loop
+Inv-loop size target faulty s k n₀ x₀ n x = (x ≤ k) × (n ≤ x) × ((sh : Sheet) → Linked size target faulty sh → n ≡ count (isOpen sh s) x)
+
+abbrev μ-loop : tie.MeasureT-loop
+μ-loop size target faulty s k n₀ x₀ n x = k - x
+
+cast-k : tie.Need-cast-k Inv-loop μ-loop
+cast-k c = search needs
+
+loop-holds : tie.Need-loop-holds Inv-loop μ-loop
+loop-holds c = (omega arith, omega arith, λ sh h. unfold count in refl)
+
+is-open-requires : tie.Need-is-open-requires Inv-loop μ-loop
+is-open-requires c κs = omega arith
+
+add-n : tie.Need-add-n Inv-loop μ-loop
+add-n c = omega arith
+
+add-x : tie.Need-add-x Inv-loop μ-loop
+add-x c = omega arith
+
+loop-less : tie.Need-loop-less Inv-loop μ-loop
+loop-less c = omega arith
+
+loop-again : tie.Need-loop-again Inv-loop μ-loop
+loop-again c = ⊎-elim
+    (λ w. (omega arith, omega (arith, w .1), λ sh h. w .1 ∙ laws.count-yes _ _ _ (sym (c .before .is-open .ensures sh h) ∙ w .0 .taken) (c .before .before .before .loop .inv .2 sh h)))
+    (λ w. (omega arith, omega (arith, w .1), λ sh h. w .1 ∙ laws.count-no _ _ _ (sym (c .before .is-open .ensures sh h) ∙ w .0 .left) (c .before .before .before .loop .inv .2 sh h)))
+    (c .if1 .came)
+
+returns : tie.Need-returns Inv-loop μ-loop
+returns c = let a = c .before .before .before .args in let e : c .before .loop .x ≡ a .size .inputs = omega arith in (omega arith, λ sh h. c .before .loop .inv .2 sh h ∙ ap (count (isOpen sh (a .s))) (e ∙ ap (λ (z : Size). z .inputs) (h .size)))
+
+pub open-at-spec : {M : Type 1} → statement M
+open-at-spec =
+    tie.close
+    (tie.spec
+    Inv-loop
+    μ-loop
+    cast-k
+    loop-holds
+    is-open-requires
+    add-n
+    add-x
+    loop-less
+    loop-again
+    returns)

@@ -1,0 +1,62 @@
+use Rattle.sheet.specs.declared.Size.{Size}
+use mathlib.Core.Path.{ap}
+use denote.Ref.{now}
+use Rattle.sheet.specs.declared.Row.{Row}
+use mathlib.Core.List.{List}
+use mathlib.Core.Bool.{Bool, true, false}
+use mathlib.Core.Logic.{⊎-elim}
+use Rattle.sheet.specs.Sheet.{Sheet, isOpen, openBelow, leads, within}
+use Rattle.sheet.specs.Lists.{count, any, all}
+use Rattle.sheet.specs.Held.{Within16, Linked, Leads, Marks}
+use Prim.Native.Nat.{ℕ, _+_, _-_, _*_, _<_, _≤_}
+use Rattle.sheet.proofs.EndLaws as laws
+use mathlib.Core.Path.{_∙_, sym, _≡_, refl}
+use borrow.Author.Needs.{needs}
+use native.Mathlib.Omega.{arith}
+use Rattle.sheet.proofs.finish.open_pairs.Statement.{statement}
+use Rattle.sheet.proofs.finish.open_pairs.Tie as tie
+
+abbrev Inv-loop : tie.InvT-loop
+Inv-loop size target faulty m n₀ s₀ n s = (s ≤ m) × (n ≤ 16 * s) × ((sh : Sheet) → Linked size target faulty sh → n ≡ openBelow sh s)
+
+abbrev μ-loop : tie.MeasureT-loop
+μ-loop size target faulty m n₀ s₀ n s = m - s
+
+cast-m : tie.Need-cast-m Inv-loop μ-loop
+cast-m c = search needs
+
+loop-holds : tie.Need-loop-holds Inv-loop μ-loop
+loop-holds c = (omega arith, omega arith, λ sh h. unfold openBelow in refl)
+
+open-at-requires : tie.Need-open-at-requires Inv-loop μ-loop
+open-at-requires c κs = (c .before .before .before .pre, omega (arith, c .before .before .before .pre))
+
+add-n : tie.Need-add-n Inv-loop μ-loop
+add-n c = omega (arith, c .before .before .before .before .pre)
+
+add-s : tie.Need-add-s Inv-loop μ-loop
+add-s c = omega (arith, c .before .before .before .before .pre)
+
+loop-less : tie.Need-loop-less Inv-loop μ-loop
+loop-less c = omega arith
+
+loop-again : tie.Need-loop-again Inv-loop μ-loop
+loop-again c = (omega arith, omega arith, λ sh h. laws.open-more sh _ _ _ (c .before .before .loop .inv .2 sh h) (c .open-at .ensures .1 sh h))
+
+returns : tie.Need-returns Inv-loop μ-loop
+returns c = λ sh h. let e : c .before .loop .s ≡ c .before .before .before .args .size .states = omega arith in laws.open-all sh _ (c .before .loop .inv .2 sh h ∙ ap (openBelow sh) (e ∙ ap (λ (z : Size). z .states) (h .size)))
+
+pub open-pairs-spec : {M : Type 1} → statement M
+open-pairs-spec =
+    tie.close
+    (tie.spec
+    Inv-loop
+    μ-loop
+    cast-m
+    loop-holds
+    open-at-requires
+    add-n
+    add-s
+    loop-less
+    loop-again
+    returns)

@@ -1,0 +1,75 @@
+use denote.Ref.{now}
+use Rattle.sheet.specs.declared.Row.{Row}
+use mathlib.Core.List.{List}
+use mathlib.Core.Bool.{Bool, true, false}
+use mathlib.Core.Logic.{⊎-elim}
+use Rattle.sheet.specs.Sheet.{Sheet, isOpen, openBelow, leads, within}
+use Rattle.sheet.specs.Lists.{count, any, all}
+use Rattle.sheet.specs.Held.{Within16, Linked, Leads, Marks}
+use Prim.Native.Nat.{ℕ, _+_, _-_, _*_, _<_, _≤_}
+use Rattle.sheet.proofs.EndLaws as laws
+use mathlib.Core.Path.{_∙_, sym, _≡_, refl}
+use borrow.Author.Needs.{needs}
+use native.Mathlib.Omega.{arith}
+use Rattle.sheet.proofs.finish.spread.Statement.{statement}
+use Rattle.sheet.proofs.finish.spread.Tie as tie
+
+abbrev Inv-loop : tie.InvT-loop
+Inv-loop target s k next₀ x₀ next x = (x ≤ k) × ((rules : List Row) (g : ℕ → Bool) → Leads target rules → Marks next₀ g → Marks next (laws.spreading rules g s x))
+
+abbrev μ-loop : tie.MeasureT-loop
+μ-loop target s k next₀ x₀ next x = k - x
+
+cast-k : tie.Need-cast-k Inv-loop μ-loop
+cast-k c = search needs
+
+loop-holds : tie.Need-loop-holds Inv-loop μ-loop
+loop-holds c = (omega arith, λ rules g h m. laws.spread-none rules g _ m)
+
+mul-p : tie.Need-mul-p Inv-loop μ-loop
+mul-p c = omega arith
+
+add-p : tie.Need-add-p Inv-loop μ-loop
+add-p c = omega arith
+
+element-copy-out-t : tie.Need-element-copy-out-t Inv-loop μ-loop
+element-copy-out-t c = omega arith
+
+cast-i : tie.Need-cast-i Inv-loop μ-loop
+cast-i c = search needs
+
+array-write-next : tie.Need-array-write-next Inv-loop μ-loop
+array-write-next c = omega arith
+
+add-x : tie.Need-add-x Inv-loop μ-loop
+add-x c = omega arith
+
+loop-less : tie.Need-loop-less Inv-loop μ-loop
+loop-less c = omega arith
+
+loop-again : tie.Need-loop-again Inv-loop μ-loop
+loop-again c = ⊎-elim
+    (λ w. (omega arith, λ rules g h m. rw (w .1) (laws.spread-hit rules g _ h (omega arith) _ (omega arith) (c .before .before .before .loop .inv .1 rules g h m) (w .0 .taken))))
+    (λ w. (omega arith, λ rules g h m. rw (w .1) (laws.spread-miss rules g _ h (omega arith) _ (omega arith) (c .before .before .before .loop .inv .1 rules g h m) (w .0 .left))))
+    (c .if1 .came)
+
+returns : tie.Need-returns Inv-loop μ-loop
+returns c = λ rules g h m. let e : c .before .loop .x ≡ c .before .before .before .args .size .inputs = omega arith in rw (← e) (c .before .loop .inv .1 rules g h m)
+
+pub spread-spec : {M : Type 1} → statement M
+spread-spec =
+    tie.close
+    (tie.spec
+    Inv-loop
+    μ-loop
+    cast-k
+    loop-holds
+    mul-p
+    add-p
+    element-copy-out-t
+    cast-i
+    array-write-next
+    add-x
+    loop-less
+    loop-again
+    returns)

@@ -1,0 +1,92 @@
+use Rattle.sheet.proofs.FaultLaws.{fault-taken, fault-many, fault-same, fault-unordered, fault-outside}
+use Rattle.sheet.proofs.Laws.{inside}
+use mathlib.Core.Path.{_∙_, sym, _≡_, refl, ap}
+use native.Mathlib.Omega.{arith}
+use borrow.Author.Needs.{needs}
+use Rattle.sheet.proofs.rules.add_fault.Statement.{statement}
+use Rattle.sheet.proofs.rules.add_fault.Tie as tie
+
+in-range-requires : tie.Need-in-range-requires
+in-range-requires c κs = search needs
+
+cast-p : tie.Need-cast-p
+cast-p c = search needs
+
+mul-p : tie.Need-mul-p
+mul-p c = search needs
+
+cast-p-2 : tie.Need-cast-p-2
+cast-p-2 c = search needs
+
+add-p : tie.Need-add-p
+add-p c = search needs
+
+mul-key : tie.Need-mul-key
+mul-key c = search needs
+
+cast-key : tie.Need-cast-key
+cast-key c = search needs
+
+mul-key-2 : tie.Need-mul-key-2
+mul-key-2 c = search needs
+
+cast-key-2 : tie.Need-cast-key-2
+cast-key-2 c = search needs
+
+add-key : tie.Need-add-key
+add-key c = search needs
+
+add-key-2 : tie.Need-add-key-2
+add-key-2 c = search needs
+
+is-other-requires : tie.Need-is-other-requires
+is-other-requires c κs = let a = c .before .before .before .before .before .before .before .before .args in omega (arith, inside (a .size) (a .row) (sym (c .before .before .before .before .before .before .before .in-range .ensures) ∙ c .before .before .before .before .before .before .if1 .taken))
+
+element-write-faulty : tie.Need-element-write-faulty
+element-write-faulty c = let a = c .before .before .before .before .before .before .before .before .before .before .before .before .args in omega (arith, inside (a .size) (a .row) (sym (c .before .before .before .before .before .before .before .before .before .before .before .in-range .ensures) ∙ c .before .before .before .before .before .before .before .before .before .before .if1 .taken))
+
+add-t24 : tie.Need-add-t24
+add-t24 c = search needs
+
+add-t25 : tie.Need-add-t25
+add-t25 c = search needs
+
+returns : tie.Need-returns
+returns c = λ sh ez ho ht h. fault-taken sh _ _ _ _ ez h (c .before .before .before .before .before .before .before .before .before .before .before .before .before .pre .0) (sym (c .before .before .before .before .before .before .before .before .before .before .before .before .in-range .ensures) ∙ c .before .before .before .before .before .before .before .before .before .before .before .if1 .taken) (c .before .before .before .before .before .if2 .taken) (sym (c .before .before .before .before .is-other .ensures _ ho ht) ∙ c .before .before .before .if3 .taken) (c .before .if4 .taken)
+
+returns-2 : tie.Need-returns-2
+returns-2 c = λ sh ez ho ht h. fault-many sh _ _ _ _ ez h (c .before .before .before .before .before .before .before .before .before .before .before .before .pre .0) (sym (c .before .before .before .before .before .before .before .before .before .before .before .in-range .ensures) ∙ c .before .before .before .before .before .before .before .before .before .before .if1 .taken) (c .before .before .before .before .if2 .taken) (sym (c .before .before .before .is-other .ensures _ ho ht) ∙ c .before .before .if3 .taken) (c .if4 .left)
+
+returns-3 : tie.Need-returns-3
+returns-3 c = λ sh ez ho ht h. fault-same sh _ _ _ _ ez h (c .before .before .before .before .before .before .before .before .before .before .pre .0) (sym (c .before .before .before .before .before .before .before .before .before .in-range .ensures) ∙ c .before .before .before .before .before .before .before .before .if1 .taken) (c .before .before .if2 .taken) (sym (c .before .is-other .ensures _ ho ht) ∙ c .if3 .left)
+
+returns-4 : tie.Need-returns-4
+returns-4 c = λ sh ez ho ht h. fault-unordered sh _ _ _ _ ez h (c .before .before .before .before .before .before .before .before .pre .0) (sym (c .before .before .before .before .before .before .before .in-range .ensures) ∙ c .before .before .before .before .before .before .if1 .taken) (c .if2 .left)
+
+returns-5 : tie.Need-returns-5
+returns-5 c = λ sh ez ho ht h. fault-outside sh _ _ _ _ ez h (sym (c .before .in-range .ensures) ∙ c .if1 .left)
+
+pub add-fault-spec : {M : Type 1} → statement M
+add-fault-spec =
+    tie.close
+    (tie.spec
+    in-range-requires
+    cast-p
+    mul-p
+    cast-p-2
+    add-p
+    mul-key
+    cast-key
+    mul-key-2
+    cast-key-2
+    add-key
+    add-key-2
+    is-other-requires
+    element-write-faulty
+    add-t24
+    add-t25
+    returns
+    returns-2
+    returns-3
+    returns-4
+    returns-5)

@@ -1,0 +1,60 @@
+use Rattle.sheet.proofs.RuleLaws.{rule-taken, rule-unordered, rule-outside}
+use Rattle.sheet.proofs.Laws.{inside}
+use mathlib.Core.Path.{_∙_, sym, _≡_, refl, ap}
+use native.Mathlib.Omega.{arith}
+use borrow.Author.Needs.{needs}
+use Rattle.sheet.proofs.rules.add_rule.Statement.{statement}
+use Rattle.sheet.proofs.rules.add_rule.Tie as tie
+
+in-range-requires : tie.Need-in-range-requires
+in-range-requires c κs = search needs
+
+cast-p : tie.Need-cast-p
+cast-p c = search needs
+
+mul-p : tie.Need-mul-p
+mul-p c = search needs
+
+cast-p-2 : tie.Need-cast-p-2
+cast-p-2 c = search needs
+
+add-p : tie.Need-add-p
+add-p c = search needs
+
+element-write-output : tie.Need-element-write-output
+element-write-output c = let a = c .before .before .before .before .before .before .args in omega (arith, inside (a .size) (a .row) (sym (c .before .before .before .before .before .in-range .ensures) ∙ c .before .before .before .before .if1 .taken))
+
+element-write-target : tie.Need-element-write-target
+element-write-target c = let a = c .before .before .before .before .before .before .args in omega (arith, inside (a .size) (a .row) (sym (c .before .before .before .before .before .in-range .ensures) ∙ c .before .before .before .before .if1 .taken))
+
+add-t18 : tie.Need-add-t18
+add-t18 c = search needs
+
+add-t19 : tie.Need-add-t19
+add-t19 c = search needs
+
+returns : tie.Need-returns
+returns c = λ sh ez h. rule-taken sh _ _ _ _ _ ez h (c .before .before .before .before .before .before .before .pre .0) (sym (c .before .before .before .before .before .before .in-range .ensures) ∙ c .before .before .before .before .before .if1 .taken) (c .before .if2 .taken)
+
+returns-2 : tie.Need-returns-2
+returns-2 c = λ sh ez h. rule-unordered sh _ _ _ _ _ ez h (c .before .before .before .before .before .before .pre .0) (sym (c .before .before .before .before .before .in-range .ensures) ∙ c .before .before .before .before .if1 .taken) (c .if2 .left)
+
+returns-3 : tie.Need-returns-3
+returns-3 c = λ sh ez h. rule-outside sh _ _ _ _ _ ez h (sym (c .before .in-range .ensures) ∙ c .if1 .left)
+
+pub add-rule-spec : {M : Type 1} → statement M
+add-rule-spec =
+    tie.close
+    (tie.spec
+    in-range-requires
+    cast-p
+    mul-p
+    cast-p-2
+    add-p
+    element-write-output
+    element-write-target
+    add-t18
+    add-t19
+    returns
+    returns-2
+    returns-3)

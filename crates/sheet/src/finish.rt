@@ -1,0 +1,167 @@
+// At END: nothing follows, every state is reached, at most 32 pairs are open.
+ghost use mathlib.Core.Path.{_≡_};
+ghost use mathlib.Core.Bool.{Bool, _||_, _&&_};
+ghost use mathlib.Core.List.{List};
+ghost use Prim.Native.Nat.{ℕ, _<_, _≤_};
+ghost use lib.ListN.{length};
+ghost use Rattle.sheet.specs.Lists.{any, all, count};
+ghost use Rattle.sheet.specs.Sheet.{Sheet, leads, within, isOpen, openPairs};
+ghost use Rattle.sheet.specs.Reading.{finishing};
+ghost use Rattle.sheet.specs.Held.{Within16, Leads, Marks, Linked, endOf};
+use crate::Row;
+use crate::Size;
+
+// How a reading ends: the number of open pairs, or a refusal's number and place.
+pub(crate) enum End {
+    Accepted(usize),
+    Refused(u8, usize),
+}
+
+fn is_open(size: Size, target: &[u8; 256], faulty: &[u8; 256], s: usize, x: usize) -> bool
+    requires { ⌜ Within16 size × (s < 16) × (x < 16) ⌝ }
+    ensures { λ r. ⌜ ((sh : Sheet) → Linked size (now (target .entry)) (now (faulty .entry)) sh → r ≡ isOpen sh s x) ⌝ }
+{
+    let p = s * 16 + x;
+    let t = target[p];
+    if t < 16 {
+        let f = faulty[p];
+        return f == 1;
+    }
+    1 < (size.outputs as usize) * (size.states as usize)
+}
+
+// The number of open pairs at a state.
+fn open_at(size: Size, target: &[u8; 256], faulty: &[u8; 256], s: usize) -> usize
+    requires { ⌜ Within16 size × (s < 16) ⌝ }
+    ensures few { λ r. ⌜ r ≤ 16 ⌝ }
+    ensures counted { λ r. ⌜ ((sh : Sheet) → Linked size (now (target .entry)) (now (faulty .entry)) sh
+        → r ≡ count (isOpen sh s) (sh .size .inputs)) ⌝ }
+{
+    let k = size.inputs as usize;
+    let mut n: usize = 0;
+    let mut x: usize = 0;
+    while x < k {
+        if is_open(size, target, faulty, s, x) {
+            n += 1;
+        }
+        x += 1;
+    }
+    n
+}
+
+fn open_pairs(size: Size, target: &[u8; 256], faulty: &[u8; 256]) -> usize
+    requires { ⌜ Within16 size ⌝ }
+    ensures { λ r. ⌜ ((sh : Sheet) → Linked size (now (target .entry)) (now (faulty .entry)) sh → r ≡ openPairs sh) ⌝ }
+{
+    let m = size.states as usize;
+    let mut n: usize = 0;
+    let mut s: usize = 0;
+    while s < m {
+        n += open_at(size, target, faulty, s);
+        s += 1;
+    }
+    n
+}
+
+// The states marked, and those that a rule at s leads to.
+fn spread(size: Size, target: &[u8; 256], s: usize, seen: [u8; 16]) -> [u8; 16]
+    requires { ⌜ Within16 size × (s < 16) ⌝ }
+    ensures { λ r. ⌜ ((rules : List Row) (g : ℕ → Bool) → Leads (now (target .entry)) rules → Marks seen g
+        → Marks r (λ t. g t || any (λ x. leads rules s x t) (size .inputs))) ⌝ }
+{
+    let k = size.inputs as usize;
+    let mut next = seen;
+    let mut x: usize = 0;
+    while x < k {
+        let p = s * 16 + x;
+        let t = target[p];
+        if t < 16 {
+            let i = t as usize;
+            next[i] = 1;
+        }
+        x += 1;
+    }
+    next
+}
+
+// The states marked, and those that a rule at one of them leads to.
+fn round(size: Size, target: &[u8; 256], seen: [u8; 16]) -> [u8; 16]
+    requires { ⌜ Within16 size ⌝ }
+    ensures { λ r. ⌜ ((rules : List Row) (g : ℕ → Bool) → Leads (now (target .entry)) rules → Marks seen g
+        → Marks r (λ t. g t || any (λ s. g s && any (λ x. leads rules s x t) (size .inputs)) (size .states))) ⌝ }
+{
+    let n = size.states as usize;
+    let mut next = seen;
+    let mut s: usize = 0;
+    while s < n {
+        if seen[s] == 1 {
+            let more = spread(size, target, s, next);
+            next = more;
+        }
+        s += 1;
+    }
+    next
+}
+
+// The states that are reached from 0: as many rounds as there are states.
+fn reached(size: Size, target: &[u8; 256]) -> [u8; 16]
+    requires { ⌜ Within16 size ⌝ }
+    ensures { λ r. ⌜ ((sh : Sheet) → size ≡ sh .size → Leads (now (target .entry)) (sh .rules)
+        → Marks r (within sh (sh .size .states))) ⌝ }
+{
+    let n = size.states as usize;
+    let mut seen = [0u8; 16];
+    seen[0] = 1;
+    let mut j: usize = 0;
+    while j < n {
+        let more = round(size, target, seen);
+        seen = more;
+        j += 1;
+    }
+    seen
+}
+
+// Are the first n marked?
+fn all_marked(n: u8, seen: [u8; 16]) -> bool
+    requires { ⌜ n ≤ 16 ⌝ }
+    ensures { λ r. ⌜ ((g : ℕ → Bool) → Marks seen g → r ≡ all g n) ⌝ }
+{
+    let m = n as usize;
+    let mut i: usize = 0;
+    while i < m {
+        if seen[i] == 1 {
+            i += 1;
+        } else {
+            return false;
+        }
+    }
+    true
+}
+
+// 10 a byte follows, 11 a state is not reached, 12 over 32 open pairs.
+pub(crate) fn finish(
+    sheet: &[u8],
+    at: usize,
+    size: Size,
+    target: &[u8; 256],
+    faulty: &[u8; 256],
+) -> End
+    requires { ⌜ (at < length (now sheet)) × Within16 size ⌝ }
+    ensures { λ r. ⌜ ((sh : Sheet) → Linked size (now (target .entry)) (now (faulty .entry)) sh
+        → r ≡ endOf (finishing sh (now (sheet .entry)) at)) ⌝ }
+{
+    if at + 1 < sheet.len() {
+        return End::Refused(10, at + 1);
+    }
+    let seen = reached(size, target);
+    if all_marked(size.states, seen) {
+        let pairs = open_pairs(size, target, faulty);
+        if pairs <= 32 {
+            End::Accepted(pairs)
+        } else {
+            End::Refused(12, at)
+        }
+    } else {
+        End::Refused(11, at)
+    }
+}

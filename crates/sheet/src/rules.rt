@@ -1,0 +1,415 @@
+// What a command must meet, in the order of 01's numbers, and what it adds to what is read so far. The caller lends three
+// tables by pair, at state * 16 + input: the rule's output and its next state (255 for no rule), and 1 where there is a fault.
+ghost use mathlib.Core.Path.{_≡_};
+ghost use mathlib.Core.Bool.{true};
+ghost use mathlib.Core.List.{List};
+ghost use Prim.Native.Nat.{ℕ, _<_, _≤_};
+ghost use lib.ListN.{length};
+ghost use Rattle.sheet.specs.Sheet.{Sheet, ruleAt};
+ghost use Rattle.sheet.specs.Reading.{during, allowed, inOneTo16, inRange, isOther, Progress};
+ghost use Rattle.sheet.specs.Reading as reading;
+ghost use Rattle.sheet.specs.Fetch.{commandFrom};
+ghost use Rattle.sheet.specs.Held.{Within16, ByPair, ruleOutput, Leads, RulesHold, FaultsHold, TestsHold};
+ghost use Rattle.sheet.specs.Held.{RuleMeets, FaultMeets, PressMeets, Holds, Applies};
+use crate::Row;
+use crate::Size;
+use crate::fetch::Item;
+
+// The number of rules, and one more than the last one's key, 0 before the first. A key has the row's numbers as digits to
+// base 16: a greater key stands later.
+pub(crate) struct Rules {
+    pub(crate) count: usize,
+    pub(crate) key: usize,
+}
+
+// The same of the faults.
+pub(crate) struct Faults {
+    pub(crate) count: usize,
+    pub(crate) key: usize,
+}
+
+// The number of tests, of inputs in the last one, and the state that it has reached.
+pub(crate) struct Tests {
+    pub(crate) count: usize,
+    pub(crate) inputs: usize,
+    pub(crate) state: usize,
+}
+
+// What is read so far, but for the tables.
+pub(crate) struct State {
+    pub(crate) phase: u8,
+    pub(crate) size: Size,
+    pub(crate) rules: Rules,
+    pub(crate) faults: Faults,
+    pub(crate) tests: Tests,
+}
+
+// What comes of a command: a refusal's number, 0 for none, and what is read then.
+pub(crate) struct Ruled {
+    pub(crate) number: u8,
+    pub(crate) rules: Rules,
+}
+
+pub(crate) struct Faulted {
+    pub(crate) number: u8,
+    pub(crate) faults: Faults,
+}
+
+pub(crate) struct Pressed {
+    pub(crate) number: u8,
+    pub(crate) tests: Tests,
+}
+
+pub(crate) struct Applied {
+    pub(crate) number: u8,
+    pub(crate) state: State,
+}
+
+fn is_during(earliest: u8, latest: u8, phase: u8) -> bool
+    ensures { λ r. ⌜ r ≡ during earliest latest phase ⌝ }
+{
+    if earliest <= phase {
+        return phase <= latest;
+    }
+    false
+}
+
+// May the command byte stand in this phase?
+pub(crate) fn may_stand(phase: u8, byte: u8) -> bool
+    ensures { λ r. ⌜ r ≡ allowed phase byte ⌝ }
+{
+    if byte == 1 {
+        return is_during(0, 0, phase);
+    }
+    if byte == 2 {
+        return is_during(1, 2, phase);
+    }
+    if byte == 3 {
+        return is_during(1, 3, phase);
+    }
+    if byte == 4 {
+        return is_during(1, 4, phase);
+    }
+    if byte == 5 {
+        return is_during(4, 4, phase);
+    }
+    if byte == 6 {
+        return is_during(1, 4, phase);
+    }
+    false
+}
+
+fn one_to_sixteen(n: u8) -> bool
+    ensures { λ r. ⌜ r ≡ inOneTo16 n ⌝ }
+{
+    if 1 <= n {
+        return n <= 16;
+    }
+    false
+}
+
+fn in_range(size: Size, row: Row) -> bool
+    ensures { λ r. ⌜ r ≡ inRange size row ⌝ }
+{
+    if row.source < size.states {
+        if row.input < size.inputs {
+            if row.output < size.outputs {
+                return row.target < size.states;
+            }
+        }
+    }
+    false
+}
+
+// SIZE
+fn do_size(state: State, size: Size) -> Applied
+    ensures { λ r. ⌜ ((os ts ms : List ℕ) (p : Progress) → p .phase ≡ 0 → Holds state os ts ms p
+        → Applies p 1 (reading.size size) r os ts ms) ⌝ }
+{
+    if one_to_sixteen(size.states) {
+        if one_to_sixteen(size.inputs) {
+            if one_to_sixteen(size.outputs) {
+                let rules = state.rules;
+                let faults = state.faults;
+                let tests = state.tests;
+                return Applied {
+                    number: 0,
+                    state: State {
+                        phase: 1,
+                        size,
+                        rules,
+                        faults,
+                        tests,
+                    },
+                };
+            }
+        }
+    }
+    Applied { number: 4, state }
+}
+
+// A RULE: 5 out of range, 6 not ascending.
+fn add_rule(
+    size: Size,
+    rules: Rules,
+    row: Row,
+    output: &mut [u8; 256],
+    target: &mut [u8; 256],
+) -> Ruled
+    requires { ⌜ Within16 size × ((l : List Row) × RulesHold rules (now output) (now target) l) ⌝ }
+    ensures { λ r. ⌜ ((sh : Sheet) → size ≡ sh .size → RulesHold rules (now (output .entry)) (now (target .entry)) (sh .rules)
+        → RuleMeets sh row r (now (output .exit)) (now (target .exit))) ⌝ }
+{
+    if in_range(size, row) {
+        let p = (row.source as usize) * 16 + (row.input as usize);
+        if rules.key <= p {
+            output[p] = row.output;
+            target[p] = row.target;
+            Ruled {
+                number: 0,
+                rules: Rules {
+                    count: rules.count + 1,
+                    key: p + 1,
+                },
+            }
+        } else {
+            Ruled { number: 6, rules }
+        }
+    } else {
+        Ruled { number: 5, rules }
+    }
+}
+
+fn do_rule(state: State, row: Row, output: &mut [u8; 256], target: &mut [u8; 256]) -> Applied
+    requires { ⌜ ((ms : List ℕ) × (p : Progress) × Holds state (now output) (now target) ms p) ⌝ }
+    ensures { λ r. ⌜ ((ms : List ℕ) (p : Progress) → p .phase ≤ 2 → Holds state (now (output .entry)) (now (target .entry)) ms p
+        → Applies p 2 (reading.rule row) r (now (output .exit)) (now (target .exit)) ms) ⌝ }
+{
+    let size = state.size;
+    let rules = state.rules;
+    let faults = state.faults;
+    let tests = state.tests;
+    let a = add_rule(size, rules, row, &mut *output, &mut *target);
+    let added = a.rules;
+    Applied {
+        number: a.number,
+        state: State {
+            phase: 2,
+            size,
+            rules: added,
+            faults,
+            tests,
+        },
+    }
+}
+
+// Is there a rule at the row's pair, and is it another?
+fn is_other(row: Row, output: &[u8; 256], target: &[u8; 256]) -> bool
+    requires { ⌜ (row .source < 16) × (row .input < 16) ⌝ }
+    ensures { λ r. ⌜ ((l : List Row) → ByPair (now (output .entry)) (λ s x. ruleOutput (ruleAt l s x)) → Leads (now (target .entry)) l
+        → r ≡ isOther (ruleAt l (row .source) (row .input)) row) ⌝ }
+{
+    let p = (row.source as usize) * 16 + (row.input as usize);
+    let o = output[p];
+    if o == 255 {
+        return false;
+    }
+    if o == row.output {
+        let t = target[p];
+        return t != row.target;
+    }
+    true
+}
+
+// A FAULT: 5 out of range, 6 not ascending, 7 no other rule there, 8 one too many.
+fn add_fault(
+    size: Size,
+    faults: Faults,
+    row: Row,
+    output: &[u8; 256],
+    target: &[u8; 256],
+    faulty: &mut [u8; 256],
+) -> Faulted
+    requires { ⌜ Within16 size × ((l : List Row) × FaultsHold faults (now faulty) l) ⌝ }
+    ensures { λ r. ⌜ ((sh : Sheet) → size ≡ sh .size → ByPair (now (output .entry)) (λ s x. ruleOutput (ruleAt (sh .rules) s x))
+        → Leads (now (target .entry)) (sh .rules) → FaultsHold faults (now (faulty .entry)) (sh .faults)
+        → FaultMeets sh row r (now (faulty .exit))) ⌝ }
+{
+    if in_range(size, row) {
+        let p = (row.source as usize) * 16 + (row.input as usize);
+        let key = p * 256 + ((row.output as usize) * 16 + (row.target as usize));
+        if faults.key <= key {
+            if is_other(row, output, target) {
+                if faults.count < 256 {
+                    faulty[p] = 1;
+                    Faulted {
+                        number: 0,
+                        faults: Faults {
+                            count: faults.count + 1,
+                            key: key + 1,
+                        },
+                    }
+                } else {
+                    Faulted { number: 8, faults }
+                }
+            } else {
+                Faulted { number: 7, faults }
+            }
+        } else {
+            Faulted { number: 6, faults }
+        }
+    } else {
+        Faulted { number: 5, faults }
+    }
+}
+
+fn do_fault(
+    state: State,
+    row: Row,
+    output: &[u8; 256],
+    target: &[u8; 256],
+    faulty: &mut [u8; 256],
+) -> Applied
+    requires { ⌜ ((p : Progress) × Holds state (now output) (now target) (now faulty) p) ⌝ }
+    ensures { λ r. ⌜ ((p : Progress) → p .phase ≤ 3 → Holds state (now (output .entry)) (now (target .entry)) (now (faulty .entry)) p
+        → Applies p 3 (reading.fault row) r (now (output .entry)) (now (target .entry)) (now (faulty .exit))) ⌝ }
+{
+    let size = state.size;
+    let rules = state.rules;
+    let faults = state.faults;
+    let tests = state.tests;
+    let a = add_fault(size, faults, row, output, target, &mut *faulty);
+    let added = a.faults;
+    Applied {
+        number: a.number,
+        state: State {
+            phase: 3,
+            size,
+            rules,
+            faults: added,
+            tests,
+        },
+    }
+}
+
+// TEST: 8 one too many.
+fn do_test(state: State) -> Applied
+    requires { ⌜ ((os ts ms : List ℕ) × (p : Progress) × Holds state os ts ms p) ⌝ }
+    ensures { λ r. ⌜ ((os ts ms : List ℕ) (p : Progress) → Holds state os ts ms p → Applies p 4 reading.test r os ts ms) ⌝ }
+{
+    let size = state.size;
+    let rules = state.rules;
+    let faults = state.faults;
+    let tests = state.tests;
+    if tests.count < 256 {
+        let added = Tests {
+            count: tests.count + 1,
+            inputs: 0,
+            state: 0,
+        };
+        Applied {
+            number: 0,
+            state: State {
+                phase: 4,
+                size,
+                rules,
+                faults,
+                tests: added,
+            },
+        }
+    } else {
+        Applied { number: 8, state }
+    }
+}
+
+// A PRESS: 5 out of range, 8 one too many, 9 no rule at the state that the test has reached.
+fn add_press(size: Size, tests: Tests, x: u8, target: &[u8; 256]) -> Pressed
+    requires { ⌜ Within16 size × ((rules : List Row) × (l : List (List ℕ)) × TestsHold tests rules l) ⌝ }
+    ensures { λ r. ⌜ ((sh : Sheet) → size ≡ sh .size → Leads (now (target .entry)) (sh .rules)
+        → TestsHold tests (sh .rules) (sh .tests) → 0 < length (sh .tests) → PressMeets sh x r) ⌝ }
+{
+    if x < size.inputs {
+        if tests.inputs < 256 {
+            let p = tests.state * 16 + (x as usize);
+            let t = target[p];
+            if t < 16 {
+                Pressed {
+                    number: 0,
+                    tests: Tests {
+                        count: tests.count,
+                        inputs: tests.inputs + 1,
+                        state: t as usize,
+                    },
+                }
+            } else {
+                Pressed { number: 9, tests }
+            }
+        } else {
+            Pressed { number: 8, tests }
+        }
+    } else {
+        Pressed { number: 5, tests }
+    }
+}
+
+fn do_press(state: State, x: u8, target: &[u8; 256]) -> Applied
+    requires { ⌜ ((os ms : List ℕ) × (p : Progress) × Holds state os (now target) ms p) ⌝ }
+    ensures { λ r. ⌜ ((os ms : List ℕ) (p : Progress) → 4 ≤ p .phase → Holds state os (now (target .entry)) ms p
+        → Applies p 5 (reading.press x) r os (now (target .entry)) ms) ⌝ }
+{
+    let size = state.size;
+    let rules = state.rules;
+    let faults = state.faults;
+    let tests = state.tests;
+    let a = add_press(size, tests, x, target);
+    let added = a.tests;
+    Applied {
+        number: a.number,
+        state: State {
+            phase: 4,
+            size,
+            rules,
+            faults,
+            tests: added,
+        },
+    }
+}
+
+// One command but END, with its operands.
+pub(crate) fn apply(
+    item: Item,
+    state: State,
+    output: &mut [u8; 256],
+    target: &mut [u8; 256],
+    faulty: &mut [u8; 256],
+) -> Applied
+    requires { ⌜ ((1 ≤ item .byte) × (item .byte ≤ 5)) × ((p : Progress) × Holds state (now output) (now target) (now faulty) p) ⌝ }
+    ensures { λ r. ⌜ ((p : Progress) → allowed (p .phase) (item .byte) ≡ true
+        → Holds state (now (output .entry)) (now (target .entry)) (now (faulty .entry)) p
+        → Applies p (item .byte) (commandFrom item) r (now (output .exit)) (now (target .exit)) (now (faulty .exit))) ⌝ }
+{
+    let size = Size {
+        states: item.first,
+        inputs: item.second,
+        outputs: item.third,
+    };
+    let row = Row {
+        source: item.first,
+        input: item.second,
+        output: item.third,
+        target: item.fourth,
+    };
+    if item.byte == 1 {
+        return do_size(state, size);
+    }
+    if item.byte == 2 {
+        return do_rule(state, row, &mut *output, &mut *target);
+    }
+    if item.byte == 3 {
+        return do_fault(state, row, &*output, &*target, &mut *faulty);
+    }
+    if item.byte == 4 {
+        return do_test(state);
+    }
+    do_press(state, item.first, &*target)
+}
