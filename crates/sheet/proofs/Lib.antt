@@ -7,3 +7,5 @@ pub mod EndLaws
 pub mod StepLaws
 pub mod FetchLaws
 pub mod ScanLaws
+pub mod PlaceLaws
+pub mod PartLaws

@@ -53,3 +53,12 @@ commandFrom k =
     (cond (eqb (k .byte) 4) test
     (cond (eqb (k .byte) 5) (press (k .first))
     end))))
+
+abbrev pub noItem : Item
+noItem = record { byte = 0; first = 0; second = 0; third = 0; fourth = 0 }
+
+-- a whole command, and nothing but zeros otherwise
+abbrev pub itemIn : Taken → Item
+itemIn (Whole k) = k
+itemIn (Short b) = noItem
+itemIn Nothing = noItem

@@ -7,4 +7,5 @@ pub mod Tables
 pub mod WellFormed
 pub mod Fetch
 pub mod Held
+pub mod Places
 pub mod laws

@@ -10,3 +10,4 @@ pub mod Accepted
 pub mod Refusals
 pub mod Going
 pub mod Accepts
+pub mod TablesLaw

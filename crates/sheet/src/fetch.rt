@@ -3,7 +3,7 @@ ghost use mathlib.Core.Path.{_≡_};
 ghost use Prim.Native.Nat.{_+_, _≤_};
 ghost use lib.ListN.{length};
 ghost use Rattle.sheet.specs.Reading.{width};
-ghost use Rattle.sheet.specs.Fetch.{operandOf, fetchAt};
+ghost use Rattle.sheet.specs.Fetch.{operandOf, fetchAt, noItem, itemIn};
 
 // The sheet and the place of the next command, together.
 pub(crate) struct Reader<'a> {
@@ -105,4 +105,27 @@ pub(crate) fn fetch_from(sheet: &[u8], at: usize) -> Fetched
     ensures { λ r. ⌜ r ≡ fetchAt (now (sheet .entry)) at ⌝ }
 {
     fetch(Reader { sheet, at })
+}
+
+fn no_item() -> Item
+    ensures { λ r. ⌜ r ≡ noItem ⌝ }
+{
+    Item {
+        byte: 0,
+        first: 0,
+        second: 0,
+        third: 0,
+        fourth: 0,
+    }
+}
+
+// A whole command, and nothing but zeros otherwise.
+pub(crate) fn item_in(taken: Taken) -> Item
+    ensures { λ r. ⌜ r ≡ itemIn taken ⌝ }
+{
+    match taken {
+        Taken::Whole(item) => item,
+        Taken::Short(_) => no_item(),
+        Taken::Nothing => no_item(),
+    }
 }

@@ -1,10 +1,13 @@
 // Reading sheets: the layer below, which knows nothing of mutants.
 ghost use mathlib.Core.Path.{_≡_};
 ghost use Rattle.sheet.specs.Reading as reading;
-ghost use Rattle.sheet.specs.Tables.{readAnswer};
+ghost use Rattle.sheet.specs.Part.{parting, partOf};
+ghost use Rattle.sheet.specs.Tables.{readAnswer, partAnswer};
+ghost use Rattle.sheet.specs.Places.{handedOn};
 
 mod fetch;
 mod finish;
+mod part;
 mod rules;
 mod scan;
 
@@ -80,4 +83,45 @@ pub fn read(sheet: &[u8]) -> Reading
     let mut target = [0u8; 256];
     let mut faulty = [0u8; 256];
     scan::answer(scan::scan(sheet, &mut output, &mut target, &mut faulty))
+}
+
+// A refusal of Read, as One test's part hands it on.
+fn handed_on(reading: Reading) -> Parting
+    ensures { λ r. ⌜ r ≡ handedOn reading ⌝ }
+{
+    match reading {
+        Reading::Accepted(_) => Parting::Refused(0, 0),
+        Reading::Refused(number, place) => Parting::Refused(number, place),
+    }
+}
+
+// 01's One test's part, as a place and a length: refused as Read refuses, then 17 if there is no such test.
+pub fn test_span(sheet: &[u8], i: usize) -> Parting
+    ensures { λ r. ⌜ r ≡ partAnswer (parting (now (sheet .entry)) i) ⌝ }
+{
+    let reading = read(sheet);
+    let Reading::Accepted(summary) = reading else {
+        return handed_on(reading);
+    };
+    if i < summary.tests {
+        let place = 4 + 5 * summary.rules + 5 * summary.faults;
+        let span = part::test_from(sheet, place, i);
+        Parting::At(span)
+    } else {
+        Parting::Refused(17, 0)
+    }
+}
+
+// The part itself: the very bytes of the sheet, none on any refusal. Where in memory the empty part of a refusal lies is free
+// (here it is at the sheet's front).
+pub fn test_part(sheet: &[u8], i: usize) -> &[u8]
+    ensures { λ r. ⌜ now r ≡ partOf (now (sheet .entry)) (parting (now (sheet .entry)) i) ⌝ }
+{
+    let parting = test_span(sheet, i);
+    let Parting::At(span) = parting else {
+        return &sheet[..0];
+    };
+    let start = span.start;
+    let end = start + span.length;
+    &sheet[start..end]
 }

@@ -1,21 +1,24 @@
 -- An accepted sheet is well formed.
 use mathlib.Core.Path.{_≡_, refl}
+use mathlib.Core.Bool.{Bool, true, false, cond}
 use mathlib.Core.List.{List, [], _∷_, _++_}
 use mathlib.Core.Option.{some}
-use Prim.Native.Nat.{ℕ, suc, _+_, _<_, _≤_}
+use Prim.Native.Nat.{ℕ, _+_, _≤_}
 use native.Mathlib.Omega.{arith}
 use lib.ListN.{length, getD, length-append}
+use lib.Dec.{ltb}
+use borrow.Author.Tests.{ltb-false}
 use Rattle.sheet.specs.declared.Row.{Row}
 use Rattle.sheet.specs.Lists.{last, All, Ascending, Before}
 use Rattle.sheet.specs.Sheet.{Sheet, pairOf, rowOf, after}
-use Rattle.sheet.specs.Reading.{Reading, accepted, Progress, rowAt, sizeAt, lastTest, addPress, advance, blank, reading}
+use Rattle.sheet.specs.Reading.{accepted, refused, from, Progress, rowAt, sizeAt, lastTest, addPress, advance, blank, reading}
 use Rattle.sheet.specs.WellFormed.{SizeIn, RowIn, Mutates, TestIn, WellFormed}
-use Rattle.sheet.specs.laws.Basics.{all-snoc, all-none}
-use Rattle.sheet.specs.laws.Steps.{Stands, Moves, by-size, by-rule, by-fault, by-test, by-press, Accepting, accepting}
+use Rattle.sheet.specs.laws.Basics.{never, all-snoc, all-none}
+use Rattle.sheet.specs.laws.Steps.{Moves, by-size, by-rule, by-fault, by-test, by-press, accepting}
 use Rattle.sheet.specs.laws.Ordered.{Ordered, ordered-blank, ordered-on, press-length}
 use Rattle.sheet.specs.laws.Rows.{before-trans, ascending-snoc}
 use Rattle.sheet.specs.laws.Reached.{reached-each}
-use Rattle.sheet.specs.laws.Right.{Follows, FaultRight, size-right, rule-right, fault-right, test-right, press-right}
+use Rattle.sheet.specs.laws.Right.{size-right, rule-right, fault-right, test-right, press-right}
 
 -- what is read so far is well formed
 record Good (p : Progress) : Type 0 where
@@ -150,3 +153,12 @@ well-formed s sh e =
       reached = reached-each sh (a .reached);
       few-open = a .few-open;
     }
+
+-- and has at most 16,384 bytes
+pub short-enough : (s : List ℕ) (sh : Sheet) → reading s ≡ accepted sh → length s ≤ 16384
+unfolding reading
+short-enough s sh = one (ltb 16384 (length s)) refl
+  where
+    one : (t : Bool) → ltb 16384 (length s) ≡ t → cond t (refused 1 16384) (from (length s + 1) blank s 0) ≡ accepted sh → length s ≤ 16384
+    one true k e = never (cc)
+    one false k e = ltb-false 16384 (length s) k

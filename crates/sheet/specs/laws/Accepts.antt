@@ -2,20 +2,20 @@
 use mathlib.Core.Path.{_≡_, refl, ap, sym, _∙_, subst}
 use mathlib.Core.Option.{Option, none, some}
 use mathlib.Core.List.{List, [], _∷_, _++_, append-assoc, append-nil}
-use Prim.Native.Nat.{ℕ, zero, suc, _+_, _<_, _≤_}
+use Prim.Native.Nat.{ℕ, _+_, _<_, _≤_}
 use native.Mathlib.Nat.{add-zero}
 use native.Mathlib.Omega.{arith}
 use lib.ListN.{length, getD, drop, length-append, length-drop}
 use lib.Seq.{append-snoc, getD-drop, drop-drop}
 use Rattle.sheet.specs.declared.Row.{Row}
 use Rattle.sheet.specs.declared.Size.{Size}
-use Rattle.sheet.specs.Lists.{maybe, last, All, Ascending, Before}
+use Rattle.sheet.specs.Lists.{maybe, Before}
 use Rattle.sheet.specs.Sheet.{Sheet, pairOf, rowOf, ruleAt, after}
-use Rattle.sheet.specs.Reading.{Reading, accepted, Progress, Command, size, rule, fault, test, press, end, rowAt, sizeAt, lastTest, addPress, refusal, advance, blank, reading}
+use Rattle.sheet.specs.Reading.{accepted, size, rule, fault, test, press, rowAt, sizeAt, lastTest, addPress, refusal, advance, blank, reading}
 use Rattle.sheet.specs.Encode.{sizeBytes, rowBytes, pressBytes, testBytes, machineBytes, body, encode}
-use Rattle.sheet.specs.WellFormed.{SizeIn, RowIn, Mutates, TestIn, WellFormed}
-use Rattle.sheet.specs.laws.Basics.{never}
-use Rattle.sheet.specs.laws.Steps.{Stands, Moves, by-size, by-rule, by-fault, by-test, by-press, Ends, next, refusal-end}
+use Rattle.sheet.specs.WellFormed.{RowIn, Mutates, TestIn, WellFormed}
+use Rattle.sheet.specs.laws.Basics.{never, all-at}
+use Rattle.sheet.specs.laws.Steps.{by-size, by-rule, by-fault, by-test, by-press, refusal-end}
 use Rattle.sheet.specs.laws.Rows.{last-snoc, ascending-last}
 use Rattle.sheet.specs.laws.Reached.{each-reached}
 use Rattle.sheet.specs.laws.Right.{Follows, FaultRight, right-size, right-rule, right-fault, right-test, right-press}
@@ -138,10 +138,6 @@ module _ {s : List ℕ} {sh : Sheet} {l : List ℕ} where
             })));
       }
 
-all-at : {A : Type 0} (P : A → Type 0) (l : List A) (a : A) (rest : List A) → All P (l ++ a ∷ rest) → P a
-all-at P [] a rest h = h .0
-all-at P (x ∷ l) a rest h = all-at P l a rest (h .1)
-
 short-of : {A : Type 0} (l : List A) (a : A) (rest : List A) (n : ℕ) → length (l ++ a ∷ rest) ≤ n → length l < n
 short-of l a rest n h = let k = simp length-append at h in omega arith
 
@@ -173,20 +169,28 @@ press-last (y ∷ []) xs x = refl
 press-last (y ∷ z ∷ l) xs x = rw (press-last (z ∷ l) xs x)
 
 module _ (sh : Sheet) (w : WellFormed sh) (s : List ℕ) where
-  read-rules : (done rest : List Row) (l : List ℕ) → done ++ rest ≡ sh .rules → Read s 1 2 (part (sh .size) done [] []) (rowBytes 2 rest ++ l) → Read s 1 2 (part (sh .size) (sh .rules) [] []) l
+  read-rules : (done rest : List Row) (l : List ℕ) → done ++ rest ≡ sh .rules
+      → Read s 1 2 (part (sh .size) done [] []) (rowBytes 2 rest ++ l) → Read s 1 2 (part (sh .size) (sh .rules) [] []) l
   unfolding rowBytes advance
   read-rules done [] l e h = rw (← e, append-nil done) h
   read-rules done (r ∷ rest) l e h =
       read-rules (done ++ r ∷ []) rest l (append-snoc done r rest ∙ e)
-      (read-rule r (record { inside = all-at (RowIn (sh .size)) done r rest (rw e (w .rules)); later = ascending-last (λ q r. Before (pairOf q) (pairOf r)) done r rest (rw e (w .rules-ascend)) }) h)
+      (read-rule r (record {
+        inside = all-at (RowIn (sh .size)) done r rest (rw e (w .rules));
+        later = ascending-last (λ q r. Before (pairOf q) (pairOf r)) done r rest (rw e (w .rules-ascend));
+      }) h)
 
-  read-faults : (done rest : List Row) (l : List ℕ) → done ++ rest ≡ sh .faults → Read s 1 3 (part (sh .size) (sh .rules) done []) (rowBytes 3 rest ++ l) → Read s 1 3 (part (sh .size) (sh .rules) (sh .faults) []) l
+  read-faults : (done rest : List Row) (l : List ℕ) → done ++ rest ≡ sh .faults
+      → Read s 1 3 (part (sh .size) (sh .rules) done []) (rowBytes 3 rest ++ l) → Read s 1 3 (part (sh .size) (sh .rules) (sh .faults) []) l
   unfolding rowBytes advance
   read-faults done [] l e h = rw (← e, append-nil done) h
   read-faults done (r ∷ rest) l e h =
       read-faults (done ++ r ∷ []) rest l (append-snoc done r rest ∙ e)
       (read-fault r (record {
-        follows = record { inside = all-at (RowIn (sh .size)) done r rest (rw e (w .faults)); later = ascending-last (λ q r. Before (rowOf q) (rowOf r)) done r rest (rw e (w .faults-ascend)) };
+        follows = record {
+          inside = all-at (RowIn (sh .size)) done r rest (rw e (w .faults));
+          later = ascending-last (λ q r. Before (rowOf q) (rowOf r)) done r rest (rw e (w .faults-ascend));
+        };
         mutating = all-at (Mutates (sh .rules)) done r rest (rw e (w .faults-mutate));
         few = short-of done r rest 256 (rw e (w .few-faults));
       }) h)
@@ -201,7 +205,8 @@ module _ (sh : Sheet) (w : WellFormed sh) (s : List ℕ) where
   read-presses before done [] l t h = rw (append-nil done) h
   read-presses before done (x ∷ rest) l t h =
       let t' : TestIn (sh .rules) ((done ++ x ∷ []) ++ rest) = rw append-snoc t in
-      let right : refusal (upto (before ++ done ∷ [])) (press x) ≡ 0 = right-press (upto (before ++ done ∷ [])) x (w .rules) (rw (last-test before done) (test-front (sh .rules) (done ++ x ∷ []) rest t')) in
+      let right : refusal (upto (before ++ done ∷ [])) (press x) ≡ 0 =
+      right-press (upto (before ++ done ∷ [])) x (w .rules) (rw (last-test before done) (test-front (sh .rules) (done ++ x ∷ []) rest t')) in
       let h' : Read s 4 4 (upto (before ++ (done ++ x ∷ []) ∷ [])) (pressBytes rest ++ l) = rw (press-last before done x) at (read-press x right h) in
       rw (append-snoc done x rest) at (read-presses before (done ++ x ∷ []) rest l t' h')
 

@@ -1,18 +1,18 @@
 -- Small laws that the others share.
-use mathlib.Core.Path.{_≡_, refl, ap, sym, _∙_}
-use mathlib.Core.Bool.{Bool, true, false, _&&_, _||_, not, cond}
-use mathlib.Core.Logic.{_⊎_, inl, inr, ⊎-elim}
+use mathlib.Core.Path.{_≡_, refl}
+use mathlib.Core.Bool.{Bool, true, false, _&&_, _||_, cond}
+use mathlib.Core.Logic.{_⊎_, inl, inr}
 use mathlib.Core.List.{List, [], _∷_, _++_}
-use Prim.Native.Nat.{ℕ, zero, suc, _+_, _<_, _≤_}
+use Prim.Native.Nat.{ℕ, _≤_}
 use native.Mathlib.Omega.{arith}
-use lib.Dec.{eqb}
-use borrow.Author.Tests.{eqb-true, eqb-false}
 use Rattle.sheet.specs.Lists.{All}
 use Rattle.sheet.specs.Reading.{firstBroken}
 
+-- two different numbers are never equal
 pub never : {A : Type 0} → _≡_ {A = ℕ} 0 1 → A
 never z = absurd (omega arith)
 
+-- tests joined by and, or by or
 pub both : (a b : Bool) → a && b ≡ true → (a ≡ true) × (b ≡ true)
 both true b h = (refl, h)
 both false b h = never (cc)
@@ -32,13 +32,14 @@ or-right true b e = refl
 or-right false b e = e
 
 module _ {A : Type 0} (P : A → Type 0) where
+  -- one element more; an element of the list; the empty list
   pub all-snoc : (l : List A) (a : A) → All P l → P a → All P (l ++ a ∷ [])
   all-snoc [] a h e = (e, tt)
   all-snoc (b ∷ l) a h e = (h .0, all-snoc l a (h .1) e)
 
-  pub all-end : (l : List A) (a : A) → All P (l ++ a ∷ []) → P a
-  all-end [] a h = h .0
-  all-end (b ∷ l) a h = all-end l a (h .1)
+  pub all-at : (l : List A) (a : A) (rest : List A) → All P (l ++ a ∷ rest) → P a
+  all-at [] a rest h = h .0
+  all-at (b ∷ l) a rest h = all-at l a rest (h .1)
 
   pub all-none : (l : List A) → l ≡ [] → All P l
   all-none l e = rw e tt
@@ -63,6 +64,7 @@ unbroken (c ∷ l) h e = one (c .0) refl e (unbroken l (h .1))
     one true u k ih = let some = h .0 in absurd (omega arith)
     one false u k ih = (u, ih k)
 
+-- and the other way round
 pub unbroken-all : (l : List (Bool × ℕ)) → All (λ c. c .0 ≡ false) l → firstBroken l ≡ 0
 unfolding firstBroken
 unbroken-all [] h = refl

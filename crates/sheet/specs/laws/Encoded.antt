@@ -12,9 +12,9 @@ use borrow.Author.Tests.{ne-eqb}
 use Rattle.sheet.specs.declared.Row.{Row}
 use Rattle.sheet.specs.declared.Size.{Size}
 use Rattle.sheet.specs.Sheet.{Sheet}
-use Rattle.sheet.specs.Reading.{Reading, accepted, Command, size, rule, fault, test, press, Progress, rowAt, sizeAt, addPress, advance, blank, reading}
+use Rattle.sheet.specs.Reading.{accepted, size, rule, fault, test, press, Progress, rowAt, sizeAt, addPress, advance, blank, reading}
 use Rattle.sheet.specs.Encode.{sizeBytes, rowBytes, pressBytes, testBytes, machineBytes, body, encode}
-use Rattle.sheet.specs.laws.Steps.{Stands, Moves, by-size, by-rule, by-fault, by-test, by-press, Ends, Accepting, accepting}
+use Rattle.sheet.specs.laws.Steps.{Moves, by-size, by-rule, by-fault, by-test, by-press, Ends, accepting}
 use Rattle.sheet.specs.laws.Ordered.{Ordered, ordered-blank, ordered-on}
 
 -- n bytes from at + i

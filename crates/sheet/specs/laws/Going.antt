@@ -1,22 +1,23 @@
 -- A reading on its way: from here on it ends as the whole reading does.
-use mathlib.Core.Path.{_≡_, refl, sym, _∙_}
-use mathlib.Core.Bool.{true, false, not, cond}
-use mathlib.Core.List.{List, [], _∷_}
+use mathlib.Core.Path.{_≡_, refl, sym}
+use mathlib.Core.Bool.{true}
+use mathlib.Core.List.{List}
 use Prim.Native.Nat.{ℕ, zero, suc, _+_, _<_, _≤_}
 use native.Mathlib.Omega.{arith}
-use lib.ListN.{length, getD}
-use lib.Dec.{leb, ltb, eqb}
+use lib.ListN.{length}
 use borrow.Author.Tests.{lt-leb, le-leb, le-ltb}
 use Rattle.sheet.specs.Sheet.{Sheet, allReached, openPairs}
-use Rattle.sheet.specs.Reading.{Reading, accepted, Progress, go, stop, finishing, doing, step, resume, from, blank, reading}
+use Rattle.sheet.specs.Reading.{accepted, Progress, go, stop, finishing, doing, step, from, blank, reading}
 use Rattle.sheet.specs.laws.Basics.{unbroken-all}
-use Rattle.sheet.specs.laws.Steps.{Stands, Moves, by-size, by-rule, by-fault, by-test, by-press, moves-on, Ends, checks}
+use Rattle.sheet.specs.laws.Steps.{Moves, by-size, by-rule, by-fault, by-test, by-press, moves-on, Ends, checks}
 
+-- enough fuel is left
 pub record Going (s : List ℕ) (p : Progress) (at : ℕ) : Type 0 where
   pub fuel : ℕ
   pub enough : length s < fuel + at
   pub rest : from fuel p s at ≡ reading s
 
+-- at the start
 pub going-start : (s : List ℕ) → length s ≤ 16384 → Going s blank 0
 unfolding reading
 going-start s k = record { fuel = length s + 1; enough = omega arith; rest = rw (le-ltb 16384 (length s) k) }
@@ -36,10 +37,12 @@ module _ {p : Progress} {s : List ℕ} {at : ℕ} where
   stepped (by-press m) =
       rw (lt-leb (length s) at (omega arith), m .byte, le-leb 4 (p .phase) (m .early), le-leb (p .phase) 4 (m .late), le-ltb (length s) (at + 2) (m .room), m .right)
 
+  -- END stops it
   pub stopped : Ends p s at → step p s at ≡ stop (finishing (p .sheet) s at)
   unfolding step doing
   stopped m = rw (lt-leb (length s) at (omega arith), m .byte, le-leb 1 (p .phase) (m .early), le-leb (p .phase) 4 (m .late), le-ltb (length s) (at + 1) (m .room))
 
+  -- with one command more
   pub going-on : {q : Progress} {e : ℕ} → Going s p at → Moves p s at q e → Going s q e
   unfolding from
   going-on {q} {e} g m = one (g .fuel) (g .enough) (g .rest)
@@ -48,6 +51,7 @@ module _ {p : Progress} {s : List ℕ} {at : ℕ} where
       one zero k r = let far = moves-on m in absurd (omega arith)
       one (suc f) k r = let far = moves-on m in record { fuel = f; enough = omega arith; rest = rw (stepped m) at r }
 
+  -- at END
   pub going-end : Going s p at → Ends p s at → reading s ≡ finishing (p .sheet) s at
   unfolding from
   going-end g m = one (g .fuel) (g .enough) (g .rest)

@@ -1,12 +1,11 @@
 -- What each phase leaves empty: the parts of a sheet come one after another.
 use mathlib.Core.Path.{_≡_, refl, ap}
-use mathlib.Core.List.{List, [], _∷_, _++_}
-use Prim.Native.Nat.{ℕ, suc, _+_, _<_, _≤_}
+use mathlib.Core.List.{List, [], _∷_}
+use Prim.Native.Nat.{ℕ, suc, _<_, _≤_}
 use native.Mathlib.Omega.{arith}
 use lib.ListN.{length, length-append}
-use Rattle.sheet.specs.Sheet.{Sheet}
 use Rattle.sheet.specs.Reading.{Progress, addPress, advance, blank}
-use Rattle.sheet.specs.laws.Steps.{Stands, Moves, by-size, by-rule, by-fault, by-test, by-press}
+use Rattle.sheet.specs.laws.Steps.{Moves, by-size, by-rule, by-fault, by-test, by-press}
 
 pub record Ordered (p : Progress) : Type 0 where
   pub rules : p .phase ≤ 1 → p .sheet .rules ≡ []
@@ -14,12 +13,14 @@ pub record Ordered (p : Progress) : Type 0 where
   pub tests : p .phase ≤ 3 → p .sheet .tests ≡ []
   pub begun : 4 ≤ p .phase → 0 < length (p .sheet .tests)
 
+-- a PRESS adds no test
 pub press-length : (l : List (List ℕ)) (x : ℕ) → length (addPress l x) ≡ length l
 unfolding addPress
 press-length [] x = refl
 press-length (y ∷ []) x = refl
 press-length (y ∷ w ∷ l) x = ap suc (press-length (w ∷ l) x)
 
+-- the blank progress is ordered, and every command keeps the order
 pub ordered-blank : Ordered blank
 unfolding blank
 ordered-blank = record { rules = λ _. refl; faults = λ _. refl; tests = λ _. refl; begun = λ k. absurd (omega arith) }

@@ -4,7 +4,7 @@ use mathlib.Core.Bool.{Bool, true, false, _||_, _&&_, cond}
 use mathlib.Core.Logic.{⊎-elim}
 use mathlib.Core.Option.{Option, none, some}
 use mathlib.Core.List.{List, [], _∷_, _++_}
-use Prim.Native.Nat.{ℕ, zero, suc, _+_, _<_, _≤_}
+use Prim.Native.Nat.{ℕ, zero, suc, _<_, _≤_}
 use native.Mathlib.Omega.{arith}
 use lib.Dec.{eqb}
 use borrow.Author.Tests.{eqb-true, eqb-false, eq-eqb}
@@ -23,6 +23,7 @@ below {P} n h e i k = one (eqb i n) refl
     one true q = subst P (sym (eqb-true i n q)) e
     one false q = let ne = eqb-false i n q in h i (omega arith)
 
+-- one number below n passes
 pub any-some : (p : ℕ → Bool) (n : ℕ) → any p n ≡ true → (i : ℕ) × (i < n) × (p i ≡ true)
 unfolding any
 any-some p zero h = never (cc)
@@ -38,6 +39,7 @@ unfolding any
 any-same p q zero h = refl
 any-same p q (suc n) h = rw (h n (omega arith), any-same p q n (λ i k. h i (omega arith)))
 
+-- all numbers below n pass
 pub all-each : (p : ℕ → Bool) (n : ℕ) → all p n ≡ true → (i : ℕ) → i < n → p i ≡ true
 unfolding all
 all-each p zero h i k = absurd (omega arith)
@@ -48,6 +50,7 @@ unfolding all
 each-all p zero h = refl
 each-all p (suc n) h = rw (h n (omega arith)) (each-all p n (λ i k. h i (omega arith)))
 
+-- at most n numbers below n pass
 pub count-most : (p : ℕ → Bool) (n : ℕ) → count p n ≤ n
 unfolding count
 count-most p zero = omega arith
@@ -58,14 +61,14 @@ count-most p (suc n) = one (p n) (count-most p n)
     one false h = omega arith
 
 -- one of two sets of numbers within the other: no fewer pass, and the same ones or more
-record Within (p q : ℕ → Bool) (n : ℕ) : Type 0 where
+record Inside (p q : ℕ → Bool) (n : ℕ) : Type 0 where
   each : (i : ℕ) → i < n → p i ≡ true → q i ≡ true
 
 data Grows (p q : ℕ → Bool) (n : ℕ) : Type 0 where
   same : ((i : ℕ) → i < n → q i ≡ p i) → Grows p q n
   more : count p n < count q n → Grows p q n
 
-count-up : (p q : ℕ → Bool) (n : ℕ) → Within p q n → count p n ≤ count q n
+count-up : (p q : ℕ → Bool) (n : ℕ) → Inside p q n → count p n ≤ count q n
 unfolding count
 count-up p q zero h = omega arith
 count-up p q (suc n) h = one (p n) refl (q n) refl (count-up p q n (record { each = λ i k. h .each i (omega arith) }))
@@ -76,11 +79,11 @@ count-up p q (suc n) h = one (p n) refl (q n) refl (count-up p q n (record { eac
     one false e true f k = omega arith
     one false e false f k = k
 
-grows : (p q : ℕ → Bool) (n : ℕ) → Within p q n → Grows p q n
+grows : (p q : ℕ → Bool) (n : ℕ) → Inside p q n → Grows p q n
 unfolding count
 grows p q zero h = same (λ i k. absurd (omega arith))
 grows p q (suc n) h =
-    let rest : Within p q n = record { each = λ i k. h .each i (omega arith) } in
+    let rest : Inside p q n = record { each = λ i k. h .each i (omega arith) } in
     one (p n) refl (q n) refl (grows p q n rest) (count-up p q n rest)
   where
     one : (a : Bool) → p n ≡ a → (b : Bool) → q n ≡ b → Grows p q n → count p n ≤ count q n → Grows p q (suc n)

@@ -6,7 +6,7 @@ use native.Mathlib.Omega.{arith}
 use lib.ListN.{length}
 use Rattle.sheet.specs.Reading.{Reading, refused, reading}
 use Rattle.sheet.specs.laws.Basics.{never}
-use Rattle.sheet.specs.laws.Steps.{Refuses, Ending, accepts, rejects, ending}
+use Rattle.sheet.specs.laws.Steps.{Ending, accepts, rejects, ending}
 
 -- reading refuses with one of 01's numbers 1 to 12, at a place of the sheet or its end
 pub refusal-numbers : (s : List ℕ) (number place : ℕ) → reading s ≡ refused number place → (1 ≤ number) × (number ≤ 12) × (place ≤ length s)

@@ -1,13 +1,13 @@
 -- A command breaks no rule exactly if what it adds is well formed.
-use mathlib.Core.Path.{_≡_, refl, ap, sym, _∙_, subst}
-use mathlib.Core.Bool.{Bool, true, false, _&&_, not, cond}
+use mathlib.Core.Path.{_≡_, refl, ap, sym, _∙_}
+use mathlib.Core.Bool.{Bool, true, false, _&&_, not}
 use mathlib.Core.Option.{Option, none, some}
 use mathlib.Core.List.{List, [], _∷_, _++_}
-use Prim.Native.Nat.{ℕ, zero, suc, _+_, _<_, _≤_}
+use Prim.Native.Nat.{ℕ, _<_}
 use native.Mathlib.Omega.{arith}
 use lib.ListN.{length, length-append}
 use lib.Dec.{eqb, leb, ltb}
-use borrow.Author.Tests.{ltb-true, lt-ltb, leb-true, leb-false, le-leb, lt-leb, eqb-true, eq-eqb, not-false, not-true}
+use borrow.Author.Tests.{ltb-true, lt-ltb, leb-true, leb-false, le-leb, lt-leb, eqb-true, eq-eqb, not-false}
 use Rattle.sheet.specs.declared.Row.{Row}
 use Rattle.sheet.specs.declared.Size.{Size}
 use Rattle.sheet.specs.Lists.{maybe, isNone, last, All, Before}
@@ -23,6 +23,7 @@ one-to-16 n h = let t = both (leb 1 n) (leb n 16) h in record { some = leb-true 
 from-one-to-16 : (n : ℕ) → OneTo16 n → inOneTo16 n ≡ true
 from-one-to-16 n h = and-both (leb 1 n) (leb n 16) (le-leb 1 n (h .some)) (le-leb n 16 (h .few))
 
+-- what is computed is what is meant: sizes
 pub size-in : (z : Size) → sizeInRange z ≡ true → SizeIn z
 size-in z h =
     let t = both (inOneTo16 (z .states)) (inOneTo16 (z .inputs) && inOneTo16 (z .outputs)) h in
@@ -32,6 +33,7 @@ size-in z h =
 pub in-size : (z : Size) → SizeIn z → sizeInRange z ≡ true
 in-size z h = rw (from-one-to-16 (z .states) (h .states), from-one-to-16 (z .inputs) (h .inputs), from-one-to-16 (z .outputs) (h .outputs))
 
+-- rows in range
 pub row-in : (z : Size) (r : Row) → inRange z r ≡ true → RowIn z r
 row-in z r h =
     let t = both (ltb (r .source) (z .states) && ltb (r .input) (z .inputs)) (ltb (r .output) (z .outputs) && ltb (r .target) (z .states)) h in
@@ -50,6 +52,7 @@ same-row : (r q : Row) → q .source ≡ r .source → q .input ≡ r .input →
 same-row r q a b c d = rw (a, b, c, d)
 
 module _ (rules : List Row) (r : Row) where
+  -- a fault has a rule at its pair and is another
   pub mutates : isOther (ruleAt rules (r .source) (r .input)) r ≡ true → Mutates rules r
   mutates = one (ruleAt rules (r .source) (r .input)) refl
     where
@@ -73,6 +76,7 @@ module _ (rules : List Row) (r : Row) where
       one false e = refl
 
 module _ (sh : Sheet) where
+  -- SIZE
   pub size-right : (z : Size) → refusal sh (size z) ≡ 0 → SizeIn z
   unfolding refusal
   size-right z e = size-in z (not-false _ (unbroken _ (omega arith, tt) e .0))
@@ -86,12 +90,14 @@ pub record Follows (key : Row → List ℕ) (z : Size) (rows : List Row) (r : Ro
   pub inside : RowIn z r
   pub later : (q : Row) → last rows ≡ some q → Before (key q) (key r)
 
+-- a fault that may be added
 pub record FaultRight (sh : Sheet) (r : Row) : Type 0 where
   pub follows : Follows rowOf (sh .size) (sh .faults) r
   pub mutating : Mutates (sh .rules) r
   pub few : length (sh .faults) < 256
 
 module _ (sh : Sheet) (r : Row) where
+  -- RULE
   pub rule-right : refusal sh (rule r) ≡ 0 → Follows pairOf (sh .size) (sh .rules) r
   unfolding refusal
   rule-right e =
@@ -102,6 +108,7 @@ module _ (sh : Sheet) (r : Row) where
   unfolding refusal
   right-rule h = unbroken-all _ (ap not (in-row (sh .size) r (h .inside)), (ap not (last-ascends pairOf (sh .rules) r (h .later)), tt))
 
+  -- FAULT
   pub fault-right : refusal sh (fault r) ≡ 0 → FaultRight sh r
   unfolding refusal
   fault-right e =
@@ -123,6 +130,7 @@ module _ (sh : Sheet) (r : Row) where
   )
 
 module _ (sh : Sheet) where
+  -- TEST
   pub test-right : refusal sh test ≡ 0 → length (sh .tests) < 256
   unfolding refusal
   test-right e = leb-false _ _ (unbroken _ (omega arith, tt) e .0)
@@ -131,6 +139,7 @@ module _ (sh : Sheet) where
   unfolding refusal
   right-test h = unbroken-all _ (lt-leb 256 (length (sh .tests)) h, tt)
 
+  -- PRESS: the last test with the input more is one
   pub press-right : (x : ℕ) → refusal sh (press x) ≡ 0 → TestIn (sh .rules) (lastTest (sh .tests) ++ x ∷ [])
   unfolding refusal
   press-right x e =
@@ -138,7 +147,8 @@ module _ (sh : Sheet) where
       let k = leb-false 256 (length (lastTest (sh .tests))) (u .1 .0) in
       one k (ruleAfter (sh .rules) (lastTest (sh .tests)) x) refl (u .1 .1 .0)
     where
-      one : length (lastTest (sh .tests)) < 256 → (o : Option Row) → ruleAfter (sh .rules) (lastTest (sh .tests)) x ≡ o → isNone o ≡ false → TestIn (sh .rules) (lastTest (sh .tests) ++ x ∷ [])
+      one : length (lastTest (sh .tests)) < 256 → (o : Option Row) → ruleAfter (sh .rules) (lastTest (sh .tests)) x ≡ o → isNone o ≡ false
+          → TestIn (sh .rules) (lastTest (sh .tests) ++ x ∷ [])
       one k none q h = never (cc)
       one k (some r) q h = record { reached = r .target; defined = after-press (sh .rules) (lastTest (sh .tests)) x ∙ (rw q); short = simp length-append (omega arith) }
 
@@ -152,13 +162,15 @@ module _ (sh : Sheet) where
       short : length ys < 256
       short = let k = simp length-append at (h .short) in omega arith
 
-      at-state : (s : ℕ) (o : Option Row) → ruleAt (sh .rules) s x ≡ o → maybe o none (λ r. some (r .target)) ≡ some (h .reached) → (leb (sh .size .inputs) x ≡ false) × (isNone o ≡ false)
+      at-state : (s : ℕ) (o : Option Row) → ruleAt (sh .rules) s x ≡ o → maybe o none (λ r. some (r .target)) ≡ some (h .reached)
+          → (leb (sh .size .inputs) x ≡ false) × (isNone o ≡ false)
       at-state s none q d = never (cc)
       at-state s (some r) q d =
           let i = rule-has s x (RowIn (sh .size)) (sh .rules) r a q in
           let at = rule-at s x (sh .rules) r q in
           (lt-leb (sh .size .inputs) x (omega arith), refl)
 
-      go : (o : Option ℕ) → after (sh .rules) 0 ys ≡ o → maybe (maybe o none (λ s. ruleAt (sh .rules) s x)) none (λ r. some (r .target)) ≡ some (h .reached) → refusal sh (press x) ≡ 0
+      go : (o : Option ℕ) → after (sh .rules) 0 ys ≡ o → maybe (maybe o none (λ s. ruleAt (sh .rules) s x)) none (λ r. some (r .target)) ≡ some (h .reached)
+          → refusal sh (press x) ≡ 0
       go none q d = never (cc)
       go (some s) q d = let t = at-state s (ruleAt (sh .rules) s x) refl d in unbroken-all _ (t .0, (lt-leb 256 (length ys) short, (rw q (t .1), tt)))

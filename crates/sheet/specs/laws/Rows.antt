@@ -1,10 +1,10 @@
 -- Rows in order, rules at a pair, sequences along rules.
-use mathlib.Core.Path.{_≡_, refl, ap, sym, _∙_, subst}
-use mathlib.Core.Bool.{Bool, true, false, _&&_, _||_, cond}
-use mathlib.Core.Logic.{_⊎_, inl, inr, ⊎-elim}
+use mathlib.Core.Path.{_≡_, refl, _∙_, subst}
+use mathlib.Core.Bool.{Bool, true, false, _&&_, cond}
+use mathlib.Core.Logic.{inl, inr, ⊎-elim}
 use mathlib.Core.Option.{Option, none, some}
 use mathlib.Core.List.{List, [], _∷_, _++_}
-use Prim.Native.Nat.{ℕ, zero, suc, _<_, _≤_}
+use Prim.Native.Nat.{ℕ, _≤_}
 use native.Mathlib.Omega.{arith}
 use lib.ListN.{length}
 use lib.Dec.{eqb, ltb}
@@ -14,7 +14,7 @@ use Rattle.sheet.specs.Lists.{maybe, first, last, All, Ascending, Before
 use Rattle.sheet.specs.Sheet.{Sheet, pairOf, isAt, rowsAt, ruleAt, after}
 use Rattle.sheet.specs.Reading.{ascends, ruleAfter}
 use Rattle.sheet.specs.WellFormed.{WellFormed}
-use Rattle.sheet.specs.laws.Basics.{never, both, either, or-left, or-right, and-both, all-snoc, all-end}
+use Rattle.sheet.specs.laws.Basics.{never, both, either, or-left, or-right, and-both, all-snoc, all-at}
 
 -- what is computed is the dictionary order
 pub precedes-before : (xs ys : List ℕ) → precedes xs ys ≡ true → Before xs ys
@@ -33,6 +33,7 @@ before-precedes (x ∷ xs) (y ∷ ys) (inl k) = or-left (ltb x y) (eqb x y && pr
 before-precedes (x ∷ xs) (y ∷ ys) (inr k) =
     or-right (ltb x y) (eqb x y && precedes xs ys) (and-both (eqb x y) (precedes xs ys) (eq-eqb x y (k .0)) (before-precedes xs ys (k .1)))
 
+-- the order is transitive, and nothing stands before itself
 pub before-trans : (xs ys zs : List ℕ) → Before xs ys → Before ys zs → Before xs zs
 unfolding Before
 before-trans [] ys zs h k = absurd h
@@ -49,6 +50,7 @@ before-irreflexive [] h = h
 before-irreflexive (x ∷ xs) (inl k) = omega arith
 before-irreflexive (x ∷ xs) (inr k) = before-irreflexive xs (k .1)
 
+-- the last of a list is what was added last
 pub last-snoc : {A : Type 0} (l : List A) (a : A) → last (l ++ a ∷ []) ≡ some a
 unfolding last
 last-snoc [] a = refl
@@ -63,7 +65,7 @@ module _ {A : Type 0} (R : A → A → Type 0) where
   ascending-snoc trans (x ∷ []) a h k = ((k x refl, tt), (tt, tt))
   ascending-snoc trans (x ∷ y ∷ l) a h k =
       let rest = ascending-snoc trans (y ∷ l) a (h .1) k in
-      (all-snoc (R x) (y ∷ l) a (h .0) (trans x y a (h .0 .0) (all-end (R y) l a (rest .0))), rest)
+      (all-snoc (R x) (y ∷ l) a (h .0) (trans x y a (h .0 .0) (all-at (R y) l a [] (rest .0))), rest)
 
   -- an element stands after the last of those before it
   pub ascending-last : (l : List A) (a : A) (rest : List A) → Ascending R (l ++ a ∷ rest) → (q : A) → last l ≡ some q → R q a
@@ -73,6 +75,7 @@ module _ {A : Type 0} (R : A → A → Type 0) where
   ascending-last (x ∷ y ∷ l) a rest h q e = ascending-last (y ∷ l) a rest (h .1) q e
 
 module _ (key : Row → List ℕ) (rows : List Row) (r : Row) where
+  -- a row ascends exactly if it stands after the last one
   pub ascends-last : ascends key rows r ≡ true → (q : Row) → last rows ≡ some q → Before (key q) (key r)
   unfolding ascends
   ascends-last h q e = precedes-before (key q) (key r) (rw e at h)
@@ -161,6 +164,7 @@ after-snoc rules s (y ∷ xs) x = one (ruleAt rules s y) (λ u. after-snoc rules
     one none h = refl
     one (some r) h = h (r .target)
 
+-- the same, for a test with one PRESS more
 pub after-press : (rules : List Row) (xs : List ℕ) (x : ℕ) → after rules 0 (xs ++ x ∷ []) ≡ maybe (ruleAfter rules xs x) none (λ r. some (r .target))
 unfolding ruleAfter
 after-press rules xs x = after-snoc rules 0 xs x ∙ one (after rules 0 xs)

@@ -1,15 +1,15 @@
 -- How one command of a sheet goes on or stops, and the one induction over a whole reading.
-use mathlib.Core.Path.{_≡_, refl, ap, sym, _∙_, subst}
-use mathlib.Core.Bool.{Bool, true, false, cond, _&&_, not}
+use mathlib.Core.Path.{_≡_, refl, subst}
+use mathlib.Core.Bool.{Bool, true, false, cond, not}
 use mathlib.Core.List.{List, [], _∷_}
 use Prim.Native.Nat.{ℕ, zero, suc, _+_, _<_, _≤_}
 use native.Mathlib.Omega.{arith}
 use lib.ListN.{length, getD}
 use lib.Dec.{leb, ltb, eqb}
-use borrow.Author.Tests.{leb-true, leb-false, ltb-true, ltb-false, eqb-true, eqb-false, ne-eqb, le-leb, lt-leb, le-ltb, not-true, not-false}
+use borrow.Author.Tests.{leb-true, leb-false, ltb-true, ltb-false, eqb-true, eqb-false, ne-eqb, not-false}
 use Rattle.sheet.specs.Sheet.{Sheet, allReached, openPairs}
-use Rattle.sheet.specs.Reading.{Result, accepted, refused, Reading, Command, size, rule, fault, test, press, end, Progress, Outcome, go, stop, unsized, sized, ruled, faulted, testing, during, allowed, width, rowAt, sizeAt, commandOf, firstBroken, refusal, advance, refuseOr, finishing, doing, step, resume, from, blank, reading}
-use Rattle.sheet.specs.laws.Basics.{never, both, broken-most, unbroken, unbroken-all}
+use Rattle.sheet.specs.Reading.{accepted, refused, Reading, Command, size, rule, fault, test, press, end, Progress, Outcome, go, stop, unsized, sized, ruled, faulted, testing, during, allowed, width, rowAt, sizeAt, firstBroken, refusal, advance, refuseOr, finishing, doing, step, resume, from, blank, reading}
+use Rattle.sheet.specs.laws.Basics.{never, both, broken-most, unbroken}
 
 -- a command with the byte b stands at a place, in one of its phases, with its operands, and breaks no rule
 pub record Stands (p : Progress) (s : List ℕ) (at b earliest latest : ℕ) (c : Command) : Type 0 where
@@ -37,9 +37,11 @@ pub record Refuses (s : List ℕ) (number place : ℕ) : Type 0 where
   pub listed : number ≤ 12
   pub inside : place ≤ length s
 
+-- END stands here
 abbrev pub Ends : Progress → List ℕ → ℕ → Type 0
 Ends p s at = Stands p s at 6 sized testing end
 
+-- all ways in which one command ends
 pub data Case (p : Progress) (s : List ℕ) (at : ℕ) : Outcome → Type 0 where
   moves : (q : Progress) (e : ℕ) → Moves p s at q e → Case p s at (go q e)
   ends : Ends p s at → Case p s at (stop (finishing (p .sheet) s at))
@@ -54,6 +56,7 @@ refusal-most sh test = broken-most 12 _ (omega arith, tt)
 refusal-most sh (press x) = broken-most 12 _ (omega arith, (omega arith, (omega arith, tt)))
 refusal-most sh end = omega arith
 
+-- END itself breaks no rule
 pub refusal-end : (sh : Sheet) → refusal sh end ≡ 0
 unfolding refusal
 refusal-end sh = refl
@@ -149,6 +152,7 @@ pub record Accepting (Inv : Progress → ℕ → Type 0) (s : List ℕ) (sh : Sh
   pub reached : allReached sh ≡ true
   pub few-open : openPairs sh ≤ 32
 
+-- all ways in which a reading ends
 pub data Ending (Inv : Progress → ℕ → Type 0) (s : List ℕ) : Reading → Type 0 where
   accepts : (sh : Sheet) → Accepting Inv s sh → Ending Inv s (accepted sh)
   rejects : (number place : ℕ) → Refuses s number place → Ending Inv s (refused number place)
@@ -197,6 +201,7 @@ module _ (Inv : Progress → ℕ → Type 0) (s : List ℕ) where
         one true e = let k = ltb-true 16384 (length s) e in rejects 1 16384 (record { some = omega arith; listed = omega arith; inside = omega arith })
         one false e = ending-from (length s + 1) blank 0 (omega arith) (omega arith) i
 
+    -- the same for an accepted sheet
     pub accepting : (sh : Sheet) → Inv blank 0 → reading s ≡ accepted sh → Accepting Inv s sh
     accepting sh i = one (reading s) (ending i)
       where

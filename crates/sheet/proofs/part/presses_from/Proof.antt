@@ -1,0 +1,78 @@
+use Prim.Native.Nat.{ℕ, _+_, _*_, _-_, _≤_}
+use mathlib.Core.Path.{_≡_, ap, sym, _∙_}
+use mathlib.Core.List.{List, _++_}
+use native.Mathlib.Omega.{arith}
+use lib.ListN.{length, drop}
+use denote.Ref.{now}
+use Rattle.sheet.specs.Reading.{width}
+use Rattle.sheet.specs.Encode.{pressBytes}
+use Rattle.sheet.specs.Places.{Calm}
+use Rattle.sheet.proofs.PlaceLaws as laws
+use borrow.Author.Needs.{needs}
+use Rattle.sheet.proofs.part.presses_from.Statement.{statement}
+use Rattle.sheet.proofs.part.presses_from.Tie as tie
+use Rattle.sheet.proofs.fetch.fetch_from.Reads as fetch-from-reads
+use Rattle.sheet.proofs.fetch.item_in.Reads as item-in-reads
+
+abbrev Inv-loop : tie.InvT-loop
+Inv-loop sheet place n₀ at₀ n at = (at ≡ place + 2 * n) × (at ≤ length sheet) × ((xs rest : List ℕ) → drop place sheet ≡ pressBytes xs ++ rest → Calm rest → laws.Left sheet xs rest n at)
+
+abbrev μ-loop : tie.MeasureT-loop
+μ-loop sheet place n₀ at₀ n at = length sheet - at
+
+loop-holds : tie.Need-loop-holds Inv-loop μ-loop
+loop-holds c = (omega arith, omega arith, λ xs rest e calm. laws.left-start _ e)
+
+fetch-from-requires : tie.Need-fetch-from-requires Inv-loop μ-loop
+fetch-from-requires c κs = search needs
+
+item-in-requires : tie.Need-item-in-requires Inv-loop μ-loop
+item-in-requires c κs = search needs
+
+add-n : tie.Need-add-n Inv-loop μ-loop
+add-n c = omega arith
+
+loop-less : tie.Need-loop-less Inv-loop μ-loop
+loop-less c =
+    let a = c .before .before .before .before .before .before .args in
+    let s = now (a .sheet) in
+    let l = c .before .before .before .before .loop in
+    let f = c .before .before .before .fetch-from in
+    let i = c .before .before .item-in in
+    let w = laws.taken-whole s (l .at) (f .result) (i .result) (f .ensures) (i .ensures) (omega arith) in
+    let e = w .next ∙ ap (λ (b : ℕ). l .at + width b) (sym (w .byte) ∙ c .if1 .taken) in
+    omega (arith, e, w .all, w .next)
+
+loop-again : tie.Need-loop-again Inv-loop μ-loop
+loop-again c =
+    let a = c .before .before .before .before .before .before .args in
+    let s = now (a .sheet) in
+    let l = c .before .before .before .before .loop in
+    let f = c .before .before .before .fetch-from in
+    let i = c .before .before .item-in in
+    let w = laws.taken-whole s (l .at) (f .result) (i .result) (f .ensures) (i .ensures) (omega arith) in
+    let e = w .next ∙ ap (λ (b : ℕ). l .at + width b) (sym (w .byte) ∙ c .if1 .taken) in
+    (omega (arith, e, l .inv .0), omega (arith, w .all, w .next), λ xs rest d calm. laws.left-more s xs rest calm (l .n) (l .at) (i .result) _ w (c .if1 .taken) (l .inv .2 xs rest d calm))
+
+returns : tie.Need-returns Inv-loop μ-loop
+returns c =
+    let a = c .before .before .before .before .before .before .args in
+    let s = now (a .sheet) in
+    let l = c .before .before .before .before .loop in
+    let f = c .before .before .before .fetch-from in
+    let i = c .before .before .item-in in
+    record { within = omega (arith, l .inv .0, l .inv .1); counted = λ xs rest d calm. laws.left-stop s xs rest calm (l .n) (l .at) (f .result) (i .result) (f .ensures) (i .ensures) (c .if1 .left) (l .inv .2 xs rest d calm) }
+
+pub presses-from-spec : {M : Type 1} → statement M
+presses-from-spec =
+    tie.close
+    (tie.spec
+    Inv-loop
+    μ-loop
+    loop-holds
+    fetch-from-requires
+    item-in-requires
+    add-n
+    loop-less
+    loop-again
+    returns)

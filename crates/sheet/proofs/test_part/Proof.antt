@@ -1,0 +1,71 @@
+use native.Mathlib.Omega.{arith}
+use mathlib.Core.Path.{_∙_}
+use denote.Ref.{now}
+use Rattle.sheet.proofs.PartLaws as laws
+use borrow.Author.Needs.{needs}
+use Rattle.sheet.proofs.test_part.Statement.{statement}
+use Rattle.sheet.proofs.test_part.Tie as tie
+use Rattle.sheet.proofs.test_span.Reads as test-span-reads
+
+test-span-requires : tie.Need-test-span-requires
+test-span-requires c κs = search needs
+
+enum-known-parting : tie.Need-enum-known-parting
+enum-known-parting c = search needs
+
+enum-told : tie.Need-enum-told
+enum-told c = search needs
+
+slice-aggregate-result : tie.Need-slice-aggregate-result
+slice-aggregate-result c = search needs
+
+returns : tie.Need-returns
+returns c =
+    let a = c .before .before .before .before .before .args in
+    let s = now (a .sheet) in
+    let t = c .before .before .before .test-span in
+    laws.part-refused s (a .i) (t .result) _ _ (t .ensures) (c .before .enum-told .given .1)
+
+add-end : tie.Need-add-end
+add-end c =
+    let a = c .before .before .before .before .before .before .args in
+    let s = now (a .sheet) in
+    let t = c .before .before .before .before .test-span in
+    let k = laws.part-room s (a .i) (t .result) _ (t .ensures) (c .before .before .parting .given .1) in
+    omega arith
+
+sub-result : tie.Need-sub-result
+sub-result c = search needs
+
+part-result-start : tie.Need-part-result-start
+part-result-start c = search needs
+
+part-result-end : tie.Need-part-result-end
+part-result-end c =
+    let a = c .before .before .before .before .before .before .args in
+    let s = now (a .sheet) in
+    let t = c .before .before .before .before .test-span in
+    let k = laws.part-room s (a .i) (t .result) _ (t .ensures) (c .before .before .parting .given .1) in
+    omega arith
+
+returns-2 : tie.Need-returns-2
+returns-2 c =
+    let a = c .before .before .before .before .before .before .before .args in
+    let s = now (a .sheet) in
+    let t = c .before .before .before .before .before .test-span in
+    laws.part-is s (a .i) (t .result) _ (t .ensures) (c .before .before .before .parting .given .1)
+
+pub test-part-spec : {M : Type 1} → statement M
+test-part-spec =
+    tie.close
+    (tie.spec
+    test-span-requires
+    enum-known-parting
+    enum-told
+    slice-aggregate-result
+    returns
+    add-end
+    sub-result
+    part-result-start
+    part-result-end
+    returns-2)

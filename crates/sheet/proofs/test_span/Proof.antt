@@ -1,0 +1,91 @@
+use native.Mathlib.Omega.{arith}
+use mathlib.Core.Path.{_∙_}
+use denote.Ref.{now}
+use Rattle.sheet.proofs.PartLaws as laws
+use borrow.Author.Needs.{needs}
+use Rattle.sheet.proofs.test_span.Statement.{statement}
+use Rattle.sheet.proofs.test_span.Tie as tie
+use Rattle.sheet.proofs.handed_on.Reads as handed-on-reads
+use Rattle.sheet.proofs.part.test_from.Reads as test-from-reads
+use Rattle.sheet.proofs.read.Reads as read-reads
+
+read-requires : tie.Need-read-requires
+read-requires c κs = search needs
+
+enum-known-reading : tie.Need-enum-known-reading
+enum-known-reading c = search needs
+
+enum-told : tie.Need-enum-told
+enum-told c = search needs
+
+handed-on-requires : tie.Need-handed-on-requires
+handed-on-requires c κs = search needs
+
+returns : tie.Need-returns
+returns c = let a = c .before .before .before .before .before .args in c .handed-on .ensures ∙ laws.span-refused (now (a .sheet)) (a .i) (c .before .before .before .read .result) _ _ (c .before .before .before .read .ensures) (c .before .enum-told .given .1)
+
+mul-place : tie.Need-mul-place
+mul-place c =
+    let a = c .before .before .before .before .before .before .before .before .args in
+    let s = now (a .sheet) in
+    let p = laws.placed s (c .before .before .before .before .before .before .read .result) _ (c .before .before .before .before .before .before .read .ensures) (c .before .before .before .before .reading .given .1) in
+    omega (arith, p .room, p .short)
+
+add-place : tie.Need-add-place
+add-place c =
+    let a = c .before .before .before .before .before .before .before .before .args in
+    let s = now (a .sheet) in
+    let p = laws.placed s (c .before .before .before .before .before .before .read .result) _ (c .before .before .before .before .before .before .read .ensures) (c .before .before .before .before .reading .given .1) in
+    omega (arith, p .room, p .short)
+
+mul-place-2 : tie.Need-mul-place-2
+mul-place-2 c =
+    let a = c .before .before .before .before .before .before .before .before .before .args in
+    let s = now (a .sheet) in
+    let p = laws.placed s (c .before .before .before .before .before .before .before .read .result) _ (c .before .before .before .before .before .before .before .read .ensures) (c .before .before .before .before .before .reading .given .1) in
+    omega (arith, p .room, p .short)
+
+add-place-2 : tie.Need-add-place-2
+add-place-2 c =
+    let a = c .before .before .before .before .before .before .before .before .before .args in
+    let s = now (a .sheet) in
+    let p = laws.placed s (c .before .before .before .before .before .before .before .read .result) _ (c .before .before .before .before .before .before .before .read .ensures) (c .before .before .before .before .before .reading .given .1) in
+    omega (arith, p .room, p .short)
+
+test-from-requires : tie.Need-test-from-requires
+test-from-requires c κs =
+    let a = c .before .before .before .before .before .before .before .before .before .args in
+    let s = now (a .sheet) in
+    let p = laws.placed s (c .before .before .before .before .before .before .before .read .result) _ (c .before .before .before .before .before .before .before .read .ensures) (c .before .before .before .before .before .reading .given .1) in
+    p .room
+
+returns-2 : tie.Need-returns-2
+returns-2 c =
+    let a = c .before .before .before .before .before .before .before .before .before .before .args in
+    let s = now (a .sheet) in
+    let p = laws.placed s (c .before .before .before .before .before .before .before .before .read .result) _ (c .before .before .before .before .before .before .before .before .read .ensures) (c .before .before .before .before .before .before .reading .given .1) in
+    laws.span-is s (a .i) _ p (c .before .before .before .if1 .taken) (c .test-from .result) (c .test-from .ensures)
+
+returns-3 : tie.Need-returns-3
+returns-3 c =
+    let a = c .before .before .before .before .before .before .before .args in
+    let s = now (a .sheet) in
+    let p = laws.placed s (c .before .before .before .before .before .read .result) _ (c .before .before .before .before .before .read .ensures) (c .before .before .before .reading .given .1) in
+    laws.span-none s (a .i) _ p (c .if1 .left)
+
+pub test-span-spec : {M : Type 1} → statement M
+test-span-spec =
+    tie.close
+    (tie.spec
+    read-requires
+    enum-known-reading
+    enum-told
+    handed-on-requires
+    returns
+    mul-place
+    add-place
+    mul-place-2
+    add-place-2
+    test-from-requires
+    returns-2
+    returns-3)
