@@ -1,0 +1,117 @@
+//! Run, first failed test and compare.
+
+use crate::table::Table;
+use ranthelo_bench::families::{self, Family};
+use ranthelo_bench::plain;
+use ranthelo_tests::enumeration::Machine;
+use ranthelo_tests::generator::{self, Random};
+use ranthelo_tests::library::mutation;
+use ranthelo_tests::listed;
+use ranthelo_tests::reference::{Sheet, MOST_BYTES};
+use std::hint::black_box;
+
+pub fn measure(table: &mut Table) {
+    measure_run(table);
+    measure_first_failed(table);
+    measure_compare(table);
+}
+
+/// A board of the sheet, made from a seed.
+fn board(sheet: &Sheet, seed: u64) -> Vec<u8> {
+    let counts = Machine::new(sheet).counts();
+    generator::board(&mut Random::new(seed), &counts)
+}
+
+fn measure_run(table: &mut Table) {
+    run(table, "P7: three inputs", &listed::p1(), &[1], &[0, 1, 0]);
+    let sheet = families::sheet(&families::FULL, 2);
+    let (bytes, board) = (sheet.encode(), board(&sheet, 2));
+    let mut random = Random::new(2);
+    let inputs: Vec<u8> = (0..100_000).map(|_| random.below(16) as u8).collect();
+    run(table, "256 inputs", &bytes, &board, &inputs[..256]);
+    let half = run(table, "50,000 inputs", &bytes, &board, &inputs[..50_000]);
+    let whole = run(table, "100,000 inputs", &bytes, &board, &inputs);
+    table.keep_growth("run", half, whole);
+}
+
+fn run(table: &mut Table, case: &str, sheet: &[u8], board: &[u8], inputs: &[u8]) -> (f64, f64) {
+    let mut buffer = vec![0; inputs.len()];
+    let mut other = buffer.clone();
+    let expected = mutation::checked_run(sheet, board, inputs, inputs.len());
+    let ran = plain::run(sheet, board, inputs, &mut other);
+    assert_eq!(ran.map(|_| other.clone()), expected);
+    table.measure(
+        "run",
+        case,
+        || {
+            let mut answer = [0; 2];
+            mutation::run(black_box(sheet), board, inputs, &mut buffer, &mut answer);
+            black_box(answer);
+        },
+        || {
+            black_box(plain::run(black_box(sheet), board, inputs, &mut other).ok());
+        },
+    )
+}
+
+fn measure_first_failed(table: &mut Table) {
+    first_failed(table, "P8", &listed::p2(), &[1]);
+    let sheet = families::sheet(&families::SILENT, 3);
+    let board = board(&sheet, 3);
+    let start = sheet.encode().len();
+    let middle = start + (MOST_BYTES - start) / 2;
+    let half = families::filled(sheet.clone(), middle, 3).encode();
+    let half = first_failed(table, "half the tests, none fails", &half, &board);
+    let whole = families::filled(sheet, MOST_BYTES, 3).encode();
+    let whole = first_failed(table, "16,384 bytes, none fails", &whole, &board);
+    table.keep_growth("first failed", half, whole);
+}
+
+fn first_failed(table: &mut Table, case: &str, sheet: &[u8], board: &[u8]) -> (f64, f64) {
+    let expected = mutation::checked_first_failed(sheet, board);
+    assert_eq!(plain::first_failed(sheet, board), expected);
+    table.measure(
+        "first failed",
+        case,
+        || {
+            let mut answer = [0; 5];
+            mutation::first_failed(black_box(sheet), board, &mut answer);
+            black_box(answer);
+        },
+        || {
+            black_box(plain::first_failed(black_box(sheet), board).ok());
+        },
+    )
+}
+
+fn measure_compare(table: &mut Table) {
+    compare(table, "P1, board 1", &listed::p1(), &[1]);
+    let family = |table: &mut Table, case, family: &Family| {
+        let sheet = families::sheet(family, 4);
+        compare(table, case, &sheet.encode(), &board(&sheet, 4));
+    };
+    family(table, "16 × 16, one output, conforms", &families::SILENT);
+    family(table, "16 × 16, few outputs", &families::QUIET);
+    family(table, "16 × 16, any outputs", &families::FULL);
+}
+
+fn compare(table: &mut Table, case: &str, sheet: &[u8], board: &[u8]) {
+    let mut buffer = [0; 256];
+    let mut other = buffer;
+    let expected = mutation::checked_compare(sheet, board, 256);
+    let compared = plain::compare(sheet, board, &mut other);
+    let sequence = compared.map(|length| length.map(|length| other[..length].to_vec()));
+    assert_eq!(sequence, expected);
+    table.measure(
+        "compare",
+        case,
+        || {
+            let mut answer = [0; 4];
+            mutation::compare(black_box(sheet), board, &mut buffer, &mut answer);
+            black_box(answer);
+        },
+        || {
+            black_box(plain::compare(black_box(sheet), board, &mut other).ok());
+        },
+    );
+}

@@ -1,0 +1,375 @@
+//! Read, run, first failed test and compare in plain Rust.
+
+use ranthelo_tests::enumeration::Failure;
+use ranthelo_tests::reference::{
+    Refusal, Summary, END, FAULT, MOST_BYTES, MOST_FAULTS, MOST_OPEN_PAIRS, MOST_PRESSES,
+    MOST_TESTS, PRESS, RULE, SIZE, TEST,
+};
+
+/// No rule at a pair.
+pub const NONE: u8 = 255;
+
+/// An output and a next state.
+pub type Move = (u8, u8);
+
+/// Where a pair stands in the tables.
+pub fn pair(state: u8, input: u8) -> usize {
+    usize::from(state) * 16 + usize::from(input)
+}
+
+/// An accepted sheet as tables, indexed by pair.
+pub struct Tables<'a> {
+    pub states: u8,
+    pub inputs: u8,
+    pub outputs: u8,
+    /// The rules, with next state NONE where there is none.
+    pub rules: [Move; 256],
+    /// All faults in order, and where those of a pair begin and end.
+    pub faults: [Move; 256],
+    pub faults_at: [(u16, u16); 256],
+    /// The commands of the tests.
+    pub suite: &'a [u8],
+    pub summary: Summary,
+}
+
+fn refuse<T>(number: usize, place: usize) -> Result<T, Refusal> {
+    Err(Refusal { number, place })
+}
+
+#[derive(Clone, Copy, PartialEq, PartialOrd)]
+enum Phase {
+    Start,
+    Rules,
+    Faults,
+    Tests,
+}
+
+/// Reads a sheet in one pass.
+pub fn load(sheet: &[u8]) -> Result<Tables<'_>, Refusal> {
+    if sheet.len() > MOST_BYTES {
+        return refuse(1, MOST_BYTES);
+    }
+    let (mut n, mut k, mut m) = (0, 0, 0);
+    let mut rules = [(0, NONE); 256];
+    let mut faults = [(0, 0); 256];
+    let mut faults_at = [(0, 0); 256];
+    let (mut rule_count, mut fault_count, mut tests, mut presses) = (0, 0, 0, 0);
+    let (mut last_rule, mut last_fault) = (None, None);
+    let (mut suite_start, mut state) = (None, 0);
+    let mut phase = Phase::Start;
+    let mut at = 0;
+    loop {
+        let rest = &sheet[at..];
+        match *rest {
+            [] => return refuse(2, at),
+            [SIZE, ..] if phase == Phase::Start => {
+                let [_, states, inputs, outputs, ..] = *rest else {
+                    return refuse(2, at);
+                };
+                let fits = |v| (1..=16).contains(&v);
+                if !(fits(states) && fits(inputs) && fits(outputs)) {
+                    return refuse(4, at);
+                }
+                (n, k, m) = (states, inputs, outputs);
+                phase = Phase::Rules;
+                at += 4;
+            }
+            [RULE, ..] if phase == Phase::Rules => {
+                let [_, s, x, o, t, ..] = *rest else {
+                    return refuse(2, at);
+                };
+                if s >= n || x >= k || o >= m || t >= n {
+                    return refuse(5, at);
+                }
+                if last_rule >= Some((s, x)) {
+                    return refuse(6, at);
+                }
+                last_rule = Some((s, x));
+                rules[pair(s, x)] = (o, t);
+                rule_count += 1;
+                at += 5;
+            }
+            [FAULT, ..] if phase == Phase::Rules || phase == Phase::Faults => {
+                let [_, s, x, o, t, ..] = *rest else {
+                    return refuse(2, at);
+                };
+                if s >= n || x >= k || o >= m || t >= n {
+                    return refuse(5, at);
+                }
+                if last_fault >= Some((s, x, o, t)) {
+                    return refuse(6, at);
+                }
+                let p = pair(s, x);
+                if rules[p].1 == NONE || rules[p] == (o, t) {
+                    return refuse(7, at);
+                }
+                if fault_count == MOST_FAULTS {
+                    return refuse(8, at);
+                }
+                last_fault = Some((s, x, o, t));
+                faults[fault_count] = (o, t);
+                if faults_at[p].1 == 0 {
+                    faults_at[p].0 = fault_count as u16;
+                }
+                fault_count += 1;
+                faults_at[p].1 = fault_count as u16;
+                phase = Phase::Faults;
+                at += 5;
+            }
+            [TEST, ..] if phase >= Phase::Rules => {
+                if tests == MOST_TESTS {
+                    return refuse(8, at);
+                }
+                suite_start = suite_start.or(Some(at));
+                tests += 1;
+                presses = 0;
+                state = 0;
+                phase = Phase::Tests;
+                at += 1;
+            }
+            [PRESS, ..] if phase == Phase::Tests => {
+                let [_, x, ..] = *rest else {
+                    return refuse(2, at);
+                };
+                if x >= k {
+                    return refuse(5, at);
+                }
+                if presses == MOST_PRESSES {
+                    return refuse(8, at);
+                }
+                let (_, t) = rules[pair(state, x)];
+                if t == NONE {
+                    return refuse(9, at);
+                }
+                presses += 1;
+                state = t;
+                at += 2;
+            }
+            [END, ..] if phase >= Phase::Rules => break,
+            _ => return refuse(3, at),
+        }
+    }
+    if at + 1 < sheet.len() {
+        return refuse(10, at + 1);
+    }
+    if !reaches_every_state(&rules, n, k) {
+        return refuse(11, at);
+    }
+    let open_pairs = count_open_pairs(&rules, &faults_at, n, k, m);
+    if open_pairs > MOST_OPEN_PAIRS {
+        return refuse(12, at);
+    }
+    Ok(Tables {
+        states: n,
+        inputs: k,
+        outputs: m,
+        rules,
+        faults,
+        faults_at,
+        suite: &sheet[suite_start.unwrap_or(at)..at],
+        summary: Summary {
+            states: n.into(),
+            presses: k.into(),
+            sounds: m.into(),
+            rules: rule_count,
+            faults: fault_count,
+            tests,
+            open_pairs,
+        },
+    })
+}
+
+fn reaches_every_state(rules: &[Move; 256], n: u8, k: u8) -> bool {
+    let mut reached = 1u32;
+    let mut waiting = 1u32;
+    while waiting != 0 {
+        let s = waiting.trailing_zeros() as u8;
+        waiting &= waiting - 1;
+        for x in 0..k {
+            let (_, t) = rules[pair(s, x)];
+            if t != NONE && reached >> t & 1 == 0 {
+                reached |= 1 << t;
+                waiting |= 1 << t;
+            }
+        }
+    }
+    reached.count_ones() == n.into()
+}
+
+fn count_open_pairs(
+    rules: &[Move; 256],
+    faults_at: &[(u16, u16); 256],
+    n: u8,
+    k: u8,
+    m: u8,
+) -> usize {
+    let mut open = 0;
+    for s in 0..n {
+        for x in 0..k {
+            let p = pair(s, x);
+            let unruled = rules[p].1 == NONE && (n > 1 || m > 1);
+            open += usize::from(unruled || faults_at[p].1 > 0);
+        }
+    }
+    open
+}
+
+/// Reads a sheet and gives its summary.
+pub fn read(sheet: &[u8]) -> Result<Summary, Refusal> {
+    load(sheet).map(|tables| tables.summary)
+}
+
+impl Tables<'_> {
+    /// The number of choices at a pair.
+    pub fn choices(&self, pair: usize) -> usize {
+        let (begin, end) = self.faults_at[pair];
+        if self.rules[pair].1 == NONE {
+            usize::from(self.states) * usize::from(self.outputs)
+        } else {
+            1 + usize::from(end - begin)
+        }
+    }
+
+    /// A choice at a pair.
+    pub fn choice(&self, pair: usize, choice: u8) -> Move {
+        if self.rules[pair].1 == NONE {
+            (choice / self.states, choice % self.states)
+        } else if choice == 0 {
+            self.rules[pair]
+        } else {
+            let (begin, _) = self.faults_at[pair];
+            self.faults[usize::from(begin) + usize::from(choice) - 1]
+        }
+    }
+
+    /// The mutant that a board describes: refusals 13 and 14.
+    pub fn mutant(&self, board: &[u8]) -> Result<[Move; 256], Refusal> {
+        if board.len() != self.summary.open_pairs {
+            return refuse(13, 0);
+        }
+        let mut moves = [(0, 0); 256];
+        let mut next = 0;
+        for s in 0..self.states {
+            for x in 0..self.inputs {
+                let p = pair(s, x);
+                let count = self.choices(p);
+                let mut taken = 0;
+                if count > 1 {
+                    taken = board[next];
+                    if usize::from(taken) >= count {
+                        return refuse(14, next);
+                    }
+                    next += 1;
+                }
+                moves[p] = self.choice(p, taken);
+            }
+        }
+        Ok(moves)
+    }
+}
+
+/// Run: one output for each press at the buffer's front.
+pub fn run(sheet: &[u8], board: &[u8], presses: &[u8], buffer: &mut [u8]) -> Result<(), Refusal> {
+    let tables = load(sheet)?;
+    let moves = tables.mutant(board)?;
+    if let Some(index) = presses.iter().position(|&x| x >= tables.inputs) {
+        return refuse(15, index);
+    }
+    if buffer.len() < presses.len() {
+        return refuse(16, 0);
+    }
+    let mut state = 0;
+    for (output, &x) in buffer.iter_mut().zip(presses) {
+        (*output, state) = moves[pair(state, x)];
+    }
+    Ok(())
+}
+
+/// First failed test.
+pub fn first_failed(sheet: &[u8], board: &[u8]) -> Result<Option<Failure>, Refusal> {
+    let tables = load(sheet)?;
+    let moves = tables.mutant(board)?;
+    let (mut begun, mut position) = (0, 0);
+    let (mut specified, mut given) = (0, 0);
+    let mut rest = tables.suite;
+    loop {
+        match *rest {
+            [TEST, ..] => {
+                begun += 1;
+                (position, specified, given) = (0, 0, 0);
+                rest = &rest[1..];
+            }
+            [_, x, ..] => {
+                let (wanted, next) = tables.rules[pair(specified, x)];
+                let (output, other) = moves[pair(given, x)];
+                if output != wanted {
+                    let test = begun - 1;
+                    return Ok(Some(Failure { test, position }));
+                }
+                (specified, given) = (next, other);
+                position += 1;
+                rest = &rest[2..];
+            }
+            _ => return Ok(None),
+        }
+    }
+}
+
+/// Compare: the length of the shortest distinguishing sequence, written to the buffer's front.
+pub fn compare(sheet: &[u8], board: &[u8], buffer: &mut [u8]) -> Result<Option<usize>, Refusal> {
+    let tables = load(sheet)?;
+    let moves = tables.mutant(board)?;
+    if buffer.len() < usize::from(tables.states).pow(2) {
+        return refuse(16, 0);
+    }
+    Ok(distinguish(&tables, &moves, buffer))
+}
+
+/// Breadth first over the pairs of states that are met in step.
+pub fn distinguish(tables: &Tables<'_>, moves: &[Move; 256], sequence: &mut [u8]) -> Option<usize> {
+    let mut seen = [false; 256];
+    let mut queue = [0u8; 256];
+    // How each pair in the queue was met: from which place in the queue, by which input.
+    let mut came = [(0u8, 0u8); 256];
+    seen[0] = true;
+    let (mut head, mut tail) = (0, 1);
+    while head < tail {
+        let (specified, given) = (queue[head] / 16, queue[head] % 16);
+        for x in 0..tables.inputs {
+            let (wanted, next) = tables.rules[pair(specified, x)];
+            if next == NONE {
+                continue;
+            }
+            let (output, other) = moves[pair(given, x)];
+            if output != wanted {
+                return Some(trace(&came, head, x, sequence));
+            }
+            let met = pair(next, other);
+            if !seen[met] {
+                seen[met] = true;
+                queue[tail] = met as u8;
+                came[tail] = (head as u8, x);
+                tail += 1;
+            }
+        }
+        head += 1;
+    }
+    None
+}
+
+/// Writes the inputs that lead to a place in the queue, and one more; gives their number.
+fn trace(came: &[(u8, u8); 256], place: usize, last: u8, sequence: &mut [u8]) -> usize {
+    let mut length = 1;
+    let mut at = place;
+    while at > 0 {
+        length += 1;
+        at = came[at].0.into();
+    }
+    sequence[length - 1] = last;
+    at = place;
+    for slot in sequence[..length - 1].iter_mut().rev() {
+        *slot = came[at].1;
+        at = came[at].0.into();
+    }
+    length
+}

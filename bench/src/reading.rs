@@ -1,0 +1,40 @@
+//! Read.
+
+use crate::table::Table;
+use ranthelo_bench::{families, plain};
+use ranthelo_tests::library::reading;
+use ranthelo_tests::reference::MOST_BYTES;
+use ranthelo_tests::{generator, listed};
+use std::hint::black_box;
+
+pub fn measure(table: &mut Table) {
+    let rules = families::sheet(&families::FULL, 1);
+    let full = families::filled(rules.clone(), MOST_BYTES, 1);
+    let mut bare = rules;
+    bare.faults.clear();
+    one(table, "P1", &listed::p1());
+    one(table, "256 RULEs", &bare.encode());
+    one(table, "full sheet, 16,384 bytes", &full.encode());
+    let half = generator::of_length(MOST_BYTES / 2);
+    let half = one(table, "one RULE and PRESSes, 8,192 bytes", &half);
+    let whole = generator::of_length(MOST_BYTES);
+    let whole = one(table, "one RULE and PRESSes, 16,384 bytes", &whole);
+    table.keep_growth("read", half, whole);
+}
+
+fn one(table: &mut Table, case: &str, sheet: &[u8]) -> (f64, f64) {
+    let expected = reading::checked_read(sheet);
+    assert_eq!(plain::read(sheet), expected);
+    table.measure(
+        "read",
+        case,
+        || {
+            let mut answer = [0; 9];
+            reading::read(black_box(sheet), &mut answer);
+            black_box(answer);
+        },
+        || {
+            black_box(plain::read(black_box(sheet)).ok());
+        },
+    )
+}

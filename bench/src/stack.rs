@@ -1,0 +1,123 @@
+//! How much stack the operations need: the smallest thread in which a child of this
+//! program finishes.
+
+use ranthelo_bench::families;
+use ranthelo_tests::library;
+use ranthelo_tests::reference::MOST_BYTES;
+use std::env;
+use std::hint::black_box;
+use std::process::{Command, Stdio};
+use std::thread;
+
+/// Marks a child: it is followed by an operation and a number of bytes.
+pub const ARGUMENT: &str = "stack";
+
+const KIB: usize = 1024;
+const STEP: usize = 4 * KIB;
+/// No thread has less.
+const LEAST: usize = 16 * KIB;
+const MOST: usize = 1024 * KIB;
+
+const OPERATIONS: &[&str] = &[
+    "nothing",
+    "read",
+    #[cfg(feature = "mutation")]
+    "run",
+    #[cfg(feature = "mutation")]
+    "first failed",
+    #[cfg(feature = "mutation")]
+    "compare",
+    #[cfg(feature = "judge")]
+    "judge",
+];
+
+pub fn print() {
+    println!("\nsmallest stack of a thread that does");
+    for operation in OPERATIONS {
+        match smallest(operation) {
+            Some(LEAST) => println!("{operation:<13} at most {} KiB", LEAST / KIB),
+            Some(bytes) => println!("{operation:<13} {} KiB", bytes / KIB),
+            None => println!("{operation:<13} over {} KiB", MOST / KIB),
+        }
+    }
+}
+
+fn smallest(operation: &str) -> Option<usize> {
+    let (mut low, mut high) = (LEAST / STEP - 1, MOST / STEP);
+    if !suffices(operation, high * STEP) {
+        return None;
+    }
+    while low + 1 < high {
+        let middle = (low + high) / 2;
+        if suffices(operation, middle * STEP) {
+            high = middle;
+        } else {
+            low = middle;
+        }
+    }
+    Some(high * STEP)
+}
+
+/// Whether a child can do the operation with such a stack.
+fn suffices(operation: &str, bytes: usize) -> bool {
+    let program = env::current_exe().expect("the path of this program");
+    Command::new(program)
+        .args([ARGUMENT, operation, &bytes.to_string()])
+        .stdout(Stdio::null())
+        .stderr(Stdio::null())
+        .status()
+        .is_ok_and(|status| status.success())
+}
+
+/// Does one operation in a thread with so many bytes of stack.
+pub fn try_one(operation: &str, bytes: &str) {
+    let bytes = bytes.parse().expect("a number of bytes");
+    let operation = operation.to_string();
+    let sheet = families::filled(families::sheet(&families::FULL, 1), MOST_BYTES, 1).encode();
+    let deep = families::sheet(&families::DEEP, 1).encode();
+    let thread = thread::Builder::new()
+        .stack_size(bytes)
+        .spawn(move || perform(&operation, &sheet, &deep))
+        .expect("a thread starts");
+    thread.join().expect("the thread finishes");
+}
+
+fn perform(operation: &str, sheet: &[u8], deep: &[u8]) {
+    match operation {
+        "read" => {
+            let mut answer = [0; 9];
+            library::reading::read(black_box(sheet), &mut answer);
+            black_box(answer);
+        }
+        #[cfg(feature = "mutation")]
+        "run" => {
+            let mut answer = [0; 2];
+            let mut buffer = [0; 16];
+            library::mutation::run(sheet, &[1; 32], &[3; 16], &mut buffer, &mut answer);
+            black_box(answer);
+        }
+        #[cfg(feature = "mutation")]
+        "first failed" => {
+            let mut answer = [0; 5];
+            library::mutation::first_failed(sheet, &[0; 32], &mut answer);
+            black_box(answer);
+        }
+        #[cfg(feature = "mutation")]
+        "compare" => {
+            let mut answer = [0; 4];
+            let mut buffer = [0; 256];
+            library::mutation::compare(sheet, &[0; 32], &mut buffer, &mut answer);
+            black_box(answer);
+        }
+        #[cfg(feature = "judge")]
+        "judge" => {
+            let (mut board, mut sequence) = ([0; 32], [0; 256]);
+            let mut answer = [0; 4];
+            library::judge::judge(deep, &mut board, &mut sequence, &mut answer);
+            black_box(answer);
+        }
+        _ => {
+            black_box(deep);
+        }
+    }
+}

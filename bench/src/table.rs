@@ -1,0 +1,76 @@
+//! The table that is printed.
+
+use ranthelo_bench::timing;
+
+/// How the time grows when the data doubles.
+struct Growth {
+    operation: &'static str,
+    library: f64,
+    plain: f64,
+}
+
+pub struct Table {
+    growths: Vec<Growth>,
+}
+
+impl Table {
+    pub fn new() -> Self {
+        let head = ["operation", "case", "library", "plain Rust", "ratio"];
+        print_row(head.map(str::to_string), "nodes of plain Rust");
+        Table { growths: vec![] }
+    }
+
+    /// Measures and prints one case; gives the times of the library and of plain Rust.
+    pub fn measure(
+        &mut self,
+        operation: &'static str,
+        case: &str,
+        library: impl FnMut(),
+        plain: impl FnMut(),
+    ) -> (f64, f64) {
+        self.measure_with_note(operation, case, "", library, plain)
+    }
+
+    pub fn measure_with_note(
+        &mut self,
+        operation: &'static str,
+        case: &str,
+        note: &str,
+        library: impl FnMut(),
+        plain: impl FnMut(),
+    ) -> (f64, f64) {
+        let times = timing::compare(library, plain);
+        let cells = [
+            operation.to_string(),
+            case.to_string(),
+            timing::shown(times.0),
+            timing::shown(times.1),
+            format!("{:.2}", times.0 / times.1),
+        ];
+        print_row(cells, note);
+        times
+    }
+
+    /// Keeps how the times grew from half the data to the whole.
+    pub fn keep_growth(&mut self, operation: &'static str, half: (f64, f64), whole: (f64, f64)) {
+        self.growths.push(Growth {
+            operation,
+            library: whole.0 / half.0,
+            plain: whole.1 / half.1,
+        });
+    }
+
+    pub fn print_growth(&self) {
+        println!("\ntwice the data takes so many times as long");
+        for growth in &self.growths {
+            let (library, plain) = (growth.library, growth.plain);
+            let operation = growth.operation;
+            println!("{operation:<13} library {library:.2}, plain Rust {plain:.2}");
+        }
+    }
+}
+
+fn print_row([operation, case, library, plain, ratio]: [String; 5], note: &str) {
+    let row = format!("{operation:<13} {case:<44} {library:>10} {plain:>11} {ratio:>6}  {note}");
+    println!("{}", row.trim_end());
+}

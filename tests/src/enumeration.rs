@@ -1,0 +1,264 @@
+//! A small judge by enumeration, written from document 01 alone: it builds every
+//! mutant (01: board) and tries it. Fit for sheets with few mutants.
+
+use crate::reference::{read, Move, Refusal, Sheet};
+use std::collections::VecDeque;
+
+/// The specified machine of a sheet with the choices at each pair and the test
+/// suite. Pairs are numbered in ascending order of state, then input.
+pub struct Machine {
+    states: usize,
+    inputs: usize,
+    rules: Vec<Option<Move>>,
+    choices: Vec<Vec<Move>>,
+    /// The pairs with two or more choices (01: open pairs).
+    suspects: Vec<usize>,
+    /// Each test with its specified outputs.
+    suite: Vec<(Vec<u8>, Vec<u8>)>,
+}
+
+/// A machine with one choice taken at each pair.
+pub struct Mutant<'a> {
+    machine: &'a Machine,
+    moves: Vec<Move>,
+}
+
+/// Where a mutant first goes wrong: a test and a position in it.
+#[derive(Clone, Copy, Debug, PartialEq, Eq)]
+pub struct Failure {
+    pub test: usize,
+    pub position: usize,
+}
+
+/// A nonconforming mutant that passes the suite, and its shortest distinguishing sequence.
+#[derive(Clone, Debug, PartialEq, Eq)]
+pub struct Survivor {
+    pub board: Vec<u8>,
+    pub sequence: Vec<u8>,
+}
+
+/// The choices at a pair: the rule, then its faults; without a rule every move.
+fn choices(sheet: &Sheet, pair: (u8, u8)) -> Vec<Move> {
+    match sheet.rules.get(&pair) {
+        Some(&rule) => [rule].into_iter().chain(sheet.faults_at(pair)).collect(),
+        None => (0..sheet.sounds)
+            .flat_map(|o| (0..sheet.states).map(move |t| (o, t)))
+            .collect(),
+    }
+}
+
+impl Machine {
+    pub fn new(sheet: &Sheet) -> Self {
+        let choices: Vec<_> = sheet.pairs().map(|pair| choices(sheet, pair)).collect();
+        let suspects = (0..choices.len()).filter(|&p| choices[p].len() >= 2);
+        let mut machine = Machine {
+            states: sheet.states.into(),
+            inputs: sheet.presses.into(),
+            rules: sheet
+                .pairs()
+                .map(|p| sheet.rules.get(&p).copied())
+                .collect(),
+            suspects: suspects.collect(),
+            choices,
+            suite: Vec::new(),
+        };
+        machine.suite = sheet
+            .tests
+            .iter()
+            .map(|test| (test.clone(), machine.specified(test)))
+            .collect();
+        machine
+    }
+
+    fn pair(&self, state: usize, input: u8) -> usize {
+        state * self.inputs + usize::from(input)
+    }
+
+    /// The specified outputs on a defined sequence.
+    fn specified(&self, inputs: &[u8]) -> Vec<u8> {
+        let mut state = 0;
+        let step = |&x: &u8| {
+            let (output, next) = self.rules[self.pair(state, x)].expect("the sequence is defined");
+            state = next.into();
+            output
+        };
+        inputs.iter().map(step).collect()
+    }
+
+    /// The number of choices of each suspect.
+    pub fn counts(&self) -> Vec<usize> {
+        self.suspects
+            .iter()
+            .map(|&p| self.choices[p].len())
+            .collect()
+    }
+
+    /// All boards of the sheet, in dictionary order.
+    pub fn boards(&self) -> Boards {
+        Boards {
+            counts: self.counts(),
+            next: Some(vec![0; self.suspects.len()]),
+        }
+    }
+
+    pub fn mutant(&self, board: &[u8]) -> Mutant<'_> {
+        let mut moves: Vec<_> = self.choices.iter().map(|list| list[0]).collect();
+        for (&pair, &choice) in self.suspects.iter().zip(board) {
+            moves[pair] = self.choices[pair][usize::from(choice)];
+        }
+        Mutant {
+            machine: self,
+            moves,
+        }
+    }
+
+    /// The first surviving mutant in dictionary order, if there is one.
+    pub fn judge(&self) -> Option<Survivor> {
+        self.boards().find_map(|board| {
+            let mutant = self.mutant(&board);
+            if mutant.first_failed().is_some() {
+                return None;
+            }
+            let sequence = mutant.distinguish()?;
+            Some(Survivor { board, sequence })
+        })
+    }
+}
+
+impl Mutant<'_> {
+    /// The outputs after one reset, on any inputs.
+    pub fn outputs<'b>(&'b self, inputs: &'b [u8]) -> impl Iterator<Item = u8> + 'b {
+        let mut state = 0;
+        inputs.iter().map(move |&x| {
+            let (output, next) = self.moves[self.machine.pair(state, x)];
+            state = next.into();
+            output
+        })
+    }
+
+    /// The first failed test and the position of its first wrong output.
+    pub fn first_failed(&self) -> Option<Failure> {
+        let wrong = |(inputs, wanted): &(Vec<u8>, Vec<u8>)| {
+            self.outputs(inputs)
+                .zip(wanted)
+                .position(|(given, &wanted)| given != wanted)
+        };
+        let mut suite = self.machine.suite.iter().enumerate();
+        suite.find_map(|(test, case)| wrong(case).map(|position| Failure { test, position }))
+    }
+
+    /// The shortest, then smallest, defined sequence on which an output is wrong:
+    /// breadth first over the pairs of states that are met in step.
+    pub fn distinguish(&self) -> Option<Vec<u8>> {
+        let machine = self.machine;
+        let mut seen = vec![false; machine.states * machine.states];
+        seen[0] = true;
+        let mut queue = VecDeque::from([(0, 0, Vec::new())]);
+        while let Some((specified, given, sequence)) = queue.pop_front() {
+            for x in 0..machine.inputs as u8 {
+                let Some((wanted, next)) = machine.rules[machine.pair(specified, x)] else {
+                    continue;
+                };
+                let (output, other) = self.moves[machine.pair(given, x)];
+                let (next, other) = (usize::from(next), usize::from(other));
+                let longer = || [&sequence[..], &[x]].concat();
+                if output != wanted {
+                    return Some(longer());
+                }
+                if !seen[next * machine.states + other] {
+                    seen[next * machine.states + other] = true;
+                    queue.push_back((next, other, longer()));
+                }
+            }
+        }
+        None
+    }
+}
+
+/// Boards in dictionary order of their bytes.
+pub struct Boards {
+    counts: Vec<usize>,
+    next: Option<Vec<u8>>,
+}
+
+impl Iterator for Boards {
+    type Item = Vec<u8>;
+
+    fn next(&mut self) -> Option<Vec<u8>> {
+        let board = self.next.take()?;
+        let grows = |&i: &usize| usize::from(board[i]) + 1 < self.counts[i];
+        self.next = (0..board.len()).rev().find(grows).map(|i| {
+            let mut later = board.clone();
+            later[i] += 1;
+            later[i + 1..].fill(0);
+            later
+        });
+        Some(board)
+    }
+}
+
+fn refuse<T>(number: usize, place: usize) -> Result<T, Refusal> {
+    Err(Refusal { number, place })
+}
+
+/// Refusals 13 and 14.
+fn check_board(machine: &Machine, board: &[u8]) -> Result<(), Refusal> {
+    let counts = machine.counts();
+    if board.len() != counts.len() {
+        return refuse(13, 0);
+    }
+    match (0..board.len()).find(|&i| usize::from(board[i]) >= counts[i]) {
+        Some(index) => refuse(14, index),
+        None => Ok(()),
+    }
+}
+
+/// Run, with a buffer of `room` bytes: the outputs, one for each press.
+pub fn run(bytes: &[u8], board: &[u8], presses: &[u8], room: usize) -> Result<Vec<u8>, Refusal> {
+    let machine = Machine::new(&read(bytes)?.sheet);
+    check_board(&machine, board)?;
+    if let Some(index) = presses
+        .iter()
+        .position(|&x| usize::from(x) >= machine.inputs)
+    {
+        return refuse(15, index);
+    }
+    if room < presses.len() {
+        return refuse(16, 0);
+    }
+    let outputs = machine.mutant(board).outputs(presses).collect();
+    Ok(outputs)
+}
+
+/// First failed test.
+pub fn first_failed(bytes: &[u8], board: &[u8]) -> Result<Option<Failure>, Refusal> {
+    let machine = Machine::new(&read(bytes)?.sheet);
+    check_board(&machine, board)?;
+    Ok(machine.mutant(board).first_failed())
+}
+
+/// Compare, with a buffer of `room` bytes: the shortest distinguishing sequence, or none.
+pub fn compare(bytes: &[u8], board: &[u8], room: usize) -> Result<Option<Vec<u8>>, Refusal> {
+    let machine = Machine::new(&read(bytes)?.sheet);
+    check_board(&machine, board)?;
+    if room < machine.states * machine.states {
+        return refuse(16, 0);
+    }
+    Ok(machine.mutant(board).distinguish())
+}
+
+/// Judge, with buffers of so many bytes: the first survivor, or none if the suite is complete.
+pub fn judge(
+    bytes: &[u8],
+    board_room: usize,
+    sequence_room: usize,
+) -> Result<Option<Survivor>, Refusal> {
+    let machine = Machine::new(&read(bytes)?.sheet);
+    if board_room < machine.suspects.len() {
+        return refuse(16, 0);
+    }
+    if sequence_room < machine.states * machine.states {
+        return refuse(16, 1);
+    }
+    Ok(machine.judge())
+}

@@ -1,0 +1,67 @@
+//! Judge.
+
+use super::guard::{buffer, bytes, flag, Answer};
+use crate::enumeration::Survivor;
+use crate::reference::Refusal;
+
+mod c {
+    extern "C" {
+        pub fn ranthelo_judge(
+            sheet: *const u8,
+            sheet_length: usize,
+            board: *mut u8,
+            board_length: usize,
+            sequence: *mut u8,
+            sequence_length: usize,
+            answer: *mut usize,
+        );
+    }
+}
+
+/// Number, place, survivor (0 or 1), length of its sequence. The survivor's board and
+/// sequence are written to the fronts of the buffers.
+pub fn judge(sheet: &[u8], board: &mut [u8], sequence: &mut [u8], answer: &mut [usize; 4]) {
+    // SAFETY: all slices and the answer are valid for their lengths throughout the call.
+    unsafe {
+        c::ranthelo_judge(
+            sheet.as_ptr(),
+            sheet.len(),
+            board.as_mut_ptr(),
+            board.len(),
+            sequence.as_mut_ptr(),
+            sequence.len(),
+            answer.as_mut_ptr(),
+        )
+    }
+}
+
+/// Judge with buffers of so many bytes; a survivor's board has `open_pairs` bytes.
+pub fn checked_judge(
+    sheet: &[u8],
+    board_room: usize,
+    sequence_room: usize,
+    open_pairs: usize,
+) -> Result<Option<Survivor>, Refusal> {
+    let sheet = bytes(sheet);
+    let (mut board, mut sequence) = (buffer(board_room), buffer(sequence_room));
+    let mut answer = Answer::new();
+    judge(
+        sheet.content(),
+        board.content_mut(),
+        sequence.content_mut(),
+        answer.lend(),
+    );
+    sheet.untouched();
+    let result = answer.result();
+    let (survives, length) = result.map_or((false, 0), |words| (flag(words[0]), words[1]));
+    if survives {
+        return Ok(Some(Survivor {
+            board: board.front(open_pairs).to_vec(),
+            sequence: sequence.front(length).to_vec(),
+        }));
+    }
+    assert_eq!(length, 0, "the suite is complete, yet a length is told");
+    board.untouched();
+    sequence.untouched();
+    result.map(|_| None)
+}

@@ -1,0 +1,153 @@
+//! Run, first failed test and compare.
+
+use super::guard::{buffer, bytes, flag, Answer};
+use crate::enumeration::Failure;
+use crate::reference::Refusal;
+
+mod c {
+    extern "C" {
+        pub fn ranthelo_run(
+            sheet: *const u8,
+            sheet_length: usize,
+            board: *const u8,
+            board_length: usize,
+            presses: *const u8,
+            presses_length: usize,
+            buffer: *mut u8,
+            buffer_length: usize,
+            answer: *mut usize,
+        );
+        pub fn ranthelo_first_failed(
+            sheet: *const u8,
+            sheet_length: usize,
+            board: *const u8,
+            board_length: usize,
+            answer: *mut usize,
+        );
+        pub fn ranthelo_compare(
+            sheet: *const u8,
+            sheet_length: usize,
+            board: *const u8,
+            board_length: usize,
+            buffer: *mut u8,
+            buffer_length: usize,
+            answer: *mut usize,
+        );
+    }
+}
+
+/// Number, place. One sound for each press is written to the buffer's front.
+pub fn run(sheet: &[u8], board: &[u8], presses: &[u8], buffer: &mut [u8], answer: &mut [usize; 2]) {
+    // SAFETY: all slices and the answer are valid for their lengths throughout the call.
+    unsafe {
+        c::ranthelo_run(
+            sheet.as_ptr(),
+            sheet.len(),
+            board.as_ptr(),
+            board.len(),
+            presses.as_ptr(),
+            presses.len(),
+            buffer.as_mut_ptr(),
+            buffer.len(),
+            answer.as_mut_ptr(),
+        )
+    }
+}
+
+/// Number, place, failed (0 or 1), test, position.
+pub fn first_failed(sheet: &[u8], board: &[u8], answer: &mut [usize; 5]) {
+    // SAFETY: all slices and the answer are valid for their lengths throughout the call.
+    unsafe {
+        c::ranthelo_first_failed(
+            sheet.as_ptr(),
+            sheet.len(),
+            board.as_ptr(),
+            board.len(),
+            answer.as_mut_ptr(),
+        )
+    }
+}
+
+/// Number, place, differs (0 or 1), length. A sequence is written to the buffer's front.
+pub fn compare(sheet: &[u8], board: &[u8], buffer: &mut [u8], answer: &mut [usize; 4]) {
+    // SAFETY: all slices and the answer are valid for their lengths throughout the call.
+    unsafe {
+        c::ranthelo_compare(
+            sheet.as_ptr(),
+            sheet.len(),
+            board.as_ptr(),
+            board.len(),
+            buffer.as_mut_ptr(),
+            buffer.len(),
+            answer.as_mut_ptr(),
+        )
+    }
+}
+
+/// Run with a buffer of `room` bytes: the sounds.
+pub fn checked_run(
+    sheet: &[u8],
+    board: &[u8],
+    presses: &[u8],
+    room: usize,
+) -> Result<Vec<u8>, Refusal> {
+    let (sheet, board, presses) = (bytes(sheet), bytes(board), bytes(presses));
+    let mut buffer = buffer(room);
+    let mut answer = Answer::new();
+    run(
+        sheet.content(),
+        board.content(),
+        presses.content(),
+        buffer.content_mut(),
+        answer.lend(),
+    );
+    sheet.untouched();
+    board.untouched();
+    presses.untouched();
+    let result = answer.result();
+    let written = result.map_or(0, |_| presses.content().len());
+    let sounds = buffer.front(written).to_vec();
+    result.map(|_| sounds)
+}
+
+pub fn checked_first_failed(sheet: &[u8], board: &[u8]) -> Result<Option<Failure>, Refusal> {
+    let (sheet, board) = (bytes(sheet), bytes(board));
+    let mut answer = Answer::new();
+    first_failed(sheet.content(), board.content(), answer.lend());
+    sheet.untouched();
+    board.untouched();
+    let words = answer.result()?;
+    let (test, position) = (words[1], words[2]);
+    if flag(words[0]) {
+        return Ok(Some(Failure { test, position }));
+    }
+    assert_eq!((test, position), (0, 0), "no test failed, yet one is told");
+    Ok(None)
+}
+
+/// Compare with a buffer of `room` bytes: the shortest departing sequence, or none.
+pub fn checked_compare(
+    sheet: &[u8],
+    board: &[u8],
+    room: usize,
+) -> Result<Option<Vec<u8>>, Refusal> {
+    let (sheet, board) = (bytes(sheet), bytes(board));
+    let mut buffer = buffer(room);
+    let mut answer = Answer::new();
+    compare(
+        sheet.content(),
+        board.content(),
+        buffer.content_mut(),
+        answer.lend(),
+    );
+    sheet.untouched();
+    board.untouched();
+    let result = answer.result();
+    let length = result.map_or(0, |words| words[1]);
+    let sequence = buffer.front(length).to_vec();
+    if flag(result?[0]) {
+        return Ok(Some(sequence));
+    }
+    assert_eq!(length, 0, "the board conforms, yet a length is told");
+    Ok(None)
+}
