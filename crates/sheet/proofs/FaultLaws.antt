@@ -15,8 +15,10 @@ use Rattle.sheet.specs.declared.rules.Faults.{Faults}
 use Rattle.sheet.specs.Lists.{last, All}
 use Rattle.sheet.specs.Sheet.{Sheet, rowOf, isAt, rowsAt, ruleAt}
 use Rattle.sheet.specs.Reading.{inRange, isOther, firstBroken, refusal}
+use Rattle.sheet.specs.laws.Basics.{all-snoc}
+use Rattle.sheet.specs.laws.Rows.{last-snoc}
 use Rattle.sheet.specs.Held.{Within16, Digits, pairKey, rowKey, nextKey, ruleOutput, ruleTarget, present, FaultsHold, FaultMeets}
-use Rattle.sheet.proofs.Laws.{If, length-snoc, last-snoc, all-snoc, rows-new, rows-old, table-set, row-order, ascends-true, ascends-false}
+use Rattle.sheet.proofs.Laws.{If, length-snoc, rows-new, rows-old, table-set, row-order, ascends-true, ascends-false}
 use Rattle.sheet.proofs.RuleLaws.{digits-in, range-in}
 
 pub other-none : (f : Option Row) (row : Row) {o : ℕ} → If Digits f → o ≡ ruleOutput f → o ≡ 255 → false ≡ isOther f row

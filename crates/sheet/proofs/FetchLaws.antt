@@ -13,7 +13,7 @@ use Rattle.sheet.specs.declared.fetch.Taken.the-variants.{Whole, Short, 
 use Rattle.sheet.specs.declared.fetch.Fetched.{Fetched}
 use Rattle.sheet.specs.Reading.{Progress, Command, Outcome, go, stop, refused, step, finishing, allowed, width, commandOf, refusal}
 use Rattle.sheet.specs.Held.{advanced}
-use Rattle.sheet.specs.Fetch.{operandOf, itemAt, fetchBy, fetchAt, commandFrom}
+use Rattle.sheet.specs.Fetch.{operandOf, itemAt, fetchBy, fetchAt, wholeAs, commandFrom}
 use Rattle.sheet.proofs.StepLaws.{step-past, step-unknown, step-short, step-end, step-go, step-refused}
 
 -- the code's parts make what the definition fetches
@@ -87,6 +87,12 @@ module _ (s : List ℕ) (at : ℕ) where
 
   pub fetched-whole : (f : Fetched) → f ≡ fetchAt s at → (k : Item) → f .taken ≡ Whole k → WholeAt s at k (f .next)
   fetched-whole = whole-by (ltb at (length s)) refl (leb (at + width (getD s at 0)) (length s)) refl
+
+  pub fetched-as : (f : Fetched) → f ≡ fetchAt s at → (k : Item) → f .taken ≡ Whole k → fetchAt s at ≡ wholeAs k (f .next)
+  fetched-as f i k t = sym i ∙ (λ j. record { taken = t j; next = f .next })
+
+  pub as-whole : (k : Item) (next : ℕ) → fetchAt s at ≡ wholeAs k next → WholeAt s at k next
+  as-whole k next e = fetched-whole (wholeAs k next) (sym e) k refl
 
   short-by : (p : Bool) → ltb at (length s) ≡ p → (q : Bool) → leb (at + width (getD s at 0)) (length s) ≡ q
       → (f : Fetched) → f ≡ fetchBy s at p q → (b : ℕ) → f .taken ≡ Short b → ShortAt s at b

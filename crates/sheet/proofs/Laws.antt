@@ -14,29 +14,12 @@ use Rattle.sheet.specs.declared.Row.{Row}
 use Rattle.sheet.specs.declared.Size.{Size}
 use Rattle.sheet.specs.Lists.{maybe, first, last, All, precedes}
 use Rattle.sheet.specs.Sheet.{pairOf, rowOf, isAt, rowsAt, ruleAt}
-use Rattle.sheet.specs.Reading.{inRange, ascends}
-use Rattle.sheet.specs.WellFormed.{RowIn}
+use Rattle.sheet.specs.Reading.{ascends}
+use Rattle.sheet.specs.laws.Basics.{both}
 use Rattle.sheet.specs.Held.{Digits, placeOf, pairKey, rowKey, nextKey, ByPair}
-
-pub and-true : (a b : Bool) → a && b ≡ true → (a ≡ true) × (b ≡ true)
-and-true true b h = (refl, h)
-and-true false b h = let z : true ≡ false = cc in (sym z, cc)
-
-pub inside : (z : Size) (r : Row) → inRange z r ≡ true → RowIn z r
-inside z r h =
-    let (a, b) = and-true _ _ h in
-    let (p, q) = and-true _ _ a in
-    let (u, v) = and-true _ _ b in
-    record { source = ltb-true _ _ p; input = ltb-true _ _ q; output = ltb-true _ _ u; target = ltb-true _ _ v }
 
 pub length-snoc {ℓ} : {A : Type ℓ} (l : List A) (a : A) → length (l ++ a ∷ []) ≡ length l + 1
 length-snoc l a = length-append l (a ∷ [])
-
-pub last-snoc : {A : Type 0} (l : List A) (a : A) → last (l ++ a ∷ []) ≡ some a
-unfolding last
-last-snoc [] a = refl
-last-snoc (x ∷ []) a = refl
-last-snoc (x ∷ y ∷ l) a = last-snoc (y ∷ l) a
 
 -- P of what is there
 abbrev pub If : {A : Type 0} → (A → Type 0) → Option A → Type 0
@@ -44,10 +27,6 @@ If P none = Unit {0}
 If P (some a) = P a
 
 module _ {A : Type 0} where
-  pub all-snoc : (P : A → Type 0) (l : List A) (a : A) → All P l → P a → All P (l ++ a ∷ [])
-  all-snoc P [] a h k = (k, tt)
-  all-snoc P (x ∷ l) a h k = (h .0, all-snoc P l a (h .1) k)
-
   pub all-map : (P Q : A → Type 0) → ((a : A) → P a → Q a) → (l : List A) → All P l → All Q l
   all-map P Q f [] h = tt
   all-map P Q f (x ∷ l) h = (f x (h .0), all-map P Q f l (h .1))
@@ -80,7 +59,7 @@ pub at-same : (r : Row) → isAt r (r .source) (r .input) ≡ true
 at-same r = simp (eq-eqb (r .source) (r .source) refl, eq-eqb (r .input) (r .input) refl)
 
 pub at-true : (r : Row) (s x : ℕ) → isAt r s x ≡ true → (r .source ≡ s) × (r .input ≡ x)
-at-true r s x h = let (a, b) = and-true _ _ h in (eqb-true _ _ a, eqb-true _ _ b)
+at-true r s x h = let (a, b) = both _ _ h in (eqb-true _ _ a, eqb-true _ _ b)
 
 -- the rows at a pair, with one row more
 rows-snoc : (l : List Row) (r : Row) (s x : ℕ) → rowsAt (l ++ r ∷ []) s x ≡ rowsAt l s x ++ cond (isAt r s x) (r ∷ []) []

@@ -9,3 +9,5 @@ pub mod FetchLaws
 pub mod ScanLaws
 pub mod PlaceLaws
 pub mod PartLaws
+pub mod FillLaws
+pub mod LoadLaws

@@ -24,8 +24,7 @@ use Rattle.sheet.specs.laws.Accepted.{short-enough}
 use Rattle.sheet.proofs.PlaceLaws.{machine-length, tests-from, tests-suc}
 
 -- what an accepted reading tells of the bytes
-pub record Placed (s : List ℕ) (summary : Summary) : Type 0 where
-  pub sheet : Sheet
+pub record Placed (s : List ℕ) (summary : Summary) (sheet : Sheet) : Type 0 where
   pub is : reading s ≡ accepted sheet
   pub same : summary ≡ summaryOf sheet
   pub tests : summary .tests ≡ length (sheet .tests)
@@ -38,7 +37,7 @@ accepted-as : (d : Reading) (summary : Summary) → read.Accepted summary ≡ re
 accepted-as (accepted sh) summary e = (sh, refl, cc)
 accepted-as (refused n p) summary e = let z : _≡_ {A = ℕ} 0 1 = cc in absurd (omega arith)
 
-located : (s : List ℕ) (summary : Summary) (sh : Sheet) → reading s ≡ accepted sh → summary ≡ summaryOf sh → Placed s summary
+pub located : (s : List ℕ) (summary : Summary) (sh : Sheet) → reading s ≡ accepted sh → summary ≡ summaryOf sh → Placed s summary sh
 unfolding summaryOf
 located s summary sh e same =
     let rules : summary .rules ≡ length (sh .rules) = ap (λ (x : Summary). x .rules) same in
@@ -47,13 +46,13 @@ located s summary sh e same =
     let bytes : drop (4 + 5 * summary .rules + 5 * summary .faults) s ≡ testBytes (sh .tests) ++ 6 ∷ [] = rw (at, ← encoded s sh e) (tests-from sh) in
     let k : length s - (4 + 5 * summary .rules + 5 * summary .faults) ≡ length (testBytes (sh .tests)) + 1 =
     sym (length-drop (4 + 5 * summary .rules + 5 * summary .faults) s) ∙ (ap length bytes ∙ length-append (testBytes (sh .tests)) (6 ∷ [])) in
-    record { sheet = sh; is = e; same = same; tests = ap (λ (x : Summary). x .tests) same; place = at; room = omega arith; bytes = bytes; short = short-enough s sh e }
+    record { is = e; same = same; tests = ap (λ (x : Summary). x .tests) same; place = at; room = omega arith; bytes = bytes; short = short-enough s sh e }
 
-pub placed : (s : List ℕ) (r : ReadAnswer) (summary : Summary) → r ≡ readAnswer (reading s) → r ≡ read.Accepted summary → Placed s summary
+pub placed : (s : List ℕ) (r : ReadAnswer) (summary : Summary) → r ≡ readAnswer (reading s) → r ≡ read.Accepted summary → (sh : Sheet) × Placed s summary sh
 placed s r summary e a = go (accepted-as (reading s) summary (sym a ∙ e))
   where
-    go : (sh : Sheet) × (reading s ≡ accepted sh) × (summary ≡ summaryOf sh) → Placed s summary
-    go t = located s summary (t .0) (t .1) (t .2)
+    go : (sh : Sheet) × (reading s ≡ accepted sh) × (summary ≡ summaryOf sh) → (sh : Sheet) × Placed s summary sh
+    go t = (t .0, located s summary (t .0) (t .1) (t .2))
 
 pub span-refused : (s : List ℕ) (i : ℕ) (r : ReadAnswer) (number place : ℕ) → r ≡ readAnswer (reading s) → r ≡ read.Refused number place → handedOn r ≡ partAnswer (parting s i)
 unfolding parting
@@ -63,22 +62,22 @@ span-refused s i r number place e a = go (reading s) e
     go (accepted sh) k = let z : _≡_ {A = ℕ} 0 1 = cc in absurd (omega arith)
     go (refused n p) k = rw k
 
-module _ (s : List ℕ) (i : ℕ) (summary : Summary) (p : Placed s summary) where
+module _ (s : List ℕ) (i : ℕ) (summary : Summary) (sh : Sheet) (p : Placed s summary sh) where
   pub span-none : summary .tests ≤ i → part.Refused 17 0 ≡ partAnswer (parting s i)
   unfolding parting
-  span-none h = rw (p .is, le-leb (length (p .sheet .tests)) i (omega (arith, p .tests)))
+  span-none h = rw (p .is, le-leb (length (sh .tests)) i (omega (arith, p .tests)))
 
-  same-span : spanFrom (4 + 5 * summary .rules + 5 * summary .faults) (p .sheet .tests) i ≡ spanOf (p .sheet) i
+  pub same-span : spanFrom (4 + 5 * summary .rules + 5 * summary .faults) (sh .tests) i ≡ spanOf sh i
   unfolding spanOf
   same-span =
-      ap (λ (n : ℕ). record { start = n; length = 2 * length (getD (p .sheet .tests) i []) })
+      ap (λ (n : ℕ). record { start = n; length = 2 * length (getD (sh .tests) i []) })
       (simp length-append (omega (arith, p .place)))
 
   pub span-is : i < summary .tests → (r : Span) → TestFrom s (4 + 5 * summary .rules + 5 * summary .faults) i r → part.At r ≡ partAnswer (parting s i)
   unfolding parting
   span-is h r t =
-      rw (p .is, lt-leb (length (p .sheet .tests)) i (omega (arith, p .tests)))
-      (ap (λ (x : Span). part.At x) (t .found (p .sheet .tests) (p .bytes) (omega (arith, p .tests)) ∙ same-span))
+      rw (p .is, lt-leb (length (sh .tests)) i (omega (arith, p .tests)))
+      (ap (λ (x : Span). part.At x) (t .found (sh .tests) (p .bytes) (omega (arith, p .tests)) ∙ same-span))
 
 -- the tests before the end take no more bytes than all
 tests-take : (l : List (List ℕ)) (k : ℕ) → length (testBytes (take k l)) ≤ length (testBytes l)

@@ -154,12 +154,12 @@ module _ (s : List ℕ) (place : ℕ) (l : List (List ℕ)) (j at : ℕ) (h : j 
       }
 
 -- where the tests start
-row-length : (b : ℕ) (l : List Row) → length (rowBytes b l) ≡ 5 * length l
+pub row-length : (b : ℕ) (l : List Row) → length (rowBytes b l) ≡ 5 * length l
 unfolding rowBytes
 row-length b [] = refl
 row-length b (r ∷ l) = let w = row-length b l in omega arith
 
-size-length : (z : Size) → length (sizeBytes z) ≡ 4
+pub size-length : (z : Size) → length (sizeBytes z) ≡ 4
 unfolding sizeBytes
 size-length z = refl
 

@@ -13,21 +13,14 @@ use Rattle.sheet.specs.declared.rules.Tests.{Tests}
 use Rattle.sheet.specs.Lists.{maybe, isNone, last}
 use Rattle.sheet.specs.Sheet.{Sheet, ruleAt, after}
 use Rattle.sheet.specs.Reading.{lastTest, addPress, ruleAfter, firstBroken, refusal}
+use Rattle.sheet.specs.laws.Ordered.{press-length}
+use Rattle.sheet.specs.laws.Rows.{last-snoc, after-snoc}
 use Rattle.sheet.specs.Held.{Digits, ruleTarget, TestsHold, PressMeets}
-use Rattle.sheet.proofs.Laws.{If, length-snoc, last-snoc}
+use Rattle.sheet.proofs.Laws.{If, length-snoc}
 
 -- one input more
 abbrev stepOf : Option Row → Option ℕ
 stepOf found = maybe found none (λ r. some (r .target))
-
-after-snoc : (rules : List Row) (s : ℕ) (xs : List ℕ) (x : ℕ) → after rules s (xs ++ x ∷ []) ≡ maybe (after rules s xs) none (λ t. stepOf (ruleAt rules t x))
-unfolding after
-after-snoc rules s [] x = refl
-after-snoc rules s (y ∷ xs) x = go (λ t. after-snoc rules t xs x) (ruleAt rules s y)
-  where
-    go : ((t : ℕ) → after rules t (xs ++ x ∷ []) ≡ maybe (after rules t xs) none (λ u. stepOf (ruleAt rules u x))) → (o : Option Row) → maybe o none (λ r. after rules (r .target) (xs ++ x ∷ [])) ≡ maybe (maybe o none (λ r. after rules (r .target) xs)) none (λ t. stepOf (ruleAt rules t x))
-    go ih none = refl
-    go ih (some r) = ih (r .target)
 
 pub lastTest-snoc : (l : List (List ℕ)) (xs : List ℕ) → lastTest (l ++ xs ∷ []) ≡ xs
 unfolding lastTest
@@ -39,12 +32,6 @@ lastTest-add [] x h = absurd (omega arith)
 lastTest-add (y ∷ []) x h = refl
 lastTest-add (y ∷ w ∷ []) x h = refl
 lastTest-add (y ∷ w ∷ v ∷ l) x h = lastTest-add (w ∷ v ∷ l) x (omega arith)
-
-pub length-add : (l : List (List ℕ)) (x : ℕ) → length (addPress l x) ≡ length l
-unfolding addPress
-length-add [] x = refl
-length-add (y ∷ []) x = refl
-length-add (y ∷ w ∷ l) x = ap suc (length-add (w ∷ l) x)
 
 pub found-some : (f : Option Row) → ruleTarget f < 16 → isNone f ≡ false
 found-some none h = absurd (omega arith)
@@ -77,7 +64,7 @@ module _ (sh : Sheet) (z : Size) (t : Tests) (x v : ℕ) (ez : z ≡ sh .size) (
       record {
         number = simp (lt-leb (sh .size .inputs) x (input-in k), lt-leb 256 (length (lastTest l)) (omega (arith, h .inputs)), here, found-some (ruleAt (sh .rules) (t .state) x) (omega arith));
         tests = λ _. record {
-          count = h .count ∙ sym (length-add l x);
+          count = h .count ∙ sym (press-length l x);
           most = h .most;
           inputs = rw (lastTest-add l x b, length-snoc (lastTest l) x) (ap (λ (n : ℕ). n + 1) (h .inputs));
           most-inputs = omega arith;

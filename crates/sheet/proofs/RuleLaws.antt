@@ -13,13 +13,15 @@ use Rattle.sheet.specs.declared.rules.Rules.{Rules}
 use Rattle.sheet.specs.Lists.{last, All}
 use Rattle.sheet.specs.Sheet.{Sheet, pairOf, isAt, ruleAt}
 use Rattle.sheet.specs.Reading.{inRange, firstBroken, refusal}
-use Rattle.sheet.specs.WellFormed.{RowIn}
+use Rattle.sheet.specs.laws.Basics.{all-snoc}
+use Rattle.sheet.specs.laws.Rows.{last-snoc}
+use Rattle.sheet.specs.laws.Right.{row-in}
 use Rattle.sheet.specs.Held.{Within16, Digits, pairKey, nextKey, ruleOutput, ruleTarget, RulesHold, RuleMeets}
-use Rattle.sheet.proofs.Laws.{inside, length-snoc, last-snoc, all-snoc, all-map, rule-new, rule-old, table-set, pair-order, ascends-true, ascends-false}
+use Rattle.sheet.proofs.Laws.{length-snoc, all-map, rule-new, rule-old, table-set, pair-order, ascends-true, ascends-false}
 
 pub digits-in : (z : Size) (r : Row) → Within16 z → inRange z r ≡ true → Digits r
 digits-in z r w e =
-    let i = inside z r e in
+    let i = row-in z r e in
     record { source = omega (arith, i, w); input = omega (arith, i, w); output = omega (arith, i, w); target = omega (arith, i, w) }
 
 pub range-in : (sh : Sheet) (z : Size) (r : Row) {b : Bool} → z ≡ sh .size → inRange z r ≡ b → inRange (sh .size) r ≡ b

@@ -17,9 +17,11 @@ use Rattle.sheet.specs.declared.rules.State.{State}
 use Rattle.sheet.specs.Lists.{last}
 use Rattle.sheet.specs.Sheet.{Sheet, after}
 use Rattle.sheet.specs.Reading.{Progress, size, rule, fault, test, press, inOneTo16, sizeInRange, allowed, lastTest, firstBroken, refusal, advance}
+use Rattle.sheet.specs.laws.Basics.{both}
+use Rattle.sheet.specs.laws.Ordered.{press-length}
 use Rattle.sheet.specs.Held.{Within16, TestsHold, RuleMeets, FaultMeets, PressMeets, Holds, Applies}
-use Rattle.sheet.proofs.Laws.{and-true, length-snoc}
-use Rattle.sheet.proofs.PressLaws.{lastTest-snoc, length-add}
+use Rattle.sheet.proofs.Laws.{length-snoc}
+use Rattle.sheet.proofs.PressLaws.{lastTest-snoc}
 
 -- before any test the rules do not matter to where the test is
 untested : {t : Tests} {rs : List Row} {l : List (List ℕ)} (qs : List Row) → l ≡ [] → TestsHold t rs l → TestsHold t qs l
@@ -34,21 +36,21 @@ untested {t} {rs} {l} qs e h = record {
 }
 
 at-most-16 : (n : ℕ) → inOneTo16 n ≡ true → n ≤ 16
-at-most-16 n e = leb-true _ _ (and-true (leb 1 n) (leb n 16) e .1)
+at-most-16 n e = leb-true _ _ (both (leb 1 n) (leb n 16) e .1)
 
 -- in which phase a command byte stands
 module _ (phase b : ℕ) where
   pub allowed-size : b ≡ 1 → allowed phase b ≡ true → phase ≡ 0
-  allowed-size e h = let k = leb-true phase 0 (and-true (leb 0 phase) (leb phase 0) (rw e at h) .1) in omega arith
+  allowed-size e h = let k = leb-true phase 0 (both (leb 0 phase) (leb phase 0) (rw e at h) .1) in omega arith
 
   pub allowed-rule : b ≡ 2 → allowed phase b ≡ true → phase ≤ 2
-  allowed-rule e h = leb-true phase 2 (and-true (leb 1 phase) (leb phase 2) (rw e at h) .1)
+  allowed-rule e h = leb-true phase 2 (both (leb 1 phase) (leb phase 2) (rw e at h) .1)
 
   pub allowed-fault : b ≡ 3 → allowed phase b ≡ true → phase ≤ 3
-  allowed-fault e h = leb-true phase 3 (and-true (leb 1 phase) (leb phase 3) (rw e at h) .1)
+  allowed-fault e h = leb-true phase 3 (both (leb 1 phase) (leb phase 3) (rw e at h) .1)
 
   pub allowed-press : b ≡ 5 → allowed phase b ≡ true → 4 ≤ phase
-  allowed-press e h = leb-true 4 phase (and-true (leb 4 phase) (leb phase 4) (rw e at h) .0)
+  allowed-press e h = leb-true 4 phase (both (leb 4 phase) (leb phase 4) (rw e at h) .0)
 
 -- a command byte that may stand somewhere is one of the six
 pub known : (phase b : ℕ) → allowed phase b ≡ true → (1 ≤ b) × (b ≤ 6)
@@ -128,7 +130,7 @@ module _ (c : State) (os ts ms : List ℕ) (p : Progress) (h : Holds c os ts ms 
         rules = λ k. absurd (omega arith);
         faults = λ k. absurd (omega arith);
         tests = λ k. absurd (omega arith);
-        begun = λ k. rw (length-add (p .sheet .tests) x) (h .ordered .begun o);
+        begun = λ k. rw (press-length (p .sheet .tests) x) (h .ordered .begun o);
       };
     };
   }

@@ -38,6 +38,10 @@ fetchBy s at there all =
 abbrev pub fetchAt : List ℕ → ℕ → Fetched
 fetchAt s at = fetchBy s at (ltb at (length s)) (leb (at + width (getD s at 0)) (length s))
 
+-- a whole command was fetched
+abbrev pub wholeAs : Item → ℕ → Fetched
+wholeAs k next = record { taken = Whole k; next = next }
+
 abbrev pub rowFrom : Item → Row
 rowFrom k = record { source = k .first; input = k .second; output = k .third; target = k .fourth }
 

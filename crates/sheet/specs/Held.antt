@@ -23,6 +23,7 @@ use Rattle.sheet.specs.declared.scan.Step.{Step}
 use Rattle.sheet.specs.declared.scan.Done.{Done}
 use Rattle.sheet.specs.Lists.{maybe, last, All}
 use Rattle.sheet.specs.Sheet.{Sheet, rowsAt, ruleAt, after, openPairs}
+use Rattle.sheet.specs.laws.Ordered.{Ordered}
 use Rattle.sheet.specs.Reading.{Reading, accepted, refused, Command, rule, fault, press, Progress, Outcome, go, stop, phaseAfter, lastTest, addPress, refusal, advance}
 
 pub record Within16 (z : Size) : Type 0 where
@@ -111,13 +112,6 @@ pub record FaultMeets (sh : Sheet) (row : Row) (r : Faulted) (ms : List ℕ) : T
 pub record PressMeets (sh : Sheet) (x : ℕ) (r : Pressed) : Type 0 where
   pub number : r .number ≡ refusal sh (press x)
   pub tests : r .number ≡ 0 → TestsHold (r .tests) (sh .rules) (addPress (sh .tests) x)
-
--- a sheet's parts come in order
-pub record Ordered (p : Progress) : Type 0 where
-  pub rules : p .phase ≤ 1 → p .sheet .rules ≡ []
-  pub faults : p .phase ≤ 2 → p .sheet .faults ≡ []
-  pub tests : p .phase ≤ 3 → p .sheet .tests ≡ []
-  pub begun : 4 ≤ p .phase → 0 < length (p .sheet .tests)
 
 -- the state and the lent tables say what is read so far
 pub record Holds (c : State) (os ts ms : List ℕ) (p : Progress) : Type 0 where

@@ -2,10 +2,11 @@
 ghost use mathlib.Core.Path.{_≡_};
 ghost use Rattle.sheet.specs.Reading as reading;
 ghost use Rattle.sheet.specs.Part.{parting, partOf};
-ghost use Rattle.sheet.specs.Tables.{readAnswer, partAnswer};
+ghost use Rattle.sheet.specs.Tables.{readAnswer, partAnswer, loadedOf};
 ghost use Rattle.sheet.specs.Places.{handedOn};
 
 mod fetch;
+mod filling;
 mod finish;
 mod part;
 mod rules;
@@ -124,4 +125,21 @@ pub fn test_part(sheet: &[u8], i: usize) -> &[u8]
     let start = span.start;
     let end = start + span.length;
     &sheet[start..end]
+}
+
+// The sheet read into tables.
+pub fn load(sheet: &[u8]) -> Loaded
+    ensures { λ r. ⌜ r ≡ loadedOf (reading.reading (now (sheet .entry))) ⌝ }
+{
+    let mut output = [0u8; 256];
+    let mut target = [0u8; 256];
+    let mut faulty = [0u8; 256];
+    let done = scan::scan(sheet, &mut output, &mut target, &mut faulty);
+    let reading = scan::answer(done);
+    let Reading::Accepted(summary) = reading else {
+        let tables = filling::blank();
+        return Loaded { reading, tables };
+    };
+    let tables = filling::fill(sheet, summary, output, target);
+    Loaded { reading, tables }
 }

@@ -1,9 +1,11 @@
 // Reading a whole sheet, command by command.
 ghost use mathlib.Core.Path.{_≡_};
+ghost use mathlib.Core.Bool.{true};
 ghost use mathlib.Core.List.{List};
 ghost use Prim.Native.Nat.{ℕ, _+_};
 ghost use lib.ListN.{length, replicate};
-ghost use Rattle.sheet.specs.Reading.{Progress, blank, step, from};
+ghost use Rattle.sheet.specs.Reading.{Progress, allowed, blank, step, from};
+ghost use Rattle.sheet.specs.Fetch.{fetchAt, wholeAs};
 ghost use Rattle.sheet.specs.Reading as reading;
 ghost use Rattle.sheet.specs.Tables.{readAnswer};
 ghost use Rattle.sheet.specs.Held.{Holds, Meets, Scanned};
@@ -12,6 +14,7 @@ ghost use Rattle.sheet.specs.declared.finish.End.the-variants.{Refused};
 use crate::Reading;
 use crate::Size;
 use crate::Summary;
+use crate::fetch::Item;
 use crate::fetch::Taken;
 use crate::fetch::fetch_from;
 use crate::finish::End;
@@ -50,6 +53,43 @@ fn refuse(number: u8, place: usize, state: State) -> Step
     }
 }
 
+// A whole command that may stand here: END, or a command that adds to what is read.
+fn obey(
+    sheet: &[u8],
+    at: usize,
+    item: Item,
+    next: usize,
+    state: State,
+    output: &mut [u8; 256],
+    target: &mut [u8; 256],
+    faulty: &mut [u8; 256],
+) -> Step
+    requires { ⌜ (fetchAt (now sheet) at ≡ wholeAs item next) × (allowed (state .phase) (item .byte) ≡ true)
+        × ((p : Progress) × Holds state (now output) (now target) (now faulty) p) ⌝ }
+    ensures { λ r. ⌜ ((p : Progress) → Holds state (now (output .entry)) (now (target .entry)) (now (faulty .entry)) p
+        → Meets (now (sheet .entry)) at (step p (now (sheet .entry)) at) r (now (output .exit)) (now (target .exit)) (now (faulty .exit))) ⌝ }
+{
+    if item.byte == 6 {
+        let size = state.size;
+        let end = finish(sheet, at, size, &*target, &*faulty);
+        let verdict = Verdict::Stop(end);
+        Step { verdict, state }
+    } else {
+        let a = apply(item, state, &mut *output, &mut *target, &mut *faulty);
+        let number = a.number;
+        let after = a.state;
+        if number == 0 {
+            let verdict = Verdict::Go(next);
+            Step {
+                verdict,
+                state: after,
+            }
+        } else {
+            refuse(number, at, state)
+        }
+    }
+}
+
 // One command: 2 if no command byte is there, 3 if it may not stand here, 2 if operands are missing, then its own rules.
 fn command(
     sheet: &[u8],
@@ -70,25 +110,16 @@ fn command(
     match taken {
         Taken::Whole(item) => {
             if may_stand(phase, item.byte) {
-                if item.byte == 6 {
-                    let size = state.size;
-                    let end = finish(sheet, at, size, &*target, &*faulty);
-                    let verdict = Verdict::Stop(end);
-                    Step { verdict, state }
-                } else {
-                    let a = apply(item, state, &mut *output, &mut *target, &mut *faulty);
-                    let number = a.number;
-                    let after = a.state;
-                    if number == 0 {
-                        let verdict = Verdict::Go(next);
-                        Step {
-                            verdict,
-                            state: after,
-                        }
-                    } else {
-                        refuse(number, at, state)
-                    }
-                }
+                obey(
+                    sheet,
+                    at,
+                    item,
+                    next,
+                    state,
+                    &mut *output,
+                    &mut *target,
+                    &mut *faulty,
+                )
             } else {
                 refuse(3, at, state)
             }

@@ -5,7 +5,6 @@ use Rattle.sheet.proofs.PartLaws as laws
 use borrow.Author.Needs.{needs}
 use Rattle.sheet.proofs.test_part.Statement.{statement}
 use Rattle.sheet.proofs.test_part.Tie as tie
-use Rattle.sheet.proofs.test_span.Reads as test-span-reads
 
 test-span-requires : tie.Need-test-span-requires
 test-span-requires c κs = search needs

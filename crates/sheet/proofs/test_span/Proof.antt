@@ -5,9 +5,6 @@ use Rattle.sheet.proofs.PartLaws as laws
 use borrow.Author.Needs.{needs}
 use Rattle.sheet.proofs.test_span.Statement.{statement}
 use Rattle.sheet.proofs.test_span.Tie as tie
-use Rattle.sheet.proofs.handed_on.Reads as handed-on-reads
-use Rattle.sheet.proofs.part.test_from.Reads as test-from-reads
-use Rattle.sheet.proofs.read.Reads as read-reads
 
 read-requires : tie.Need-read-requires
 read-requires c κs = search needs
@@ -29,49 +26,49 @@ mul-place c =
     let a = c .before .before .before .before .before .before .before .before .args in
     let s = now (a .sheet) in
     let p = laws.placed s (c .before .before .before .before .before .before .read .result) _ (c .before .before .before .before .before .before .read .ensures) (c .before .before .before .before .reading .given .1) in
-    omega (arith, p .room, p .short)
+    omega (arith, p .1 .room, p .1 .short)
 
 add-place : tie.Need-add-place
 add-place c =
     let a = c .before .before .before .before .before .before .before .before .args in
     let s = now (a .sheet) in
     let p = laws.placed s (c .before .before .before .before .before .before .read .result) _ (c .before .before .before .before .before .before .read .ensures) (c .before .before .before .before .reading .given .1) in
-    omega (arith, p .room, p .short)
+    omega (arith, p .1 .room, p .1 .short)
 
 mul-place-2 : tie.Need-mul-place-2
 mul-place-2 c =
     let a = c .before .before .before .before .before .before .before .before .before .args in
     let s = now (a .sheet) in
     let p = laws.placed s (c .before .before .before .before .before .before .before .read .result) _ (c .before .before .before .before .before .before .before .read .ensures) (c .before .before .before .before .before .reading .given .1) in
-    omega (arith, p .room, p .short)
+    omega (arith, p .1 .room, p .1 .short)
 
 add-place-2 : tie.Need-add-place-2
 add-place-2 c =
     let a = c .before .before .before .before .before .before .before .before .before .args in
     let s = now (a .sheet) in
     let p = laws.placed s (c .before .before .before .before .before .before .before .read .result) _ (c .before .before .before .before .before .before .before .read .ensures) (c .before .before .before .before .before .reading .given .1) in
-    omega (arith, p .room, p .short)
+    omega (arith, p .1 .room, p .1 .short)
 
 test-from-requires : tie.Need-test-from-requires
 test-from-requires c κs =
     let a = c .before .before .before .before .before .before .before .before .before .args in
     let s = now (a .sheet) in
     let p = laws.placed s (c .before .before .before .before .before .before .before .read .result) _ (c .before .before .before .before .before .before .before .read .ensures) (c .before .before .before .before .before .reading .given .1) in
-    p .room
+    p .1 .room
 
 returns-2 : tie.Need-returns-2
 returns-2 c =
     let a = c .before .before .before .before .before .before .before .before .before .before .args in
     let s = now (a .sheet) in
     let p = laws.placed s (c .before .before .before .before .before .before .before .before .read .result) _ (c .before .before .before .before .before .before .before .before .read .ensures) (c .before .before .before .before .before .before .reading .given .1) in
-    laws.span-is s (a .i) _ p (c .before .before .before .if1 .taken) (c .test-from .result) (c .test-from .ensures)
+    laws.span-is s (a .i) _ (p .0) (p .1) (c .before .before .before .if1 .taken) (c .test-from .result) (c .test-from .ensures)
 
 returns-3 : tie.Need-returns-3
 returns-3 c =
     let a = c .before .before .before .before .before .before .before .args in
     let s = now (a .sheet) in
     let p = laws.placed s (c .before .before .before .before .before .read .result) _ (c .before .before .before .before .before .read .ensures) (c .before .before .before .reading .given .1) in
-    laws.span-none s (a .i) _ p (c .if1 .left)
+    laws.span-none s (a .i) _ (p .0) (p .1) (c .if1 .left)
 
 pub test-span-spec : {M : Type 1} → statement M
 test-span-spec =

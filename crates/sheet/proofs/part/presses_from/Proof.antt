@@ -11,8 +11,6 @@ use Rattle.sheet.proofs.PlaceLaws as laws
 use borrow.Author.Needs.{needs}
 use Rattle.sheet.proofs.part.presses_from.Statement.{statement}
 use Rattle.sheet.proofs.part.presses_from.Tie as tie
-use Rattle.sheet.proofs.fetch.fetch_from.Reads as fetch-from-reads
-use Rattle.sheet.proofs.fetch.item_in.Reads as item-in-reads
 
 abbrev Inv-loop : tie.InvT-loop
 Inv-loop sheet place n₀ at₀ n at = (at ≡ place + 2 * n) × (at ≤ length sheet) × ((xs rest : List ℕ) → drop place sheet ≡ pressBytes xs ++ rest → Calm rest → laws.Left sheet xs rest n at)

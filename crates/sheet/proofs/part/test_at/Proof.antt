@@ -4,8 +4,6 @@ use Rattle.sheet.proofs.PlaceLaws as laws
 use borrow.Author.Needs.{needs}
 use Rattle.sheet.proofs.part.test_at.Statement.{statement}
 use Rattle.sheet.proofs.part.test_at.Tie as tie
-use Rattle.sheet.proofs.fetch.fetch_from.Reads as fetch-from-reads
-use Rattle.sheet.proofs.part.presses_from.Reads as presses-from-reads
 
 fetch-from-requires : tie.Need-fetch-from-requires
 fetch-from-requires c κs = search needs

@@ -10,7 +10,6 @@ use Rattle.sheet.proofs.PlaceLaws as laws
 use borrow.Author.Needs.{needs}
 use Rattle.sheet.proofs.part.test_from.Statement.{statement}
 use Rattle.sheet.proofs.part.test_from.Tie as tie
-use Rattle.sheet.proofs.part.test_at.Reads as test-at-reads
 
 abbrev Inv-loop : tie.InvT-loop
 Inv-loop sheet place i at₀ j₀ at j = (j ≤ i) × (at ≤ length sheet) × ((l : List (List ℕ)) → drop place sheet ≡ testBytes l ++ 6 ∷ [] → i < length l → laws.TestPlace sheet place l j at)

@@ -1,5 +1,5 @@
 use Rattle.sheet.proofs.FaultLaws.{fault-taken, fault-many, fault-same, fault-unordered, fault-outside}
-use Rattle.sheet.proofs.Laws.{inside}
+use Rattle.sheet.specs.laws.Right.{row-in}
 use mathlib.Core.Path.{_∙_, sym, _≡_, refl, ap}
 use native.Mathlib.Omega.{arith}
 use borrow.Author.Needs.{needs}
@@ -40,10 +40,10 @@ add-key-2 : tie.Need-add-key-2
 add-key-2 c = search needs
 
 is-other-requires : tie.Need-is-other-requires
-is-other-requires c κs = let a = c .before .before .before .before .before .before .before .before .args in omega (arith, inside (a .size) (a .row) (sym (c .before .before .before .before .before .before .before .in-range .ensures) ∙ c .before .before .before .before .before .before .if1 .taken))
+is-other-requires c κs = let a = c .before .before .before .before .before .before .before .before .args in omega (arith, row-in (a .size) (a .row) (sym (c .before .before .before .before .before .before .before .in-range .ensures) ∙ c .before .before .before .before .before .before .if1 .taken))
 
 element-write-faulty : tie.Need-element-write-faulty
-element-write-faulty c = let a = c .before .before .before .before .before .before .before .before .before .before .before .before .args in omega (arith, inside (a .size) (a .row) (sym (c .before .before .before .before .before .before .before .before .before .before .before .in-range .ensures) ∙ c .before .before .before .before .before .before .before .before .before .before .if1 .taken))
+element-write-faulty c = let a = c .before .before .before .before .before .before .before .before .before .before .before .before .args in omega (arith, row-in (a .size) (a .row) (sym (c .before .before .before .before .before .before .before .before .before .before .before .in-range .ensures) ∙ c .before .before .before .before .before .before .before .before .before .before .if1 .taken))
 
 add-t24 : tie.Need-add-t24
 add-t24 c = search needs

@@ -1,5 +1,5 @@
 use Rattle.sheet.proofs.RuleLaws.{rule-taken, rule-unordered, rule-outside}
-use Rattle.sheet.proofs.Laws.{inside}
+use Rattle.sheet.specs.laws.Right.{row-in}
 use mathlib.Core.Path.{_∙_, sym, _≡_, refl, ap}
 use native.Mathlib.Omega.{arith}
 use borrow.Author.Needs.{needs}
@@ -22,10 +22,10 @@ add-p : tie.Need-add-p
 add-p c = search needs
 
 element-write-output : tie.Need-element-write-output
-element-write-output c = let a = c .before .before .before .before .before .before .args in omega (arith, inside (a .size) (a .row) (sym (c .before .before .before .before .before .in-range .ensures) ∙ c .before .before .before .before .if1 .taken))
+element-write-output c = let a = c .before .before .before .before .before .before .args in omega (arith, row-in (a .size) (a .row) (sym (c .before .before .before .before .before .in-range .ensures) ∙ c .before .before .before .before .if1 .taken))
 
 element-write-target : tie.Need-element-write-target
-element-write-target c = let a = c .before .before .before .before .before .before .args in omega (arith, inside (a .size) (a .row) (sym (c .before .before .before .before .before .in-range .ensures) ∙ c .before .before .before .before .if1 .taken))
+element-write-target c = let a = c .before .before .before .before .before .before .args in omega (arith, row-in (a .size) (a .row) (sym (c .before .before .before .before .before .in-range .ensures) ∙ c .before .before .before .before .if1 .taken))
 
 add-t18 : tie.Need-add-t18
 add-t18 c = search needs

@@ -1,0 +1,83 @@
+use Prim.Native.Nat.{_-_, _<_, _≤_}
+use mathlib.Core.Path.{_≡_}
+use mathlib.Core.List.{List, []}
+use native.Mathlib.Omega.{arith}
+use lib.ListN.{length}
+use denote.Ref.{now}
+use Rattle.sheet.specs.declared.Row.{Row}
+use Rattle.sheet.specs.Places.{FaultsFrom, FaultTables}
+use Rattle.sheet.proofs.FillLaws as laws
+use borrow.Author.Needs.{needs}
+use Rattle.sheet.proofs.filling.fill_faults.Statement.{statement}
+use Rattle.sheet.proofs.filling.fill_faults.Tie as tie
+
+abbrev Inv-loop : tie.InvT-loop
+Inv-loop sheet place faults count₀ first₀ mutated₀ diverted₀ at₀ i₀ count first mutated diverted at i = (i ≤ faults) × ((l : List Row) → FaultsFrom sheet place l → faults ≡ length l → FaultTables count₀ first₀ mutated₀ diverted₀ [] → laws.Filling sheet l count first mutated diverted at i)
+
+abbrev μ-loop : tie.MeasureT-loop
+μ-loop sheet place faults count₀ first₀ mutated₀ diverted₀ at₀ i₀ count first mutated diverted at i = faults - i
+
+loop-holds : tie.Need-loop-holds Inv-loop μ-loop
+loop-holds c = (omega arith, λ l h e t. laws.filling-start _ _ l _ _ _ _ h t)
+
+fetch-from-requires : tie.Need-fetch-from-requires Inv-loop μ-loop
+fetch-from-requires c κs = search needs
+
+item-in-requires : tie.Need-item-in-requires Inv-loop μ-loop
+item-in-requires c κs = search needs
+
+row-of-requires : tie.Need-row-of-requires Inv-loop μ-loop
+row-of-requires c κs = search needs
+
+note-fault-requires : tie.Need-note-fault-requires Inv-loop μ-loop
+note-fault-requires c κs =
+    let a = c .before .before .before .before .before .before .before .before .before .before .args in
+    let s = now (a .sheet) in
+    let l = c .before .before .before .before .before .before .before .before .loop in
+    let f = c .before .before .before .before .before .before .fetch-from in
+    let rows = c .before .before .before .before .before .before .before .before .before .before .pre .0 .0 in
+    let from = c .before .before .before .before .before .before .before .before .before .before .pre .0 .1 in
+    let g = l .inv .1 rows from (c .before .before .before .before .before .before .before .before .before .before .pre .0 .2) (c .before .before .before .before .before .before .before .before .before .before .pre .1) in
+    let h : l .i < length rows = omega (arith, c .before .before .before .before .before .before .before .before .before .before .pre .0 .2) in
+    let same = laws.row-fetched s (a .place) rows from (l .at) (l .i) h _ _ _ _ g (f .result) (c .before .before .before .before .before .item-in .result) (c .before .before .before .before .row-of .result) (f .ensures) (c .before .before .before .before .before .item-in .ensures) (c .before .before .before .before .row-of .ensures) in
+    (laws.row-digits s (a .place) rows from (l .at) (l .i) h _ _ _ _ g _ same, omega (arith, from .few), (_, laws.taken-length s (a .place) rows from (l .at) (l .i) h _ _ _ _ g, g .tables))
+
+add-i : tie.Need-add-i Inv-loop μ-loop
+add-i c = omega arith
+
+loop-less : tie.Need-loop-less Inv-loop μ-loop
+loop-less c = omega arith
+
+loop-again : tie.Need-loop-again Inv-loop μ-loop
+loop-again c =
+    let a = c .before .before .before .before .before .before .before .before .before .before .before .args in
+    let s = now (a .sheet) in
+    let l = c .before .before .before .before .before .before .before .before .before .loop in
+    let f = c .before .before .before .before .before .before .before .fetch-from in (
+      omega arith,
+      λ rows from e t.
+          let g = l .inv .1 rows from e t in
+          let h : l .i < length rows = omega arith in
+          let same = laws.row-fetched s (a .place) rows from (l .at) (l .i) h _ _ _ _ g (f .result) (c .before .before .before .before .before .before .item-in .result) (c .before .before .before .before .before .row-of .result) (f .ensures) (c .before .before .before .before .before .before .item-in .ensures) (c .before .before .before .before .before .row-of .ensures) in
+          laws.filling-next s (a .place) rows from (l .at) (l .i) h _ _ _ _ g (f .result) (c .before .before .before .before .before .row-of .result) _ _ _ _ (f .ensures) same
+          (c .note-fault .ensures _ (laws.taken-length s (a .place) rows from (l .at) (l .i) h _ _ _ _ g) (g .tables)),
+    )
+
+returns : tie.Need-returns Inv-loop μ-loop
+returns c = λ l h e. laws.filling-end _ l _ _ _ _ _ (c .before .loop .i) (omega arith) (c .before .loop .inv .1 l h e (c .before .before .before .pre .1))
+
+pub fill-faults-spec : {M : Type 1} → statement M
+fill-faults-spec =
+    tie.close
+    (tie.spec
+    Inv-loop
+    μ-loop
+    loop-holds
+    fetch-from-requires
+    item-in-requires
+    row-of-requires
+    note-fault-requires
+    add-i
+    loop-less
+    loop-again
+    returns)

@@ -1,0 +1,87 @@
+use Prim.Native.Nat.{ℕ, _-_, _<_, _≤_}
+use mathlib.Core.Path.{_≡_}
+use mathlib.Core.List.{List}
+use native.Mathlib.Omega.{arith}
+use lib.ListN.{length}
+use denote.Ref.{now}
+use Rattle.sheet.specs.Places.{TestsFrom, TestTables}
+use Rattle.sheet.proofs.FillLaws as laws
+use borrow.Author.Needs.{needs}
+use Rattle.sheet.proofs.filling.fill_tests.Statement.{statement}
+use Rattle.sheet.proofs.filling.fill_tests.Tie as tie
+
+abbrev Inv-loop : tie.InvT-loop
+Inv-loop sheet place tests starts₀ lengths₀ at₀ i₀ starts lengths at i = (i ≤ tests) × (at ≤ length sheet) × ((l : List (List ℕ)) → TestsFrom sheet place l → tests ≡ length l → TestTables starts₀ lengths₀ place l 0 → laws.Testing sheet place l starts lengths at i)
+
+abbrev μ-loop : tie.MeasureT-loop
+μ-loop sheet place tests starts₀ lengths₀ at₀ i₀ starts lengths at i = tests - i
+
+loop-holds : tie.Need-loop-holds Inv-loop μ-loop
+loop-holds c = (omega arith, laws.tests-room _ _ _ (c .before .pre .1), λ l h e t. laws.testing-start _ _ l _ _ h t)
+
+test-at-requires : tie.Need-test-at-requires Inv-loop μ-loop
+test-at-requires c κs = omega arith
+
+cast-starts : tie.Need-cast-starts Inv-loop μ-loop
+cast-starts c = omega (arith, c .before .test-at .ensures .within, c .before .before .before .before .before .pre .1 .short)
+
+mul-starts : tie.Need-mul-starts Inv-loop μ-loop
+mul-starts c = omega (arith, c .before .before .before .before .before .pre .1 .few, c .before .before .before .before .before .pre .2)
+
+element-write-starts : tie.Need-element-write-starts Inv-loop μ-loop
+element-write-starts c =
+    let a = c .before .before .before .before .before .args in
+    let l = c .before .before .before .loop in
+    let g = l .inv .2 (c .before .before .before .before .before .pre .0) (c .before .before .before .before .before .pre .1) (c .before .before .before .before .before .pre .2) (c .before .before .before .before .before .pre .3) in
+    omega (arith, g .tables .starts-are .size, c .before .before .before .before .before .pre .1 .few, c .before .before .before .before .before .pre .2)
+
+cast-lengths : tie.Need-cast-lengths Inv-loop μ-loop
+cast-lengths c = omega (arith, c .before .before .test-at .ensures .within, c .before .before .before .before .before .before .pre .1 .short)
+
+mul-lengths : tie.Need-mul-lengths Inv-loop μ-loop
+mul-lengths c = omega (arith, c .before .before .before .before .before .before .pre .1 .few, c .before .before .before .before .before .before .pre .2)
+
+element-write-lengths : tie.Need-element-write-lengths Inv-loop μ-loop
+element-write-lengths c =
+    let a = c .before .before .before .before .before .before .args in
+    let l = c .before .before .before .before .loop in
+    let g = l .inv .2 (c .before .before .before .before .before .before .pre .0) (c .before .before .before .before .before .before .pre .1) (c .before .before .before .before .before .before .pre .2) (c .before .before .before .before .before .before .pre .3) in
+    omega (arith, g .tables .lengths-are .size, c .before .before .before .before .before .before .pre .1 .few, c .before .before .before .before .before .before .pre .2)
+
+add-at : tie.Need-add-at Inv-loop μ-loop
+add-at c = omega (arith, c .before .before .before .test-at .ensures .within)
+
+add-i : tie.Need-add-i Inv-loop μ-loop
+add-i c = omega arith
+
+loop-less : tie.Need-loop-less Inv-loop μ-loop
+loop-less c = omega arith
+
+loop-again : tie.Need-loop-again Inv-loop μ-loop
+loop-again c =
+    let a = c .before .before .before .before .before .before .before .args in
+    let l = c .before .before .before .before .before .loop in
+    (omega arith, c .before .before .before .test-at .ensures .within, λ tests h e t. laws.testing-next _ (a .place) tests _ _ (l .at) (l .i) h (omega arith) (c .before .before .before .test-at .result) (c .before .before .before .test-at .ensures) (l .inv .2 tests h e t))
+
+returns : tie.Need-returns Inv-loop μ-loop
+returns c = λ l h e t. let q : c .before .loop .i ≡ c .before .before .before .args .tests = omega arith in rw (← q) (c .before .loop .inv .2 l h e t .tables)
+
+pub fill-tests-spec : {M : Type 1} → statement M
+fill-tests-spec =
+    tie.close
+    (tie.spec
+    Inv-loop
+    μ-loop
+    loop-holds
+    test-at-requires
+    cast-starts
+    mul-starts
+    element-write-starts
+    cast-lengths
+    mul-lengths
+    element-write-lengths
+    add-at
+    add-i
+    loop-less
+    loop-again
+    returns)

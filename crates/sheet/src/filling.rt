@@ -1,0 +1,214 @@
+// The tables of a sheet that was read before: one pass over its FAULTs, one over its tests, one over all pairs.
+ghost use mathlib.Core.Path.{_≡_};
+ghost use mathlib.Core.Bool.{cond};
+ghost use mathlib.Core.List.{List, [], _∷_, _++_};
+ghost use Prim.Native.Nat.{ℕ, _+_, _/_, _%_, _<_, _≤_};
+ghost use lib.Dec.{ltb, eqb};
+ghost use lib.ListN.{length};
+ghost use Rattle.sheet.specs.Sheet.{Sheet, choicesAt};
+ghost use Rattle.sheet.specs.Fetch.{rowFrom};
+ghost use Rattle.sheet.specs.Tables.{tablesOf, blankTables};
+ghost use Rattle.sheet.specs.Held.{Digits, Within16};
+ghost use Rattle.sheet.specs.Places.{FaultsFrom, TestsFrom, Table, FaultTables, TestTables, Countable, Fillable};
+use crate::Row;
+use crate::Size;
+use crate::Summary;
+use crate::Tables;
+use crate::fetch::Item;
+use crate::fetch::fetch_from;
+use crate::fetch::item_in;
+use crate::part::test_at;
+
+fn row_of(item: Item) -> Row
+    ensures { λ r. ⌜ r ≡ rowFrom item ⌝ }
+{
+    Row {
+        source: item.first,
+        input: item.second,
+        output: item.third,
+        target: item.fourth,
+    }
+}
+
+// The first fault's index: i if there is none before.
+fn first_of(count: u16, old: u16, i: u16) -> u16
+    ensures { λ r. ⌜ r ≡ cond (eqb count 0) i old ⌝ }
+{
+    if count == 0 {
+        return i;
+    }
+    old
+}
+
+// One fault more, at the index i.
+fn note_fault(
+    row: Row,
+    i: usize,
+    count: &mut [u16; 256],
+    first: &mut [u16; 256],
+    mutated: &mut [u8; 256],
+    diverted: &mut [u8; 256],
+)
+    requires { ⌜ Digits row × (i < 256) × ((l : List Row) × (i ≡ length l) × FaultTables (now count) (now first) (now mutated) (now diverted) l) ⌝ }
+    ensures { λ _. ⌜ ((l : List Row) → i ≡ length l
+        → FaultTables (now (count .entry)) (now (first .entry)) (now (mutated .entry)) (now (diverted .entry)) l
+        → FaultTables (now (count .exit)) (now (first .exit)) (now (mutated .exit)) (now (diverted .exit)) (l ++ row ∷ [])) ⌝ }
+{
+    let p = (row.source as usize) * 16 + (row.input as usize);
+    let n = count[p];
+    let old = first[p];
+    first[p] = first_of(n, old, i as u16);
+    count[p] = n + 1;
+    mutated[i] = row.output;
+    diverted[i] = row.target;
+}
+
+// All faults: they stand from a place on.
+fn fill_faults(
+    sheet: &[u8],
+    place: usize,
+    faults: usize,
+    count: &mut [u16; 256],
+    first: &mut [u16; 256],
+    mutated: &mut [u8; 256],
+    diverted: &mut [u8; 256],
+)
+    requires { ⌜ ((l : List Row) × FaultsFrom (now sheet) place l × (faults ≡ length l)) × FaultTables (now count) (now first) (now mutated) (now diverted) [] ⌝ }
+    ensures { λ _. ⌜ ((l : List Row) → FaultsFrom (now (sheet .entry)) place l → faults ≡ length l
+        → FaultTables (now (count .exit)) (now (first .exit)) (now (mutated .exit)) (now (diverted .exit)) l) ⌝ }
+{
+    let mut at = place;
+    let mut i: usize = 0;
+    while i < faults {
+        let f = fetch_from(sheet, at);
+        let next = f.next;
+        let taken = f.taken;
+        let row = row_of(item_in(taken));
+        note_fault(
+            row,
+            i,
+            &mut *count,
+            &mut *first,
+            &mut *mutated,
+            &mut *diverted,
+        );
+        at = next;
+        i += 1;
+    }
+}
+
+// How many choices a pair has: next is the rule's next state, 255 for no rule.
+fn choices_of(faults: u16, next: u8, unruled: u16) -> u16
+    requires { ⌜ faults ≤ 256 ⌝ }
+    ensures { λ r. ⌜ r ≡ cond (ltb next 16) (faults + 1) unruled ⌝ }
+{
+    if next < 16 {
+        return faults + 1;
+    }
+    unruled
+}
+
+// From the number of faults of each pair to its number of choices.
+fn count_choices(size: Size, target: &[u8; 256], choices: &mut [u16; 256])
+    requires { ⌜ Within16 size × ((sh : Sheet) × Countable size (now target) (now choices) sh) ⌝ }
+    ensures { λ _. ⌜ ((sh : Sheet) → Countable size (now (target .entry)) (now (choices .entry)) sh
+        → Table (now (choices .exit)) (λ i. choicesAt sh (i / 16) (i % 16))) ⌝ }
+{
+    let unruled = (size.outputs as u16) * (size.states as u16);
+    let mut p: usize = 0;
+    while p < 256 {
+        let n = choices[p];
+        let t = target[p];
+        choices[p] = choices_of(n, t, unruled);
+        p += 1;
+    }
+}
+
+// All tests: they stand from a place on.
+fn fill_tests(
+    sheet: &[u8],
+    place: usize,
+    tests: usize,
+    starts: &mut [u16; 256],
+    lengths: &mut [u16; 256],
+)
+    requires { ⌜ ((l : List (List ℕ)) × TestsFrom (now sheet) place l × (tests ≡ length l) × TestTables (now starts) (now lengths) place l 0) ⌝ }
+    ensures { λ _. ⌜ ((l : List (List ℕ)) → TestsFrom (now (sheet .entry)) place l → tests ≡ length l
+        → TestTables (now (starts .entry)) (now (lengths .entry)) place l 0
+        → TestTables (now (starts .exit)) (now (lengths .exit)) place l tests) ⌝ }
+{
+    let mut at = place;
+    let mut i: usize = 0;
+    while i < tests {
+        let span = test_at(sheet, at);
+        starts[i] = span.start as u16;
+        lengths[i] = (span.length / 2) as u16;
+        at = span.start + span.length;
+        i += 1;
+    }
+}
+
+// All tables of an accepted sheet, with those of its rules.
+pub(crate) fn fill(sheet: &[u8], summary: Summary, output: [u8; 256], target: [u8; 256]) -> Tables
+    requires { ⌜ ((sh : Sheet) × Fillable (now sheet) summary output target sh) ⌝ }
+    ensures { λ r. ⌜ ((sh : Sheet) → Fillable (now (sheet .entry)) summary output target sh → r ≡ tablesOf sh) ⌝ }
+{
+    let mut choices = [0u16; 256];
+    let mut first = [0u16; 256];
+    let mut mutated = [0u8; 256];
+    let mut diverted = [0u8; 256];
+    let mut starts = [0u16; 256];
+    let mut lengths = [0u16; 256];
+    let size = Size {
+        states: summary.states,
+        inputs: summary.inputs,
+        outputs: summary.outputs,
+    };
+    let faults = 4 + 5 * summary.rules;
+    let tests = faults + 5 * summary.faults;
+    fill_faults(
+        sheet,
+        faults,
+        summary.faults,
+        &mut choices,
+        &mut first,
+        &mut mutated,
+        &mut diverted,
+    );
+    count_choices(size, &target, &mut choices);
+    fill_tests(sheet, tests, summary.tests, &mut starts, &mut lengths);
+    Tables {
+        output,
+        target,
+        choices,
+        first,
+        mutated,
+        diverted,
+        starts,
+        lengths,
+    }
+}
+
+// The tables handed back with a refusal.
+pub(crate) fn blank() -> Tables
+    ensures { λ r. ⌜ r ≡ blankTables ⌝ }
+{
+    let output = [255u8; 256];
+    let target = [255u8; 256];
+    let choices = [0u16; 256];
+    let first = [0u16; 256];
+    let mutated = [0u8; 256];
+    let diverted = [0u8; 256];
+    let starts = [0u16; 256];
+    let lengths = [0u16; 256];
+    Tables {
+        output,
+        target,
+        choices,
+        first,
+        mutated,
+        diverted,
+        starts,
+        lengths,
+    }
+}
