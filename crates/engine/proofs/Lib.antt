@@ -1,0 +1,11 @@
+mod Bits
+mod Choices
+pub mod Suites
+pub mod Packs
+mod Steps
+mod Cursors
+mod Wants
+mod Pairs
+mod Tries
+pub mod Stores
+mod Example

@@ -1,0 +1,18 @@
+use native.Mathlib.Omega.{arith}
+use mathlib.Core.Path.{_≡_}
+use Prim.Native.Nat.{ℕ, _/_, _^_, _%_}
+use native.Mathlib.Nat.{div-eq-of-lt}
+use lib.Pow.{pow-pos}
+use Rattle.engine.specs.Sets.{Has}
+use Rattle.engine.proofs.sets.empty.Statement.{statement}
+use Rattle.engine.proofs.sets.empty.Tie as tie
+
+nothing : (j : ℕ) → Has 0 j → ⊥
+unfolding Has
+nothing j h = omega (arith, div-eq-of-lt (pow-pos j))
+
+returns : tie.Need-returns
+returns c = nothing
+
+pub empty-spec : {M : Type 1} → statement M
+empty-spec = tie.close (tie.spec returns)

@@ -1,0 +1,19 @@
+use borrow.Author.Needs.{needs}
+use borrow.Author.Tests.{eqb-true, eqb-false}
+use Rattle.engine.specs.Sets.{Has}
+use Rattle.engine.proofs.sets.has.Statement.{statement}
+use Rattle.engine.proofs.sets.has.Tie as tie
+use Rattle.engine.proofs.sets.has.Reads as reads
+use Rattle.engine.proofs.sets.has.Lts as lts
+
+-- src/sets.rt:18:6
+shr-result : tie.Need-shr-result
+shr-result c = search needs
+
+-- src/sets.rt:14:1
+returns : tie.Need-returns
+unfolding Has
+returns c = (λ e. eqb-true _ _ e, λ e. eqb-false _ _ e)
+
+pub has-spec : {M : Type 1} → statement M
+has-spec = tie.close (tie.spec shr-result returns)

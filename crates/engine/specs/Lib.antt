@@ -1,0 +1,7 @@
+pub mod Sets
+pub mod Machine
+pub mod Packing
+pub mod Answers
+pub mod Product
+pub mod Refute
+pub mod Store

@@ -1,0 +1,356 @@
+// Is there no survivor that agrees with a settled part?
+use crate::product::Seen;
+use crate::product::meet;
+use crate::product::over;
+use crate::product::shrink;
+use crate::sets::empty;
+use crate::sets::has;
+use crate::sets::join;
+use crate::sets::with;
+use crate::sets::without;
+use crate::store::Known;
+use crate::store::hit;
+use crate::store::learn;
+use crate::tables::choices;
+use crate::tables::pair_of;
+use crate::tables::rule_target;
+use crate::tables::site;
+use crate::tables::states;
+use crate::tables::transition;
+use crate::tables::wide;
+use crate::walk::Ran;
+use crate::walk::better;
+use crate::walk::run;
+use crate::walk::slot;
+ghost use mathlib.Core.Path.{_≡_};
+ghost use mathlib.Core.Bool.{true};
+ghost use Prim.Native.Nat.{ℕ, _+_, _*_, _<_, _≤_};
+ghost use lib.ListN.{length, getD, set};
+ghost use Rattle.engine.specs.Machine.{Wf, Partial, SuiteOk, choicesOf};
+ghost use Rattle.engine.specs.Answers.{WantsOk};
+ghost use Rattle.engine.specs.Store.{StoreOk};
+ghost use Rattle.engine.specs.Refute.{OutcomeOk, LookedOk, KillerOk, NoneIf, SplitOk};
+
+// No mutant that agrees on a set is a survivor; or not known.
+pub enum Outcome {
+    Refuted(u32),
+    Open,
+}
+
+// The same; or the suspect to settle next and its pair; or nothing.
+pub enum Looked {
+    No(u32),
+    Split(u8, usize),
+    Unknown,
+}
+
+// Whether a set is one, is for another output, and is smaller.
+pub fn suits(set: u32, o: u8, output: u8, old: u32) -> bool
+    ensures { λ r. ⌜ (r ≡ true → (set ≡ 4294967295 → ⊥) × (o ≡ output → ⊥)) ⌝ }
+{
+    if set == 4294967295 {
+        return false;
+    }
+    if o == output {
+        return false;
+    }
+    better(set, old)
+}
+
+// An output, other than this one, that the tests want of a suspect, by a smallest set; 255 if there is none.
+pub fn killer(wanted: &[u32; 512], i: u8, output: u8) -> u8
+    requires { ⌜ i < 32 ⌝ }
+    ensures { λ r. ⌜ KillerOk (now (wanted .entry)) i output r ⌝ }
+{
+    let mut best: u8 = 255;
+    let mut old: u32 = 4294967295;
+    let mut o: u8 = 0;
+    while o < 16 {
+        let v = wanted[slot(i, o)];
+        if suits(v, o, output, old) {
+            best = o;
+            old = v;
+        }
+        o += 1;
+    }
+    best
+}
+
+// Whether the tests refute a choice c of the suspect i at the pair k.
+pub fn kill(
+    tables: &[u8; 1603],
+    bytes: &[u8],
+    p: &[u16; 32],
+    wanted: &[u32; 512],
+    k: usize,
+    i: u8,
+    c: u16,
+) -> Outcome
+    requires { ⌜ Wf (now tables) × WantsOk (now tables) (now bytes) (now p) (now wanted) × SplitOk (now tables) (now p) i k × (length (now p) ≡ 32) × (c < choicesOf (now tables) i) ⌝ }
+    ensures { λ r. ⌜ OutcomeOk (now (tables .entry)) (now (bytes .entry)) (set (now (p .entry)) i c) r ⌝ }
+{
+    let step = transition(tables, k, c);
+    let o = killer(wanted, i, step.output);
+    if o >= 16 {
+        return Outcome::Open;
+    }
+    Outcome::Refuted(with(wanted[slot(i, o)], i))
+}
+
+// The output that the tests want of a suspect: 255 if no test waits for it, 254 if they want several.
+pub fn wish(wanted: &[u32; 512], i: u8) -> u8
+    requires { ⌜ i < 32 ⌝ }
+{
+    let mut want: u8 = 255;
+    let mut o: u8 = 0;
+    while o < 16 {
+        if wanted[slot(i, o)] != 4294967295 {
+            if want != 255 {
+                return 254;
+            }
+            want = o;
+        }
+        o += 1;
+    }
+    want
+}
+
+pub fn plus(n: u16) -> u16 {
+    if n == 65535 {
+        return n;
+    }
+    n + 1
+}
+
+// How many choices of a suspect have an output.
+pub fn alive(tables: &[u8; 1603], i: u8, want: u8) -> u16
+    requires { ⌜ i < 32 ⌝ }
+{
+    if want >= 16 {
+        return 0;
+    }
+    let k = pair_of(tables, i);
+    if rule_target(tables, k) == 255 {
+        return states(tables) as u16;
+    }
+    let count = choices(tables, i);
+    let mut sum: u16 = 0;
+    let mut c: u16 = 0;
+    while c < count {
+        let step = transition(tables, k, c);
+        if step.output == want {
+            sum = plus(sum);
+        }
+        c += 1;
+    }
+    sum
+}
+
+// The suspect with the fewest choices left among those for which tests wait, or 255.
+pub fn fewest(tables: &[u8; 1603], wanted: &[u32; 512], waits: u32) -> u8 {
+    let mut best: u8 = 255;
+    let mut least: u16 = 65535;
+    let mut i: u8 = 0;
+    while i < 32 {
+        if has(waits, i) {
+            let n = alive(tables, i, wish(wanted, i));
+            if n < least {
+                least = n;
+                best = i;
+            }
+        }
+        i += 1;
+    }
+    best
+}
+
+// The suspect to settle next, if it is one that is not settled.
+pub fn settle(tables: &[u8; 1603], bytes: &[u8], p: &[u16; 32], i: u8) -> Looked
+    ensures { λ r. ⌜ LookedOk (now (tables .entry)) (now (bytes .entry)) (now (p .entry)) r ⌝ }
+{
+    if i >= 32 {
+        return Looked::Unknown;
+    }
+    if p[wide(i)] != 256 {
+        return Looked::Unknown;
+    }
+    let k = pair_of(tables, i);
+    if site(tables, k) != i {
+        return Looked::Unknown;
+    }
+    Looked::Split(i, k)
+}
+
+// What the tests and the reachable pairs of states say, or the suspect to settle next.
+pub fn look(
+    tables: &[u8; 1603],
+    bytes: &[u8],
+    sets: &[u32; 1024],
+    values: &[u16; 32768],
+    notes: &mut [u32; 80],
+    left: u8,
+    p: &[u16; 32],
+    wanted: &mut [u32; 512],
+) -> Looked
+    requires { ⌜ StoreOk (now tables) (now bytes) (now sets) (now values) × Wf (now tables) × Partial (now tables) (now p) × SuiteOk (now tables) (now bytes) × WantsOk (now tables) (now bytes) (now p) (now wanted) × (length (now p) ≡ 32) ⌝ }
+    ensures { λ r. ⌜ LookedOk (now (tables .entry)) (now (bytes .entry)) (now (p .entry)) r × WantsOk (now (tables .entry)) (now (bytes .entry)) (now (p .entry)) (now (wanted .exit)) ⌝ }
+{
+    tick(notes);
+    if let Known::By(known) = hit(tables, bytes, sets, values, notes, p) {
+        return Looked::No(known);
+    }
+    let ran = run(tables, bytes, p, wanted);
+    if let Ran::Failed(used) = ran {
+        return Looked::No(used);
+    }
+    let Ran::Passed(waits) = ran else {
+        return Looked::Unknown;
+    };
+    if let Seen::Fine(used) = over(tables, p) {
+        return Looked::No(shrink(tables, p, notes, left, used));
+    }
+    let i = fewest(tables, wanted, waits);
+    if i < 32 {
+        return settle(tables, bytes, p, i);
+    }
+    settle(tables, bytes, p, meet(tables, p))
+}
+
+// With `left` suspects at most still to be settled. `dead`: what is known of this node already.
+pub fn explore(
+    tables: &[u8; 1603],
+    bytes: &[u8],
+    sets: &mut [u32; 1024],
+    values: &mut [u16; 32768],
+    notes: &mut [u32; 80],
+    p: [u16; 32],
+    dead: Outcome,
+    left: u8,
+) -> Outcome
+    requires { ⌜ Wf (now tables) × Partial (now tables) p × SuiteOk (now tables) (now bytes) × OutcomeOk (now tables) (now bytes) p dead × (length p ≡ 32) × StoreOk (now tables) (now bytes) (now sets) (now values) ⌝ }
+    ensures { λ r. ⌜ OutcomeOk (now (tables .entry)) (now (bytes .entry)) p r × StoreOk (now (tables .entry)) (now (bytes .entry)) (now (sets .exit)) (now (values .exit)) ⌝ }
+{
+    if let Outcome::Refuted(known) = dead {
+        return Outcome::Refuted(known);
+    }
+    let mut wanted = [4294967295u32; 512];
+    let seen = look(tables, bytes, sets, values, notes, left, &p, &mut wanted);
+    if let Looked::No(used) = seen {
+        return Outcome::Refuted(used);
+    }
+    let Looked::Split(i, k) = seen else {
+        return Outcome::Open;
+    };
+    if left == 0 {
+        return Outcome::Open;
+    }
+    trail(notes, left, i);
+    let j = wide(i);
+    let n = choices(tables, i);
+    let mut all = empty();
+    let mut c: u16 = 0;
+    while c < n {
+        let killed = kill(tables, bytes, &p, &wanted, k, i, c);
+        let mut q = p;
+        q[j] = c;
+        let Outcome::Refuted(used) = explore(
+            tables,
+            bytes,
+            sets,
+            values,
+            notes,
+            q,
+            killed,
+            left - 1,
+        ) else {
+            return Outcome::Open;
+        };
+        if !has(used, i) {
+            return Outcome::Refuted(used);
+        }
+        all = join(all, used);
+        c += 1;
+    }
+    let rest = without(all, i);
+    learn(tables, bytes, sets, values, notes, &p, rest);
+    Outcome::Refuted(rest)
+}
+
+// Keeps which suspect is settled at this depth.
+pub fn trail(notes: &mut [u32; 80], left: u8, i: u8) {
+    let at = 8 + wide(left);
+    if at < 80 {
+        notes[at] = i as u32;
+    }
+}
+
+// Keeps the suspects settled beforehand, the last first.
+pub fn settled_before(p: &[u16; 32], notes: &mut [u32; 80], left: u8) {
+    let mut at = 9 + wide(left);
+    let mut j: u8 = 32;
+    while j > 0 {
+        j -= 1;
+        if p[wide(j)] != 256 {
+            if at < 80 {
+                notes[at] = j as u32;
+                at += 1;
+            }
+        }
+    }
+    if at < 80 {
+        notes[at] = 255;
+    }
+}
+
+// Counts a node.
+pub fn tick(notes: &mut [u32; 80]) {
+    let n = notes[0];
+    if n < 4294967295 {
+        notes[0] = n + 1;
+    }
+}
+
+// Refuted(u): no mutant that agrees with the settled members of u in the prefix is a survivor. At most `left` more suspects are
+// settled on the way.
+pub fn refute(
+    tables: &[u8; 1603],
+    bytes: &[u8],
+    sets: &mut [u32; 1024],
+    values: &mut [u16; 32768],
+    notes: &mut [u32; 80],
+    prefix: [u16; 32],
+    left: u8,
+) -> Outcome
+    requires { ⌜ Wf (now tables) × SuiteOk (now tables) (now bytes) × Partial (now tables) prefix × (length prefix ≡ 32) × StoreOk (now tables) (now bytes) (now sets) (now values) ⌝ }
+    ensures { λ r. ⌜ OutcomeOk (now (tables .entry)) (now (bytes .entry)) prefix r × StoreOk (now (tables .entry)) (now (bytes .entry)) (now (sets .exit)) (now (values .exit)) ⌝ }
+{
+    settled_before(&prefix, notes, left);
+    explore(
+        tables,
+        bytes,
+        sets,
+        values,
+        notes,
+        prefix,
+        Outcome::Open,
+        left,
+    )
+}
+
+// Whether no mutant with all the choices of the prefix is a survivor; false promises nothing.
+pub fn no_survivor(
+    tables: &[u8; 1603],
+    bytes: &[u8],
+    sets: &mut [u32; 1024],
+    values: &mut [u16; 32768],
+    notes: &mut [u32; 80],
+    prefix: [u16; 32],
+) -> bool
+    requires { ⌜ Wf (now tables) × SuiteOk (now tables) (now bytes) × Partial (now tables) prefix × (length prefix ≡ 32) × StoreOk (now tables) (now bytes) (now sets) (now values) ⌝ }
+    ensures { λ r. ⌜ NoneIf (now (tables .entry)) (now (bytes .entry)) prefix r × StoreOk (now (tables .entry)) (now (bytes .entry)) (now (sets .exit)) (now (values .exit)) ⌝ }
+{
+    let Outcome::Refuted(_) = refute(tables, bytes, sets, values, notes, prefix, 32) else {
+        return false;
+    };
+    true
+}

@@ -1,0 +1,176 @@
+// Refutations found before: sets of suspects with their choices.
+use crate::sets::has;
+use crate::tables::wide;
+ghost use mathlib.Core.Path.{_≡_};
+ghost use mathlib.Core.Bool.{true};
+ghost use Prim.Native.Nat.{ℕ, _+_, _*_, _<_, _≤_};
+ghost use lib.ListN.{length, getD};
+ghost use Rattle.engine.specs.Machine.{Wf};
+ghost use Rattle.engine.specs.Refute.{NoSurvivor};
+ghost use Rattle.engine.specs.Sets.{Has};
+ghost use Rattle.engine.specs.Store.{StoreOk, Matches, Written, HitOk};
+
+pub enum Known {
+    By(u32),
+    Fresh,
+}
+
+// An empty store. An entry that is not used names a choice that no mutant has.
+pub fn clear(
+    tables: &[u8; 1603],
+    bytes: &[u8],
+    sets: &mut [u32; 1024],
+    values: &mut [u16; 32768],
+    notes: &mut [u32; 80],
+)
+    requires { ⌜ Wf (now tables) ⌝ }
+    ensures { λ r. ⌜ StoreOk (now (tables .entry)) (now (bytes .entry)) (now (sets .exit)) (now (values .exit)) ⌝ }
+{
+    *sets = [1u32; 1024];
+    *values = [256u16; 32768];
+    *notes = [0u32; 80];
+}
+
+// Where a choice of an entry is kept.
+pub fn value_at(e: usize, j: u8) -> usize
+    requires { ⌜ (e < 1024) × (j < 32) ⌝ }
+    ensures { λ r. ⌜ (r ≡ e * 32 + j) × (r < 32768) ⌝ }
+{
+    e * 32 + (j as usize)
+}
+
+// Whether a settled choice is the entry's, if the set has the suspect.
+pub fn agrees(set: u32, j: u8, choice: u16, value: u16) -> bool
+    requires { ⌜ j < 32 ⌝ }
+    ensures { λ r. ⌜ (r ≡ true → Has set j → (choice ≡ 256 → ⊥) × (choice ≡ value)) ⌝ }
+{
+    if !has(set, j) {
+        return true;
+    }
+    if choice == 256 {
+        return false;
+    }
+    if choice != value {
+        return false;
+    }
+    true
+}
+
+// Whether the choices of an entry are all settled, and the same.
+pub fn matches(p: &[u16; 32], values: &[u16; 32768], set: u32, e: usize) -> bool
+    requires { ⌜ e < 1024 ⌝ }
+    ensures { λ r. ⌜ (r ≡ true → Matches (now (p .entry)) (now (values .entry)) set e) ⌝ }
+{
+    let mut j: u8 = 0;
+    while j < 32 {
+        if !agrees(set, j, p[wide(j)], values[value_at(e, j)]) {
+            return false;
+        }
+        j += 1;
+    }
+    true
+}
+
+// The set of the settled suspects. It promises nothing.
+pub fn settled_set(p: &[u16; 32]) -> u32 {
+    let mut set: u32 = 0;
+    let mut j: usize = 32;
+    while j > 0 {
+        j -= 1;
+        set = (set << 1) | (bit(p[j]));
+    }
+    set
+}
+
+pub fn bit(value: u16) -> u32 {
+    if value == 256 {
+        return 0;
+    }
+    1
+}
+
+// How many entries are worth a look.
+pub fn filled(notes: &[u32; 80]) -> usize
+    ensures { λ r. ⌜ r ≤ 1024 ⌝ }
+{
+    let n = notes[2];
+    if n > 1024 {
+        return 1024;
+    }
+    n as usize
+}
+
+// An entry that refutes.
+pub fn hit(
+    tables: &[u8; 1603],
+    bytes: &[u8],
+    sets: &[u32; 1024],
+    values: &[u16; 32768],
+    notes: &[u32; 80],
+    p: &[u16; 32],
+) -> Known
+    requires { ⌜ StoreOk (now tables) (now bytes) (now sets) (now values) ⌝ }
+    ensures { λ r. ⌜ HitOk (now (tables .entry)) (now (bytes .entry)) (now (p .entry)) r ⌝ }
+{
+    let settled = settled_set(p);
+    let n = filled(notes);
+    let mut e: usize = 0;
+    while e < n {
+        let set = sets[e];
+        if set | settled == settled {
+            if matches(p, values, set, e) {
+                return Known::By(set);
+            }
+        }
+        e += 1;
+    }
+    Known::Fresh
+}
+
+// Writes the choices of an entry.
+pub fn write(values: &mut [u16; 32768], e: usize, p: &[u16; 32])
+    requires { ⌜ (e < 1024) × (length (now values) ≡ 32768) ⌝ }
+    ensures { λ r. ⌜ Written (now (values .entry)) (now (values .exit)) e (now (p .entry)) 32 ⌝ }
+{
+    let mut j: u8 = 0;
+    while j < 32 {
+        let choice = p[wide(j)];
+        values[value_at(e, j)] = choice;
+        j += 1;
+    }
+}
+
+// The entry to overwrite.
+pub fn entry(notes: &mut [u32; 80]) -> usize
+    ensures { λ r. ⌜ r < 1024 ⌝ }
+{
+    let next = notes[1];
+    let n = notes[2];
+    if n < 1024 {
+        notes[2] = n + 1;
+    }
+    if next >= 1023 {
+        notes[1] = 0;
+        return 1023;
+    }
+    notes[1] = next + 1;
+    next as usize
+}
+
+// Keeps a refutation.
+pub fn learn(
+    tables: &[u8; 1603],
+    bytes: &[u8],
+    sets: &mut [u32; 1024],
+    values: &mut [u16; 32768],
+    notes: &mut [u32; 80],
+    p: &[u16; 32],
+    set: u32,
+)
+    requires { ⌜ StoreOk (now tables) (now bytes) (now sets) (now values) × NoSurvivor (now tables) (now bytes) (now p) set × (length (now p) ≡ 32) ⌝ }
+    ensures { λ r. ⌜ StoreOk (now (tables .entry)) (now (bytes .entry)) (now (sets .exit)) (now (values .exit)) ⌝ }
+{
+    let e = entry(notes);
+    write(values, e, p);
+    sets[e] = set;
+}
