@@ -1,7 +1,7 @@
 -- A FAULT: what the marks say after it.
-use Prim.Native.Nat.{ℕ, suc, _+_, _*_, _<_, _≤_}
+use Prim.Native.Nat.{ℕ, _+_, _<_, _≤_}
 use mathlib.Core.Path.{_≡_, refl, ap, sym, _∙_}
-use mathlib.Core.Bool.{Bool, true, false, not}
+use mathlib.Core.Bool.{true, false, not}
 use mathlib.Core.Option.{Option, none, some}
 use mathlib.Core.List.{List, [], _∷_, _++_}
 use native.Mathlib.Numerals.{add-one}
@@ -12,8 +12,7 @@ use borrow.Author.Tests.{le-leb, lt-leb, eq-eqb, ne-eqb}
 use Rattle.sheet.specs.declared.Row.{Row}
 use Rattle.sheet.specs.declared.Size.{Size}
 use Rattle.sheet.specs.declared.rules.Faults.{Faults}
-use Rattle.sheet.specs.Lists.{last, All}
-use Rattle.sheet.specs.Sheet.{Sheet, rowOf, isAt, rowsAt, ruleAt}
+use Rattle.sheet.specs.Sheet.{Sheet, rowOf, rowsAt, ruleAt}
 use Rattle.sheet.specs.Reading.{inRange, isOther, firstBroken, refusal}
 use Rattle.sheet.specs.laws.Basics.{all-snoc}
 use Rattle.sheet.specs.laws.Rows.{last-snoc}

@@ -1,6 +1,6 @@
 -- What is fetched at a place, and what the definition does with it.
 use mathlib.Core.Path.{_≡_, refl, ap, sym, _∙_}
-use mathlib.Core.Bool.{Bool, true, false, cond}
+use mathlib.Core.Bool.{Bool, true, false}
 use mathlib.Core.List.{List}
 use Prim.Native.Nat.{ℕ, _+_, _-_, _<_, _≤_}
 use native.Mathlib.Omega.{arith}
@@ -11,10 +11,10 @@ use Rattle.sheet.specs.declared.fetch.Item.{Item}
 use Rattle.sheet.specs.declared.fetch.Taken.{Taken}
 use Rattle.sheet.specs.declared.fetch.Taken.the-variants.{Whole, Short, Nothing}
 use Rattle.sheet.specs.declared.fetch.Fetched.{Fetched}
-use Rattle.sheet.specs.Reading.{Progress, Command, Outcome, go, stop, refused, step, finishing, allowed, width, commandOf, refusal}
+use Rattle.sheet.specs.Reading.{Progress, go, stop, refused, step, finishing, allowed, width, commandOf, refusal}
 use Rattle.sheet.specs.Held.{advanced}
 use Rattle.sheet.specs.Fetch.{operandOf, itemAt, fetchBy, fetchAt, wholeAs, commandFrom}
-use Rattle.sheet.proofs.StepLaws.{step-past, step-unknown, step-short, step-end, step-go, step-refused}
+use Rattle.sheet.proofs.StepLaws.{step-unknown, step-short, step-end, step-go, step-refused}
 
 -- the code's parts make what the definition fetches
 pub whole : (s : List ℕ) (at w o₁ o₂ o₃ o₄ : ℕ) → at < length s → w ≡ width (getD s at 0) → w ≤ length s - at

@@ -1,6 +1,6 @@
 -- The tables, as the passes fill them.
 use Prim.Native.Nat.{ℕ, zero, suc, _+_, _*_, _-_, _/_, _%_, _<_, _≤_}
-use mathlib.Core.Path.{_≡_, refl, ap, sym, _∙_, subst}
+use mathlib.Core.Path.{_≡_, refl, ap, sym, _∙_}
 use mathlib.Core.Bool.{Bool, true, false, cond}
 use mathlib.Core.Option.{Option, none, some}
 use mathlib.Core.List.{List, [], _∷_, _++_}
@@ -9,7 +9,7 @@ use native.Mathlib.Omega.{arith}
 use lib.Dec.{ltb, eqb}
 use lib.ListN.{length, getD, set, take, drop, replicate, length-set, length-append, length-drop, length-replicate, getD-replicate, List·getD-append, List·getD-eq-default}
 use lib.Seq.{getD-set-same, getD-set-other, getD-append-seam, getD-drop, drop-drop, drop-cons, take-suc, length-take-le, take-length, ext-getD}
-use borrow.Author.Tests.{lt-ltb, le-ltb, ltb-true, ltb-false, eq-eqb, ne-eqb, eqb-true, eqb-false}
+use borrow.Author.Tests.{lt-ltb, le-ltb, ltb-true, ltb-false, ne-eqb, eqb-true, eqb-false}
 use Rattle.sheet.specs.declared.Row.{Row}
 use Rattle.sheet.specs.declared.Size.{Size}
 use Rattle.sheet.specs.declared.Span.{Span}
@@ -19,9 +19,9 @@ use Rattle.sheet.specs.declared.fetch.Taken.the-variants.{Whole}
 use Rattle.sheet.specs.Lists.{maybe, isNone, first, All}
 use Rattle.sheet.specs.Sheet.{Sheet, isAt, rowsAt, ruleAt, unruledChoices, choicesAt}
 use Rattle.sheet.specs.Encode.{rowBytes, testBytes}
-use Rattle.sheet.specs.Tables.{table, byPair, firstAt, firstFault, noRow}
+use Rattle.sheet.specs.Tables.{table, firstAt, firstFault, noRow}
 use Rattle.sheet.specs.Fetch.{itemAt, fetchAt, itemIn, rowFrom}
-use Rattle.sheet.specs.Held.{Digits, placeOf, pairKey, ByPair, ruleTarget, Leads}
+use Rattle.sheet.specs.Held.{Digits, placeOf, pairKey, ByPair, ruleTarget}
 use Rattle.sheet.specs.Places.{TestAt, spanFrom, FaultsFrom, TestsFrom, Table, FaultTables, TestTables, Countable}
 use Rattle.sheet.specs.laws.TablesLaw.{table-length, table-at, rows-few}
 use Rattle.sheet.proofs.Laws.{If, length-snoc, at-true, rows-new, rows-old, rule-digits, table-set}

@@ -1,13 +1,13 @@
 -- All tables of an accepted sheet.
-use Prim.Native.Nat.{ℕ, _+_, _*_, _/_, _%_, _<_, _≤_}
+use Prim.Native.Nat.{ℕ, _+_, _*_, _<_}
 use mathlib.Core.Path.{_≡_, refl, ap, sym, _∙_, subst}
 use mathlib.Core.Bool.{Bool, true, false, cond}
 use mathlib.Core.List.{List, [], _∷_, _++_, append-assoc}
 use native.Mathlib.Omega.{arith}
 use lib.Dec.{ltb}
-use lib.ListN.{length, getD, take, drop, replicate, length-append, List·getD-eq-default}
+use lib.ListN.{length, getD, drop, length-append, List·getD-eq-default}
 use lib.Seq.{drop-at}
-use borrow.Author.Tests.{lt-ltb, le-ltb, ltb-false}
+use borrow.Author.Tests.{ltb-false}
 use Rattle.sheet.specs.declared.Row.{Row}
 use Rattle.sheet.specs.declared.Size.{Size}
 use Rattle.sheet.specs.declared.Span.{Span}
@@ -17,14 +17,13 @@ use Rattle.sheet.specs.declared.Loaded.{Loaded}
 use Rattle.sheet.specs.declared.Reading.{Reading as ReadAnswer}
 use Rattle.sheet.specs.declared.Reading.the-variants as read
 use Rattle.sheet.specs.declared.scan.Done.{Done}
-use Rattle.sheet.specs.Lists.{All}
-use Rattle.sheet.specs.Sheet.{Sheet, rowsAt, ruleAt, choicesAt}
+use Rattle.sheet.specs.Sheet.{Sheet, ruleAt}
 use Rattle.sheet.specs.Reading.{Reading, accepted, refused, reading, summaryOf}
 use Rattle.sheet.specs.Encode.{sizeBytes, rowBytes, testBytes, machineBytes, body, encode}
 use Rattle.sheet.specs.Part.{spanOf}
 use Rattle.sheet.specs.WellFormed.{RowIn, SizeIn}
-use Rattle.sheet.specs.Tables.{readAnswer, tablesOf, blankTables, loadedOf, firstFault, noRow}
-use Rattle.sheet.specs.Held.{Within16, Digits, ruleOutput, ruleTarget, ByPair, Leads, HeldOf, Scanned}
+use Rattle.sheet.specs.Tables.{readAnswer, tablesOf, blankTables, loadedOf}
+use Rattle.sheet.specs.Held.{Within16, Digits, ruleOutput, ByPair, Leads, HeldOf, Scanned}
 use Rattle.sheet.specs.Places.{spanFrom, FaultsFrom, TestsFrom, Table, FaultTables, TestTables, Countable, Fillable}
 use Rattle.sheet.specs.laws.Encoded.{encoded}
 use Rattle.sheet.specs.laws.Accepted.{well-formed}

@@ -1,5 +1,5 @@
 -- Places: where the tests of an accepted sheet stand.
-use Prim.Native.Nat.{ℕ, zero, suc, _+_, _*_, _-_, _<_, _≤_}
+use Prim.Native.Nat.{ℕ, suc, _+_, _*_, _-_, _<_, _≤_}
 use mathlib.Core.Path.{_≡_, refl, ap, sym, _∙_}
 use mathlib.Core.Bool.{Bool, true, false}
 use mathlib.Core.List.{List, [], _∷_, _++_, append-assoc}
@@ -21,7 +21,7 @@ use Rattle.sheet.specs.Sheet.{Sheet}
 use Rattle.sheet.specs.Reading.{width}
 use Rattle.sheet.specs.Encode.{sizeBytes, rowBytes, pressBytes, testBytes, machineBytes, body, encode}
 use Rattle.sheet.specs.Fetch.{itemAt, fetchBy, fetchAt, itemIn}
-use Rattle.sheet.specs.Places.{Calm, PressesFrom, TestAt, spanFrom, TestFrom}
+use Rattle.sheet.specs.Places.{Calm, PressesFrom, TestAt, spanFrom}
 use Rattle.sheet.proofs.FetchLaws.{WholeAt, fetched-whole}
 
 -- what is fetched where a command stands

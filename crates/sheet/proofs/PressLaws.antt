@@ -1,7 +1,7 @@
 -- TEST and PRESS: where the last test is.
-use Prim.Native.Nat.{ℕ, zero, suc, _+_, _<_, _≤_}
+use Prim.Native.Nat.{ℕ, _+_, _<_, _≤_}
 use mathlib.Core.Path.{_≡_, refl, ap, sym, _∙_}
-use mathlib.Core.Bool.{Bool, true, false}
+use mathlib.Core.Bool.{true, false}
 use mathlib.Core.Option.{Option, none, some}
 use mathlib.Core.List.{List, [], _∷_, _++_}
 use native.Mathlib.Omega.{arith}
@@ -11,7 +11,7 @@ use Rattle.sheet.specs.declared.Row.{Row}
 use Rattle.sheet.specs.declared.Size.{Size}
 use Rattle.sheet.specs.declared.rules.Tests.{Tests}
 use Rattle.sheet.specs.Lists.{maybe, isNone, last}
-use Rattle.sheet.specs.Sheet.{Sheet, ruleAt, after}
+use Rattle.sheet.specs.Sheet.{Sheet, ruleAt}
 use Rattle.sheet.specs.Reading.{lastTest, addPress, ruleAfter, firstBroken, refusal}
 use Rattle.sheet.specs.laws.Ordered.{press-length}
 use Rattle.sheet.specs.laws.Rows.{last-snoc, after-snoc}

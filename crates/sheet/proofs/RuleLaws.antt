@@ -1,16 +1,15 @@
 -- A RULE: what the tables say after it.
-use Prim.Native.Nat.{ℕ, suc, _+_, _*_, _<_, _≤_}
-use mathlib.Core.Path.{_≡_, refl, ap, sym, _∙_}
+use Prim.Native.Nat.{ℕ, _+_, _<_, _≤_}
+use mathlib.Core.Path.{_≡_, ap, sym, _∙_}
 use mathlib.Core.Bool.{Bool, true, false}
-use mathlib.Core.Option.{Option, none, some}
+use mathlib.Core.Option.{some}
 use mathlib.Core.List.{List, [], _∷_, _++_}
 use native.Mathlib.Numerals.{add-one}
 use native.Mathlib.Omega.{arith}
-use lib.ListN.{length, set}
+use lib.ListN.{set}
 use Rattle.sheet.specs.declared.Row.{Row}
 use Rattle.sheet.specs.declared.Size.{Size}
 use Rattle.sheet.specs.declared.rules.Rules.{Rules}
-use Rattle.sheet.specs.Lists.{last, All}
 use Rattle.sheet.specs.Sheet.{Sheet, pairOf, isAt, ruleAt}
 use Rattle.sheet.specs.Reading.{inRange, firstBroken, refusal}
 use Rattle.sheet.specs.laws.Basics.{all-snoc}

@@ -1,13 +1,12 @@
 -- The whole sheet.
-use Prim.Native.Nat.{ℕ, zero, suc, _+_, _*_, _<_, _≤_}
+use Prim.Native.Nat.{ℕ, zero, suc, _+_, _<_, _≤_}
 use mathlib.Core.Path.{_≡_, refl, ap, sym, _∙_, subst}
 use mathlib.Core.Bool.{Bool, true, false, not, cond}
-use mathlib.Core.List.{List, [], _∷_}
+use mathlib.Core.List.{List}
 use native.Mathlib.Omega.{arith}
-use lib.Dec.{ltb, leb}
+use lib.Dec.{ltb}
 use lib.ListN.{length, replicate, getD-replicate, length-replicate}
 use borrow.Author.Tests.{le-ltb, lt-ltb}
-use Rattle.sheet.specs.declared.Size.{Size}
 use Rattle.sheet.specs.declared.Reading.the-variants as read
 use Rattle.sheet.specs.declared.rules.State.{State}
 use Rattle.sheet.specs.declared.finish.End.{End}

@@ -1,10 +1,10 @@
 -- The whole state after a command.
 use Prim.Native.Nat.{ℕ, zero, suc, _+_, _<_, _≤_}
-use mathlib.Core.Path.{_≡_, refl, ap, sym, _∙_}
-use mathlib.Core.Bool.{Bool, true, false, _&&_, not}
+use mathlib.Core.Path.{_≡_, refl, ap}
+use mathlib.Core.Bool.{Bool, true, false}
 use mathlib.Core.List.{List, [], _∷_, _++_}
 use native.Mathlib.Omega.{arith}
-use lib.Dec.{leb, eqb}
+use lib.Dec.{leb}
 use lib.ListN.{length}
 use borrow.Author.Tests.{le-leb, lt-leb, leb-true, leb-false, ne-eqb}
 use Rattle.sheet.specs.declared.Row.{Row}
@@ -15,11 +15,11 @@ use Rattle.sheet.specs.declared.rules.Pressed.{Pressed}
 use Rattle.sheet.specs.declared.rules.Tests.{Tests}
 use Rattle.sheet.specs.declared.rules.State.{State}
 use Rattle.sheet.specs.Lists.{last}
-use Rattle.sheet.specs.Sheet.{Sheet, after}
+use Rattle.sheet.specs.Sheet.{after}
 use Rattle.sheet.specs.Reading.{Progress, size, rule, fault, test, press, inOneTo16, sizeInRange, allowed, lastTest, firstBroken, refusal, advance}
 use Rattle.sheet.specs.laws.Basics.{both}
 use Rattle.sheet.specs.laws.Ordered.{press-length}
-use Rattle.sheet.specs.Held.{Within16, TestsHold, RuleMeets, FaultMeets, PressMeets, Holds, Applies}
+use Rattle.sheet.specs.Held.{TestsHold, RuleMeets, FaultMeets, PressMeets, Holds, Applies}
 use Rattle.sheet.proofs.Laws.{length-snoc}
 use Rattle.sheet.proofs.PressLaws.{lastTest-snoc}
 

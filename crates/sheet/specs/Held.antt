@@ -17,7 +17,6 @@ use Rattle.sheet.specs.declared.rules.State.{State}
 use Rattle.sheet.specs.declared.rules.Applied.{Applied}
 use Rattle.sheet.specs.declared.finish.End.{End}
 use Rattle.sheet.specs.declared.finish.End.the-variants as ending
-use Rattle.sheet.specs.declared.scan.Verdict.{Verdict}
 use Rattle.sheet.specs.declared.scan.Verdict.the-variants as verdict
 use Rattle.sheet.specs.declared.scan.Step.{Step}
 use Rattle.sheet.specs.declared.scan.Done.{Done}

@@ -1,5 +1,4 @@
 use native.Mathlib.Omega.{arith}
-use mathlib.Core.Path.{_∙_}
 use denote.Ref.{now}
 use Rattle.sheet.proofs.PartLaws as laws
 use borrow.Author.Needs.{needs}

@@ -1,4 +1,4 @@
--- `sheet::fetch` meets its contract: a walk of its MIR, by hand. The struct is taken apart, and `fetch_at` is called on the slice and the number. All that the proof knows of `fetch_at` is that it meets its contract.
+-- `sheet::fetch::fetch` meets its contract: a walk of its MIR, by hand. The struct is taken apart, and `fetch_at` is called on the slice and the number. All that the proof knows of `fetch_at` is that it meets its contract.
 -- The struct is Copy: what it owns is had twice, one copy is kept whole for the exit, and of the other what sheet owns goes to the callee, beside the lifetime's token, which comes back.
 -- Assumes nothing.
 use mathlib.Core.Path.{_≡_, refl}

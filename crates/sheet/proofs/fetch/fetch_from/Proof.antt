@@ -1,5 +1,5 @@
--- `sheet::fetch_from` meets its contract: a walk of its MIR, by hand. A `Reader` that one call returns is held in a local and passed to the fetch. All that the proof knows of `new` and of `fetch` is that each meets its contract.
--- The machine value that `new` returns is stored and passed on as it is. In a local of a body MIR erases the lifetime of the struct's type, so the value is shown to have the type at `erased`: what the struct owns does not say the lifetime's name.
+-- `sheet::fetch::fetch_from` meets its contract: a walk of its MIR, by hand. The reader is made from the slice and the number and passed to `fetch`, of which the proof knows only that it meets its contract.
+-- In a local of a body MIR erases the lifetime of the struct's type, so the value is shown to have the type at `erased`: what the struct owns does not say the lifetime's name.
 -- Assumes nothing.
 use mathlib.Core.Path.{_≡_, refl}
 use Prim.Native.Nat.{ℕ, _<_, _^_}

@@ -1,7 +1,6 @@
-use Prim.Native.Nat.{_*_, _-_, _<_, _≤_}
+use Prim.Native.Nat.{_*_, _-_, _≤_}
 use mathlib.Core.Path.{_≡_, refl}
 use native.Mathlib.Omega.{arith}
-use denote.Ref.{now}
 use Rattle.sheet.specs.declared.Size.{Size}
 use Rattle.sheet.specs.Sheet.{Sheet}
 use Rattle.sheet.specs.Places.{Table, Countable}

@@ -2,7 +2,6 @@ use native.Mathlib.Omega.{arith}
 use denote.Ref.{now}
 use Rattle.sheet.proofs.FillLaws.{faults-none, tests-none}
 use Rattle.sheet.proofs.LoadLaws as laws
-use borrow.Author.Needs.{needs}
 use Rattle.sheet.proofs.filling.fill.Statement.{statement}
 use Rattle.sheet.proofs.filling.fill.Tie as tie
 

@@ -1,12 +1,10 @@
-use Prim.Native.Nat.{ℕ, _-_, _<_, _≤_}
+use Prim.Native.Nat.{ℕ, _-_, _≤_}
 use mathlib.Core.Path.{_≡_}
 use mathlib.Core.List.{List}
 use native.Mathlib.Omega.{arith}
 use lib.ListN.{length}
-use denote.Ref.{now}
 use Rattle.sheet.specs.Places.{TestsFrom, TestTables}
 use Rattle.sheet.proofs.FillLaws as laws
-use borrow.Author.Needs.{needs}
 use Rattle.sheet.proofs.filling.fill_tests.Statement.{statement}
 use Rattle.sheet.proofs.filling.fill_tests.Tie as tie
 

@@ -1,5 +1,4 @@
 use borrow.Author.Tests.{ne-eqb}
-use borrow.Author.Needs.{needs}
 use Rattle.sheet.proofs.filling.first_of.Statement.{statement}
 use Rattle.sheet.proofs.filling.first_of.Tie as tie
 

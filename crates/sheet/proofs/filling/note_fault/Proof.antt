@@ -1,5 +1,4 @@
 use native.Mathlib.Omega.{arith}
-use denote.Ref.{now}
 use Rattle.sheet.proofs.FillLaws as laws
 use borrow.Author.Needs.{needs}
 use Rattle.sheet.proofs.filling.note_fault.Statement.{statement}

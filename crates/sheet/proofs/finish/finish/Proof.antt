@@ -1,10 +1,7 @@
 use Rattle.sheet.specs.declared.finish.End.the-variants.{Accepted}
-use lib.ListN.{length, getD, drop}
-use mathlib.Core.Bool.{Bool, true, false}
 use denote.Ref.{now}
-use Prim.Native.Nat.{ℕ, _+_, _-_, _*_, _<_, _≤_}
 use Rattle.sheet.proofs.EndLaws as laws
-use mathlib.Core.Path.{_∙_, sym, _≡_, refl, ap}
+use mathlib.Core.Path.{_∙_, sym, ap}
 use native.Mathlib.Omega.{arith}
 use borrow.Author.Needs.{needs}
 use Rattle.sheet.proofs.finish.finish.Statement.{statement}

@@ -1,14 +1,11 @@
-use denote.Ref.{now}
 use Rattle.sheet.specs.declared.Row.{Row}
 use mathlib.Core.List.{List}
-use mathlib.Core.Bool.{Bool, true, false}
+use mathlib.Core.Bool.{Bool}
 use mathlib.Core.Logic.{⊎-elim}
-use Rattle.sheet.specs.Sheet.{Sheet, isOpen, openBelow, leads, within}
-use Rattle.sheet.specs.Lists.{count, any, all}
-use Rattle.sheet.specs.Held.{Within16, Linked, Leads, Marks}
-use Prim.Native.Nat.{ℕ, _+_, _-_, _*_, _<_, _≤_}
+use Rattle.sheet.specs.Held.{Leads, Marks}
+use Prim.Native.Nat.{ℕ, _-_, _≤_}
 use Rattle.sheet.proofs.EndLaws as laws
-use mathlib.Core.Path.{_∙_, sym, _≡_, refl}
+use mathlib.Core.Path.{_≡_}
 use borrow.Author.Needs.{needs}
 use native.Mathlib.Omega.{arith}
 use Rattle.sheet.proofs.finish.spread.Statement.{statement}

@@ -1,4 +1,4 @@
-use Prim.Native.Nat.{ℕ, _+_, _-_, _<_, _≤_}
+use Prim.Native.Nat.{ℕ, _-_, _<_, _≤_}
 use mathlib.Core.Path.{_≡_, ap, _∙_}
 use mathlib.Core.List.{List, [], _∷_, _++_}
 use native.Mathlib.Omega.{arith}
@@ -7,7 +7,6 @@ use denote.Ref.{now}
 use Rattle.sheet.specs.Encode.{testBytes}
 use Rattle.sheet.specs.Places.{spanFrom}
 use Rattle.sheet.proofs.PlaceLaws as laws
-use borrow.Author.Needs.{needs}
 use Rattle.sheet.proofs.part.test_from.Statement.{statement}
 use Rattle.sheet.proofs.part.test_from.Tie as tie
 

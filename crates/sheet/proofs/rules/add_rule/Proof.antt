@@ -1,6 +1,6 @@
 use Rattle.sheet.proofs.RuleLaws.{rule-taken, rule-unordered, rule-outside}
 use Rattle.sheet.specs.laws.Right.{row-in}
-use mathlib.Core.Path.{_∙_, sym, _≡_, refl, ap}
+use mathlib.Core.Path.{_∙_, sym}
 use native.Mathlib.Omega.{arith}
 use borrow.Author.Needs.{needs}
 use Rattle.sheet.proofs.rules.add_rule.Statement.{statement}

@@ -1,8 +1,4 @@
-use lib.ListN.{length, getD}
-use mathlib.Core.Bool.{Bool, true, false}
-use denote.Ref.{now}
-use Prim.Native.Nat.{ℕ, _+_, _-_, _*_, _<_, _≤_}
-use mathlib.Core.Path.{_∙_, sym, _≡_, refl, ap}
+use mathlib.Core.Path.{_≡_}
 use native.Mathlib.Omega.{arith}
 use Rattle.sheet.proofs.StateLaws as laws
 use borrow.Author.Needs.{needs}

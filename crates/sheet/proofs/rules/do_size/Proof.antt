@@ -1,4 +1,4 @@
-use mathlib.Core.Path.{_∙_, sym, _≡_, refl, ap}
+use mathlib.Core.Path.{_∙_, sym}
 use Rattle.sheet.proofs.StateLaws as laws
 use borrow.Author.Needs.{needs}
 use Rattle.sheet.proofs.rules.do_size.Statement.{statement}

@@ -1,12 +1,7 @@
-use Rattle.sheet.specs.declared.finish.End.the-variants.{Accepted}
-use Rattle.sheet.specs.declared.scan.Verdict.the-variants.{Go, Stop}
-use Rattle.sheet.specs.Reading.{allowed, width}
-use lib.ListN.{length, getD, drop}
-use mathlib.Core.Bool.{Bool, true, false}
+use lib.ListN.{length}
 use denote.Ref.{now}
-use Prim.Native.Nat.{ℕ, _+_, _-_, _*_, _<_, _≤_}
+use Prim.Native.Nat.{_-_, _≤_}
 use Rattle.sheet.proofs.ScanLaws as laws
-use mathlib.Core.Path.{_∙_, sym, _≡_, refl, ap}
 use borrow.Author.Needs.{needs}
 use native.Mathlib.Omega.{arith}
 use Rattle.sheet.proofs.scan.commands.Statement.{statement}
