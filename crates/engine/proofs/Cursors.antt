@@ -15,7 +15,7 @@ use Rattle.engine.specs.Sets.{Has, HasAll}
 use Rattle.engine.specs.Machine.{Wf, Partial, Settled, Agree, SuiteOk, Specified, PassesAll, AllSpecified, pair, ruleOutput, ruleTarget, siteAt, statesOf, inputsOf, choiceOf, ruleOf, stepOf, startOf, suiteBytes, testsOf}
 use Rattle.engine.specs.Answers.{Steps, Fails, CursorOk, Further, Behind, Blocked, StuckOk, Wanted}
 use Rattle.engine.specs.declared.walk.Cursor.{Cursor}
-use Rattle.engine.proofs.Choices.{RuleAt, rule-at, step-open}
+use Rattle.engine.proofs.ChoiceLaws.{RuleAt, rule-at, step-open}
 use Rattle.engine.proofs.Steps.{agree-less, place-low}
 
 -- what stands at the front of what is left stands at the place

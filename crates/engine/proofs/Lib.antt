@@ -1,5 +1,5 @@
 mod Bits
-mod Choices
+mod ChoiceLaws
 pub mod Suites
 pub mod Packs
 mod Steps

@@ -10,7 +10,7 @@ use lib.Seq.{getD-set-same, getD-set-other}
 use native.Mathlib.Decide.{ℕ-discrete}
 use Rattle.engine.specs.Machine.{Wf, siteAt, ruleTarget, firstFault, choicesAt, choicesOf}
 use Rattle.engine.specs.Packing.{Packed, Filled, Copied, FirstCopied, ChoicesCopied, Located, Sound}
-use Rattle.engine.proofs.Choices.{choices-none, choices-some}
+use Rattle.engine.proofs.ChoiceLaws.{choices-none, choices-some}
 
 pub fill-none : {m : List ℕ} (base size : ℕ) (Right : ℕ → ℕ → Type 0) → length m ≡ 1603 → Filled m m base size 0 Right
 fill-none base size Right l = record { low = omega arith; long = l; same = λ k h. absurd (omega arith); others = λ j h. refl }

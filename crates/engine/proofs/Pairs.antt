@@ -15,7 +15,7 @@ use Rattle.engine.specs.Machine.{Ranged, Partial, Wf, Settled, Agree, pa
 use Rattle.engine.specs.declared.tables.Step.{Step}
 use Rattle.engine.specs.Answers.{Steps, StepIs, Blocked}
 use Rattle.engine.specs.Product.{Listed, Covered, Fined, FinedAll, Conforms, KeptOk}
-use Rattle.engine.proofs.Choices.{choice-at, choice-low, step-open}
+use Rattle.engine.proofs.ChoiceLaws.{choice-at, choice-low, step-open}
 use Rattle.engine.proofs.Steps.{agree-less, place-low}
 use Rattle.engine.proofs.Cursors.{PressSpec, press-specified, press-given, nothing-same}
 

@@ -10,7 +10,7 @@ use Rattle.engine.specs.Sets.{Has, HasAll, With}
 use Rattle.engine.specs.Machine.{Wf, Partial, Settled, Agree, pair, siteAt, statesOf, inputsOf, choicesOf, choicesAt, choiceOf, stepOf}
 use Rattle.engine.specs.declared.tables.Step.{Step}
 use Rattle.engine.specs.Answers.{Steps, StepIs, Blocked}
-use Rattle.engine.proofs.Choices.{choice-low, choice-lone, choice-at, step-closed, step-open}
+use Rattle.engine.proofs.ChoiceLaws.{choice-low, choice-lone, choice-at, step-closed, step-open}
 
 -- agreement on more is agreement on less
 pub agree-less : {b p : List ℕ} {u v : ℕ} → HasAll u v → Agree b p v → Agree b p u

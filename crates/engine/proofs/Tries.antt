@@ -12,7 +12,7 @@ use Rattle.engine.specs.declared.tables.Step.{Step}
 use Rattle.engine.specs.Answers.{Fails, Wanted, WantsOk, StepIs}
 use Rattle.engine.specs.Product.{Conforms}
 use Rattle.engine.specs.Refute.{NoSurvivor, SplitOk, Extends}
-use Rattle.engine.proofs.Choices.{choice-at}
+use Rattle.engine.proofs.ChoiceLaws.{choice-at}
 
 pub fails-none : {m bytes p : List ℕ} {u : ℕ} → Fails m bytes p u → NoSurvivor m bytes p u
 unfolding Survivor

@@ -1,7 +1,7 @@
 use borrow.Author.Needs.{needs}
 use mathlib.Core.Path.{refl}
 use native.Mathlib.Omega.{arith}
-use Rattle.engine.proofs.Choices.{is-unruled, is-rule, is-fault, is-none}
+use Rattle.engine.proofs.ChoiceLaws.{is-unruled, is-rule, is-fault, is-none}
 use Rattle.engine.proofs.tables.transition.Statement.{statement}
 use Rattle.engine.proofs.tables.transition.Tie as tie
 use Rattle.engine.proofs.tables.transition.Reads as reads
