@@ -1,0 +1,64 @@
+-- `compare`: a refusal of reading, or the operation on the accepted sheet.
+use mathlib.Core.Path.{_≡_, sym, _∙_, ap, ap₂}
+use lib.ListN.{length}
+use Rattle.mutation.specs.declared.Compared.the-variants.{Refused}
+use Rattle.mutation.specs.Answers.{overlay, comparedAnswer, comparedWrites}
+use Rattle.mutation.proofs.Opened.{opened, closed-by, comparing-on, comparing-refused, told-compared}
+use borrow.Author.Needs.{needs}
+use Rattle.mutation.proofs.compare.Statement.{statement}
+use Rattle.mutation.proofs.compare.Tie as tie
+use Rattle.mutation.proofs.compare.Reads as reads
+use Rattle.mutation.proofs.compare.Lts as lts
+use Rattle.mutation.proofs.distance.compare_accepted.Reads as compare-accepted-reads
+use Rattle.mutation.proofs.refusal_of.Reads as refusal-of-reads
+use Rattle.sheet.proofs.load.Reads as load-reads
+
+load-requires : tie.Need-load-requires
+load-requires c κs = search needs
+
+enum-known-reading : tie.Need-enum-known-reading
+enum-known-reading c = search needs
+
+enum-told : tie.Need-enum-told
+enum-told c = search needs
+
+refusal-of-requires : tie.Need-refusal-of-requires
+refusal-of-requires c κs = search needs
+
+returns : tie.Need-returns
+returns c =
+    let a = c .before .before .before .before .before .before .before .args in
+    let g = c .before .enum-told .given in
+    let z = c .refusal-of .ensures (g .0 .0) (g .0 .1 .0) (g .1) in
+    let e = comparing-refused (a .sheet .now) (g .0 .0) (g .0 .1 .0) (closed-by (a .sheet .now) (c .before .before .before .load .result) (g .0 .0) (g .0 .1 .0) (c .before .before .before .load .ensures) (g .1)) (a .mutant .now) (length (a .buffer .now)) in
+    let answer = ap₂ Refused (z .0) (z .1) ∙ sym (ap comparedAnswer e) in
+    let bytes = sym (ap (λ q. overlay (comparedWrites q) (a .buffer .now)) e) in
+    (answer, (bytes, told-compared (a .sheet .now) (a .mutant .now) (length (a .buffer .now)) _ (a .buffer .now) (a .buffer .now) answer bytes))
+
+compare-accepted-requires : tie.Need-compare-accepted-requires
+compare-accepted-requires c κs = let a = c .before .before .before .before .before .before .before .before .before .args in let o = opened (a .sheet .now) (c .before .before .before .before .before .load .result) (c .before .before .before .reading .given .0 .0) (c .before .before .before .before .before .load .ensures) (c .before .before .before .reading .given .1) in (o .sheet, o .holds)
+
+same-length : tie.Need-same-length
+same-length c = search needs
+
+returns-2 : tie.Need-returns-2
+returns-2 c =
+    let a = c .before .before .before .before .before .before .before .before .before .before .before .before .args in
+    let o = opened (a .sheet .now) (c .before .before .before .before .before .before .before .before .load .result) (c .before .before .before .before .before .before .reading .given .0 .0) (c .before .before .before .before .before .before .before .before .load .ensures) (c .before .before .before .before .before .before .reading .given .1) in
+    let e = comparing-on (a .sheet .now) (o .sheet) (o .is) (a .mutant .now) (length (a .buffer .now)) in
+    let answer = c .before .before .compare-accepted .ensures .0 (o .sheet) (o .holds) ∙ sym (ap comparedAnswer e) in
+    let bytes = c .before .before .compare-accepted .ensures .1 (o .sheet) (o .holds) ∙ sym (ap (λ q. overlay (comparedWrites q) (a .buffer .now)) e) in
+    (answer, (bytes, told-compared (a .sheet .now) (a .mutant .now) (length (a .buffer .now)) _ (a .buffer .now) _ answer bytes))
+
+pub compare-spec : {M : Type 1} → statement M
+compare-spec =
+    tie.close
+    (tie.spec
+    load-requires
+    enum-known-reading
+    enum-told
+    refusal-of-requires
+    returns
+    compare-accepted-requires
+    same-length
+    returns-2)

@@ -1,0 +1,58 @@
+-- `first_failed`: a refusal of reading, or the operation on the accepted sheet.
+use mathlib.Core.Path.{_≡_, sym, _∙_, ap, ap₂}
+use lib.ListN.{length}
+use Rattle.mutation.specs.declared.Failed.the-variants.{Refused}
+use Rattle.mutation.specs.Answers.{failedAnswer}
+use Rattle.mutation.proofs.Opened.{opened, closed-by, failing-on, failing-refused, told-failed}
+use borrow.Author.Needs.{needs}
+use Rattle.mutation.proofs.first_failed.Statement.{statement}
+use Rattle.mutation.proofs.first_failed.Tie as tie
+use Rattle.mutation.proofs.first_failed.Reads as reads
+use Rattle.mutation.proofs.first_failed.Lts as lts
+use Rattle.mutation.proofs.refusal_of.Reads as refusal-of-reads
+use Rattle.mutation.proofs.suite.first_failed_accepted.Reads as first-failed-accepted-reads
+use Rattle.sheet.proofs.load.Reads as load-reads
+
+load-requires : tie.Need-load-requires
+load-requires c κs = search needs
+
+enum-known-reading : tie.Need-enum-known-reading
+enum-known-reading c = search needs
+
+enum-told : tie.Need-enum-told
+enum-told c = search needs
+
+refusal-of-requires : tie.Need-refusal-of-requires
+refusal-of-requires c κs = search needs
+
+returns : tie.Need-returns
+returns c =
+    let a = c .before .before .before .before .before .before .args in
+    let g = c .before .enum-told .given in
+    let z = c .refusal-of .ensures (g .0 .0) (g .0 .1 .0) (g .1) in
+    let e = failing-refused (a .sheet .now) (g .0 .0) (g .0 .1 .0) (closed-by (a .sheet .now) (c .before .before .before .load .result) (g .0 .0) (g .0 .1 .0) (c .before .before .before .load .ensures) (g .1)) (a .mutant .now) in
+    let answer = ap₂ Refused (z .0) (z .1) ∙ sym (ap failedAnswer e) in
+    (answer, told-failed (a .sheet .now) (a .mutant .now) _ answer)
+
+first-failed-accepted-requires : tie.Need-first-failed-accepted-requires
+first-failed-accepted-requires c κs = let a = c .before .before .before .before .before .before .before .args in let o = opened (a .sheet .now) (c .before .before .before .before .load .result) (c .before .before .reading .given .0 .0) (c .before .before .before .before .load .ensures) (c .before .before .reading .given .1) in (o .sheet, o .holds, o .bytes)
+
+returns-2 : tie.Need-returns-2
+returns-2 c =
+    let a = c .before .before .before .before .before .before .before .before .args in
+    let o = opened (a .sheet .now) (c .before .before .before .before .before .load .result) (c .before .before .before .reading .given .0 .0) (c .before .before .before .before .before .load .ensures) (c .before .before .before .reading .given .1) in
+    let e = failing-on (a .sheet .now) (o .sheet) (o .is) (a .mutant .now) in
+    let answer = c .first-failed-accepted .ensures (o .sheet) (o .holds) (o .bytes) ∙ sym (ap failedAnswer e) in
+    (answer, told-failed (a .sheet .now) (a .mutant .now) _ answer)
+
+pub first-failed-spec : {M : Type 1} → statement M
+first-failed-spec =
+    tie.close
+    (tie.spec
+    load-requires
+    enum-known-reading
+    enum-told
+    refusal-of-requires
+    returns
+    first-failed-accepted-requires
+    returns-2)

@@ -1,0 +1,64 @@
+-- `run`: a refusal of reading, or the operation on the accepted sheet.
+use mathlib.Core.Path.{_≡_, sym, _∙_, ap, ap₂}
+use lib.ListN.{length}
+use Rattle.mutation.specs.declared.Ran.the-variants.{Refused}
+use Rattle.mutation.specs.Answers.{overlay, ranAnswer, ranWrites}
+use Rattle.mutation.proofs.Opened.{opened, closed-by, running-on, running-refused}
+use borrow.Author.Needs.{needs}
+use Rattle.mutation.proofs.run.Statement.{statement}
+use Rattle.mutation.proofs.run.Tie as tie
+use Rattle.mutation.proofs.run.Reads as reads
+use Rattle.mutation.proofs.run.Lts as lts
+use Rattle.mutation.proofs.refusal_of.Reads as refusal-of-reads
+use Rattle.mutation.proofs.respond.run_accepted.Reads as run-accepted-reads
+use Rattle.sheet.proofs.load.Reads as load-reads
+
+load-requires : tie.Need-load-requires
+load-requires c κs = search needs
+
+enum-known-reading : tie.Need-enum-known-reading
+enum-known-reading c = search needs
+
+enum-told : tie.Need-enum-told
+enum-told c = search needs
+
+refusal-of-requires : tie.Need-refusal-of-requires
+refusal-of-requires c κs = search needs
+
+returns : tie.Need-returns
+returns c =
+    let a = c .before .before .before .before .before .before .before .before .args in
+    let g = c .before .enum-told .given in
+    let z = c .refusal-of .ensures (g .0 .0) (g .0 .1 .0) (g .1) in
+    let e = running-refused (a .sheet .now) (g .0 .0) (g .0 .1 .0) (closed-by (a .sheet .now) (c .before .before .before .load .result) (g .0 .0) (g .0 .1 .0) (c .before .before .before .load .ensures) (g .1)) (a .mutant .now) (a .inputs .now) (length (a .buffer .now)) in
+    let answer = ap₂ Refused (z .0) (z .1) ∙ sym (ap ranAnswer e) in
+    let bytes = sym (ap (λ q. overlay (ranWrites q) (a .buffer .now)) e) in
+    (answer, bytes)
+
+run-accepted-requires : tie.Need-run-accepted-requires
+run-accepted-requires c κs = let a = c .before .before .before .before .before .before .before .before .before .before .args in let o = opened (a .sheet .now) (c .before .before .before .before .before .load .result) (c .before .before .before .reading .given .0 .0) (c .before .before .before .before .before .load .ensures) (c .before .before .before .reading .given .1) in (o .sheet, o .holds)
+
+same-length : tie.Need-same-length
+same-length c = search needs
+
+returns-2 : tie.Need-returns-2
+returns-2 c =
+    let a = c .before .before .before .before .before .before .before .before .before .before .before .before .before .args in
+    let o = opened (a .sheet .now) (c .before .before .before .before .before .before .before .before .load .result) (c .before .before .before .before .before .before .reading .given .0 .0) (c .before .before .before .before .before .before .before .before .load .ensures) (c .before .before .before .before .before .before .reading .given .1) in
+    let e = running-on (a .sheet .now) (o .sheet) (o .is) (a .mutant .now) (a .inputs .now) (length (a .buffer .now)) in
+    let answer = c .before .before .run-accepted .ensures .0 (o .sheet) (o .holds) ∙ sym (ap ranAnswer e) in
+    let bytes = c .before .before .run-accepted .ensures .1 (o .sheet) (o .holds) ∙ sym (ap (λ q. overlay (ranWrites q) (a .buffer .now)) e) in
+    (answer, bytes)
+
+pub run-spec : {M : Type 1} → statement M
+run-spec =
+    tie.close
+    (tie.spec
+    load-requires
+    enum-known-reading
+    enum-told
+    refusal-of-requires
+    returns
+    run-accepted-requires
+    same-length
+    returns-2)

@@ -1,0 +1,60 @@
+-- `judge`: refused as reading refuses, or the judgement of the sheet that was read.
+use borrow.Author.Needs.{needs}
+use Rattle.mutation.proofs.JudgingLaw.{loaded-read, judge-refused, judge-accepted}
+use Rattle.mutation.proofs.verdict.judge.Statement.{statement}
+use Rattle.mutation.proofs.verdict.judge.Tie as tie
+use Rattle.mutation.proofs.verdict.judge.Reads as reads
+use Rattle.mutation.proofs.verdict.judge.Lts as lts
+use Rattle.mutation.proofs.verdict.judge_read.Reads as judge-read-reads
+use Rattle.mutation.proofs.verdict.refusal.Reads as refusal-reads
+use Rattle.sheet.proofs.load.Reads as load-reads
+
+load-requires : tie.Need-load-requires
+load-requires c κs = search needs
+
+enum-known-reading : tie.Need-enum-known-reading
+enum-known-reading c = search needs
+
+enum-told : tie.Need-enum-told
+enum-told c = search needs
+
+refusal-requires : tie.Need-refusal-requires
+refusal-requires c κs = search needs
+
+returns : tie.Need-returns
+returns c =
+    let a = c .before .before .before .before .before .before .before .before .args in
+    let x = judge-refused (a .sheet .now) (a .board .now) (a .sequence .now) (c .before .before .before .before .load .result) _ _ (c .refusal .result) (c .before .before .before .before .load .ensures) (c .before .enum-told .given .1) (c .refusal .ensures) in
+    (x .0 .answer, (x .0 .board, (x .0 .sequence, x .1)))
+
+judge-read-requires : tie.Need-judge-read-requires
+judge-read-requires c κs =
+    let x = loaded-read (c .before .before .before .before .before .before .before .before .before .before .args .sheet .now) (c .before .before .before .before .before .before .load .result) _ (c .before .before .before .before .before .before .load .ensures) (c .before .before .before .reading .given .1) in
+    (x .0, x .1)
+
+same-length : tie.Need-same-length
+same-length c = search needs
+
+same-length-2 : tie.Need-same-length-2
+same-length-2 c = search needs
+
+returns-2 : tie.Need-returns-2
+returns-2 c =
+    let a = c .before .before .before .before .before .before .before .before .before .before .before .before .before .before .before .args in
+    let x = loaded-read (a .sheet .now) (c .before .before .before .before .before .before .before .before .before .before .before .load .result) _ (c .before .before .before .before .before .before .before .before .before .before .before .load .ensures) (c .before .before .before .before .before .before .before .before .reading .given .1) in
+    let y = judge-accepted (a .sheet .now) (a .board .now) (a .sequence .now) (x .0) (x .2) _ _ _ (c .before .before .before .before .judge-read .ensures (x .0) (x .1)) in
+    (y .0 .answer, (y .0 .board, (y .0 .sequence, y .1)))
+
+pub judge-spec : {M : Type 1} → statement M
+judge-spec =
+    tie.close
+    (tie.spec
+    load-requires
+    enum-known-reading
+    enum-told
+    refusal-requires
+    returns
+    judge-read-requires
+    same-length
+    same-length-2
+    returns-2)

@@ -1,0 +1,44 @@
+-- The operations on an accepted sheet, and what their answers tell.
+use Prim.Native.Nat.{ℕ, _*_, _≤_}
+use mathlib.Core.Path.{_≡_}
+use mathlib.Core.Option.{Option, none, some}
+use mathlib.Core.List.{List}
+use lib.Dec.{ltb}
+use lib.ListN.{length, take}
+use Rattle.sheet.specs.Sheet.{Sheet}
+use Rattle.sheet.specs.Reading.{Result, accepted, reading}
+use Rattle.model.specs.Mutant.{outputs, IsMutant}
+use Rattle.model.specs.Suite.{Place, firstFailedOf, compareOf}
+use Rattle.model.specs.Operations.{refuseIf, refuseAt, firstOver, withMutant}
+use Rattle.model.specs.Verdict.{FailedMeans, ComparedMeans}
+use Rattle.mutation.specs.declared.Failed.{Failed}
+use Rattle.mutation.specs.declared.Failed.the-variants as failed
+use Rattle.mutation.specs.declared.Compared.{Compared}
+use Rattle.mutation.specs.declared.Compared.the-variants as compared
+
+unfoldable pub runOn : Sheet → List ℕ → List ℕ → ℕ → Result (List ℕ)
+runOn sh b xs room =
+    withMutant sh b (refuseAt (firstOver (sh .size .inputs) xs) 15 (refuseIf (ltb room (length xs)) 16 0 (accepted (outputs sh b xs))))
+
+unfoldable pub compareOn : Sheet → List ℕ → ℕ → Result (Option (List ℕ))
+compareOn sh b room = withMutant sh b (refuseIf (ltb room (sh .size .states * sh .size .states)) 16 0 (accepted (compareOf sh b)))
+
+-- the answer of first failed test for a mutant: no test fails, or this is the first that does and its first wrong output
+abbrev pub FailedSays : Sheet → List ℕ → Failed → Type 0
+FailedSays sh b failed.Nothing = FailedMeans sh b none
+FailedSays sh b (failed.At t i) = FailedMeans sh b (some (record { test = t; position = i }))
+FailedSays sh b (failed.Refused number place) = ⊥
+
+unfoldable pub ToldFailed : List ℕ → List ℕ → Failed → Type 0
+ToldFailed s b r = (sh : Sheet) → reading s ≡ accepted sh → IsMutant sh b → FailedSays sh b r
+
+-- the answer of compare for a mutant: it conforms on sequences of any length, or the shortest distinguishing sequence
+-- stands at the buffer's front
+abbrev pub ComparedSays : Sheet → List ℕ → Compared → List ℕ → Type 0
+ComparedSays sh b compared.Conforms buffer = ComparedMeans sh b none
+ComparedSays sh b (compared.Differs d) buffer = ComparedMeans sh b (some (take d buffer))
+ComparedSays sh b (compared.Refused number place) buffer = ⊥
+
+unfoldable pub ToldCompared : List ℕ → List ℕ → ℕ → Compared → List ℕ → Type 0
+ToldCompared s b room r buffer =
+    (sh : Sheet) → reading s ≡ accepted sh → IsMutant sh b → sh .size .states * sh .size .states ≤ room → ComparedSays sh b r buffer

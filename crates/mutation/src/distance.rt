@@ -1,0 +1,271 @@
+// Comparing the specification with a mutant, both as tables: so and sn hold the specification's output and next state at
+// state * 16 + input, mo and mn the mutant's.
+ghost use mathlib.Core.Path.{_≡_};
+ghost use mathlib.Core.Bool.{false};
+ghost use Prim.Native.Nat.{ℕ, _+_, _*_, _≤_, _<_};
+ghost use lib.ListN.{length, getD, replicate};
+ghost use Rattle.model.specs.Compare.{least, shortest, comparePair};
+ghost use Rattle.model.specs.Compare.{shows as showsOf};
+ghost use Rattle.mutation.specs.Tables.{tables, Valid, Marks, Exact, near, cellOf};
+ghost use Rattle.mutation.specs.Answers.{comparedOf, found, overlay};
+ghost use Rattle.sheet.specs.Sheet.{Sheet};
+ghost use Rattle.mutation.specs.Answers.{comparedAnswer, comparedWrites};
+ghost use Rattle.mutation.specs.Fits.{Read};
+ghost use Rattle.mutation.specs.Operate.{compareOn};
+use crate::Compared;
+use crate::moves::initial;
+use crate::moves::machine_of;
+use crate::moves::wide;
+use crate::sites::Fit;
+use sheet::Summary;
+use sheet::Tables;
+
+// Whether input x shows another output at the states p and q, or leads to states at most j apart.
+fn shows(
+    so: &[u8; 256],
+    sn: &[u8; 256],
+    mo: &[u8; 256],
+    mn: &[u8; 256],
+    dist: &[u16; 256],
+    n: usize,
+    k: usize,
+    p: usize,
+    q: usize,
+    x: usize,
+    j: u16,
+) -> bool
+    requires { ⌜ Valid n k (now so) (now sn) (now mo) (now mn) ⌝ }
+    requires { ⌜ (p < n) × (q < n) × (x < k) ⌝ }
+    ensures { λ r. ⌜ ((start : ℕ) → r ≡ showsOf (tables n k start (now (so .entry)) (now (sn .entry)) (now (mo .entry)) (now (mn .entry))) (near (now (dist .entry)) j) p q x) ⌝ }
+{
+    let a = p * 16 + x;
+    let b = q * 16 + x;
+    if so[a] == 255 {
+        return false;
+    }
+    if so[a] != mo[b] {
+        return true;
+    }
+    let s = sn[a] as usize;
+    let t = mn[b] as usize;
+    dist[s * 16 + t] <= j
+}
+
+// The squares of 1 to 16: the longest that a shortest distinguishing sequence of n states can be.
+const SQUARES: [u16; 16] = [
+    1,
+    4,
+    9,
+    16,
+    25,
+    36,
+    49,
+    64,
+    81,
+    100,
+    121,
+    144,
+    169,
+    196,
+    225,
+    256,
+];
+
+fn bound(n: usize) -> u16
+    requires { ⌜ (0 < n) × (n ≤ 16) ⌝ }
+    ensures { λ r. ⌜ r ≡ n * n ⌝ }
+{
+    SQUARES[n - 1]
+}
+
+// The smallest input that shows it, or k.
+fn first_showing(
+    so: &[u8; 256],
+    sn: &[u8; 256],
+    mo: &[u8; 256],
+    mn: &[u8; 256],
+    dist: &[u16; 256],
+    n: usize,
+    k: usize,
+    p: usize,
+    q: usize,
+    j: u16,
+) -> usize
+    requires { ⌜ Valid n k (now so) (now sn) (now mo) (now mn) ⌝ }
+    requires { ⌜ (p < n) × (q < n) ⌝ }
+    ensures { λ r. ⌜ ((start : ℕ) → r ≡ least k (showsOf (tables n k start (now (so .entry)) (now (sn .entry)) (now (mo .entry)) (now (mn .entry))) (near (now (dist .entry)) j) p q)) ⌝ }
+{
+    let mut x = 0;
+    while x < k {
+        if shows(so, sn, mo, mn, dist, n, k, p, q, x, j) {
+            return x;
+        }
+        x += 1;
+    }
+    x
+}
+
+// The distance at an index of the table after one more round.
+fn cell(
+    so: &[u8; 256],
+    sn: &[u8; 256],
+    mo: &[u8; 256],
+    mn: &[u8; 256],
+    dist: &[u16; 256],
+    n: usize,
+    k: usize,
+    i: usize,
+    j: u16,
+) -> u16
+    requires { ⌜ Valid n k (now so) (now sn) (now mo) (now mn) ⌝ }
+    requires { ⌜ (i < 256) × (j < 256) ⌝ }
+    ensures { λ r. ⌜ ((start : ℕ) → r ≡ cellOf (tables n k start (now (so .entry)) (now (sn .entry)) (now (mo .entry)) (now (mn .entry))) (now (dist .entry)) j i) ⌝ }
+{
+    let d = dist[i];
+    if d <= j {
+        return d;
+    }
+    let p = i / 16;
+    let q = i % 16;
+    if p >= n {
+        return d;
+    }
+    if q >= n {
+        return d;
+    }
+    if first_showing(so, sn, mo, mn, dist, n, k, p, q, j) < k {
+        return j + 1;
+    }
+    d
+}
+
+// One round: each pair of states that is j + 1 apart gets its distance. Whether there was any.
+fn round(
+    so: &[u8; 256],
+    sn: &[u8; 256],
+    mo: &[u8; 256],
+    mn: &[u8; 256],
+    dist: &mut [u16; 256],
+    n: usize,
+    k: usize,
+    j: u16,
+) -> bool
+    requires { ⌜ Valid n k (now so) (now sn) (now mo) (now mn) ⌝ }
+    requires { ⌜ (j < 256) × (length (now dist) ≡ 256) ⌝ }
+    ensures { λ r. ⌜ length (now (dist .exit)) ≡ 256 ⌝ }
+    ensures { λ r. ⌜ ((start i : ℕ) → i < 256 → getD (now (dist .exit)) i 0 ≡ cellOf (tables n k start (now (so .entry)) (now (sn .entry)) (now (mo .entry)) (now (mn .entry))) (now (dist .entry)) j i) ⌝ }
+    ensures { λ r. ⌜ (r ≡ false → (i : ℕ) → getD (now (dist .exit)) i 0 ≡ getD (now (dist .entry)) i 0) ⌝ }
+{
+    let mut changed = false;
+    let mut i = 0;
+    while i < 256 {
+        let d = cell(so, sn, mo, mn, dist, n, k, i, j);
+        if d != dist[i] {
+            dist[i] = d;
+            changed = true;
+        }
+        i += 1;
+    }
+    changed
+}
+
+// Writes the smallest of the shortest distinguishing sequences, of d inputs, along falling distances.
+fn follow(
+    so: &[u8; 256],
+    sn: &[u8; 256],
+    mo: &[u8; 256],
+    mn: &[u8; 256],
+    dist: &[u16; 256],
+    n: usize,
+    k: usize,
+    start: usize,
+    d: u16,
+    buf: &mut [u8],
+)
+    requires { ⌜ Valid n k (now so) (now sn) (now mo) (now mn) ⌝ }
+    requires { ⌜ start < n ⌝ }
+    requires { ⌜ Marks (tables n k start (now so) (now sn) (now mo) (now mn)) (now dist) d ⌝ }
+    requires { ⌜ Exact (tables n k start (now so) (now sn) (now mo) (now mn)) d 0 start ⌝ }
+    requires { ⌜ d ≤ length (now buf) ⌝ }
+    ensures { λ r. ⌜ now (buf .exit) ≡ overlay (shortest (tables n k start (now (so .entry)) (now (sn .entry)) (now (mo .entry)) (now (mn .entry))) d 0 start) (now (buf .entry)) ⌝ }
+{
+    let mut p: usize = 0;
+    let mut q: usize = start;
+    let mut i: usize = 0;
+    let mut left = d;
+    while left > 0 {
+        left -= 1;
+        let x = first_showing(so, sn, mo, mn, dist, n, k, p, q, left);
+        buf[i] = x as u8;
+        p = wide(sn[p * 16 + x]);
+        q = wide(mn[q * 16 + x]);
+        i += 1;
+    }
+}
+
+// The table before the first round: no distance is known.
+fn unmarked() -> [u16; 256]
+    ensures { λ r. ⌜ r ≡ replicate 256 257 ⌝ }
+{
+    [257u16; 256]
+}
+
+// Conforming, or the shortest, then smallest, distinguishing sequence, written at the front of buf.
+pub(crate) fn distinguish(
+    so: &[u8; 256],
+    sn: &[u8; 256],
+    mo: &[u8; 256],
+    mn: &[u8; 256],
+    n: usize,
+    k: usize,
+    start: usize,
+    buf: &mut [u8],
+) -> Compared
+    requires { ⌜ Valid n k (now so) (now sn) (now mo) (now mn) ⌝ }
+    requires { ⌜ start < n ⌝ }
+    requires { ⌜ n * n ≤ length (now buf) ⌝ }
+    ensures { λ r. ⌜ r ≡ comparedOf (comparePair (tables n k start (now (so .entry)) (now (sn .entry)) (now (mo .entry)) (now (mn .entry)))) ⌝ }
+    ensures { λ r. ⌜ now (buf .exit) ≡ overlay (found (comparePair (tables n k start (now (so .entry)) (now (sn .entry)) (now (mo .entry)) (now (mn .entry))))) (now (buf .entry)) ⌝ }
+{
+    let mut dist = unmarked();
+    let top = bound(n);
+    let mut j: u16 = 0;
+    while j < top {
+        if !round(so, sn, mo, mn, &mut dist, n, k, j) {
+            return Compared::Conforms;
+        }
+        j += 1;
+        if dist[start] <= j {
+            follow(so, sn, mo, mn, &dist, n, k, start, j, buf);
+            return Compared::Differs(j as usize);
+        }
+    }
+    Compared::Conforms
+}
+
+// Compare, on an accepted sheet.
+pub(crate) fn compare_accepted(
+    size: Summary,
+    tables: Tables,
+    mutant: &[u8],
+    buffer: &mut [u8],
+) -> Compared
+    requires { ⌜ ((sh : Sheet) × Read sh size tables) ⌝ }
+    ensures { λ r. ⌜ ((sh : Sheet) → Read sh size tables → r ≡ comparedAnswer (compareOn sh (now (mutant .entry)) (length (now (buffer .entry))))) ⌝ }
+    ensures { λ r. ⌜ ((sh : Sheet) → Read sh size tables → now (buffer .exit) ≡ overlay (comparedWrites (compareOn sh (now (mutant .entry)) (length (now (buffer .entry))))) (now (buffer .entry))) ⌝ }
+{
+    let machine = machine_of(size, tables, mutant);
+    let fit = machine.fit;
+    if let Fit::Refused(number, place) = fit {
+        return Compared::Refused(number, place);
+    }
+    let n = wide(size.states);
+    if buffer.len() < bound(n) as usize {
+        return Compared::Refused(16, 0);
+    }
+    let so = tables.output;
+    let sn = tables.target;
+    let mo = machine.output;
+    let mn = machine.target;
+    distinguish(&so, &sn, &mo, &mn, n, wide(size.inputs), initial(), buffer)
+}

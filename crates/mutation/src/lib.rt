@@ -1,0 +1,107 @@
+// Mutants of a sheet (01: boards): run one, find the first test that it fails, compare it with the specification; and judge the
+// sheet's test suite (01: list).
+ghost use mathlib.Core.Path.{_≡_};
+ghost use Prim.Native.Nat.{ℕ};
+ghost use lib.ListN.{length};
+ghost use Rattle.sheet.specs.declared.Reading.the-variants as read;
+ghost use Rattle.model.specs.Operations.{running, failing, comparing};
+ghost use Rattle.mutation.specs.Answers.{overlay, ranAnswer, ranWrites, failedAnswer, comparedAnswer, comparedWrites};
+ghost use Rattle.mutation.specs.Operate.{ToldFailed, ToldCompared};
+
+mod distance;
+mod moves;
+mod respond;
+mod search;
+mod sites;
+mod suite;
+mod survive;
+mod verdict;
+
+use sheet::Reading;
+pub use verdict::Judged;
+pub use verdict::judge;
+
+// What Run answers.
+pub enum Ran {
+    Done,
+    Refused(u8, usize),
+}
+
+// What First failed test answers: a test and the position in it of the first wrong output, both from 0; or none.
+pub enum Failed {
+    At(usize, usize),
+    Nothing,
+    Refused(u8, usize),
+}
+
+// What Compare answers: conforms, or the length of the shortest distinguishing sequence.
+pub enum Compared {
+    Conforms,
+    Differs(usize),
+    Refused(u8, usize),
+}
+
+// A refusal's number and place.
+struct Refusal {
+    number: u8,
+    place: usize,
+}
+
+// Why a sheet is refused on reading; nothing is said of an accepted one.
+fn refusal_of(reading: Reading) -> Refusal
+    ensures { λ r. ⌜ ((number place : ℕ) → reading ≡ read.Refused number place → (r .number ≡ number) × (r .place ≡ place)) ⌝ }
+{
+    match reading {
+        Reading::Refused(number, place) => Refusal { number, place },
+        Reading::Accepted(_) => Refusal {
+            number: 0,
+            place: 0,
+        },
+    }
+}
+
+// Run: one output for each input at the buffer's front.
+pub fn run(sheet: &[u8], mutant: &[u8], inputs: &[u8], buffer: &mut [u8]) -> Ran
+    ensures answer { λ r. ⌜ r ≡ ranAnswer (running (now (sheet .entry)) (now (mutant .entry)) (now (inputs .entry)) (length (now (buffer .entry)))) ⌝ }
+    ensures bytes { λ r. ⌜ now (buffer .exit) ≡ overlay (ranWrites (running (now (sheet .entry)) (now (mutant .entry)) (now (inputs .entry)) (length (now (buffer .entry))))) (now (buffer .entry)) ⌝ }
+{
+    let loaded = sheet::load(sheet);
+    let reading = loaded.reading;
+    let Reading::Accepted(size) = reading else {
+        let why = refusal_of(reading);
+        return Ran::Refused(why.number, why.place);
+    };
+    let tables = loaded.tables;
+    respond::run_accepted(size, tables, mutant, inputs, buffer)
+}
+
+// First failed test: the lowest number of a test that the mutant fails, and the position in it of its first wrong output.
+pub fn first_failed(sheet: &[u8], mutant: &[u8]) -> Failed
+    ensures answer { λ r. ⌜ r ≡ failedAnswer (failing (now (sheet .entry)) (now (mutant .entry))) ⌝ }
+    ensures told { λ r. ⌜ ToldFailed (now (sheet .entry)) (now (mutant .entry)) r ⌝ }
+{
+    let loaded = sheet::load(sheet);
+    let reading = loaded.reading;
+    let Reading::Accepted(size) = reading else {
+        let why = refusal_of(reading);
+        return Failed::Refused(why.number, why.place);
+    };
+    let tables = loaded.tables;
+    suite::first_failed_accepted(sheet, size, tables, mutant)
+}
+
+// Compare: conforms, or the shortest, then smallest, distinguishing sequence (01: departing sequence) at the buffer's front.
+pub fn compare(sheet: &[u8], mutant: &[u8], buffer: &mut [u8]) -> Compared
+    ensures answer { λ r. ⌜ r ≡ comparedAnswer (comparing (now (sheet .entry)) (now (mutant .entry)) (length (now (buffer .entry)))) ⌝ }
+    ensures bytes { λ r. ⌜ now (buffer .exit) ≡ overlay (comparedWrites (comparing (now (sheet .entry)) (now (mutant .entry)) (length (now (buffer .entry))))) (now (buffer .entry)) ⌝ }
+    ensures told { λ r. ⌜ ToldCompared (now (sheet .entry)) (now (mutant .entry)) (length (now (buffer .entry))) r (now (buffer .exit)) ⌝ }
+{
+    let loaded = sheet::load(sheet);
+    let reading = loaded.reading;
+    let Reading::Accepted(size) = reading else {
+        let why = refusal_of(reading);
+        return Compared::Refused(why.number, why.place);
+    };
+    let tables = loaded.tables;
+    distance::compare_accepted(size, tables, mutant, buffer)
+}

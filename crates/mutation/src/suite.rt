@@ -1,0 +1,144 @@
+// A machine on the tests of a sheet, both the specification and the machine as tables.
+ghost use Prim.Native.Nat.{ℕ, _+_, _*_, _≤_, _<_};
+ghost use mathlib.Core.Path.{_≡_};
+ghost use mathlib.Core.List.{List};
+ghost use Rattle.mutation.specs.Answers.{indexOr, failedOf};
+ghost use Rattle.mutation.specs.Tables.{tables, Valid};
+ghost use Rattle.mutation.specs.Tests.{wrongFrom, failedFrom, Test, Tests};
+ghost use lib.ListN.{length};
+ghost use Rattle.sheet.specs.Sheet.{Sheet};
+ghost use Rattle.sheet.specs.Encode.{encode};
+ghost use Rattle.sheet.specs.Reading.{accepted};
+ghost use Rattle.model.specs.Suite.{firstFailedOf};
+ghost use Rattle.model.specs.Operations.{withMutant};
+ghost use Rattle.mutation.specs.Answers.{failedAnswer};
+ghost use Rattle.mutation.specs.Fits.{Read};
+use crate::Failed;
+use crate::moves::initial;
+use crate::moves::machine_of;
+use crate::moves::wide;
+use crate::sites::Fit;
+use sheet::Summary;
+use sheet::Tables;
+
+fn wide16(x: u16) -> usize
+    ensures { λ r. ⌜ r ≡ x ⌝ }
+{
+    x as usize
+}
+
+// The position of the first wrong output in the test whose PRESS commands start at `at`; its number of inputs where none is
+// wrong.
+fn first_wrong(
+    sheet: &[u8],
+    so: &[u8; 256],
+    sn: &[u8; 256],
+    mo: &[u8; 256],
+    mn: &[u8; 256],
+    n: usize,
+    k: usize,
+    start: usize,
+    at: usize,
+    count: usize,
+) -> usize
+    requires { ⌜ Valid n k (now so) (now sn) (now mo) (now mn) ⌝ }
+    requires { ⌜ start < n ⌝ }
+    requires { ⌜ ((xs : List ℕ) × Test (tables n k start (now so) (now sn) (now mo) (now mn)) (now sheet) at count xs) ⌝ }
+    ensures { λ r. ⌜ ((xs : List ℕ) → Test (tables n k start (now (so .entry)) (now (sn .entry)) (now (mo .entry)) (now (mn .entry))) (now (sheet .entry)) at count xs → r ≡ indexOr count (wrongFrom (tables n k start (now (so .entry)) (now (sn .entry)) (now (mo .entry)) (now (mn .entry))) 0 start xs)) ⌝ }
+{
+    let mut p: usize = 0;
+    let mut q: usize = start;
+    let mut i: usize = 0;
+    while i < count {
+        let x = wide(sheet[at + 2 * i + 1]);
+        let a = p * 16 + x;
+        let b = q * 16 + x;
+        if so[a] != mo[b] {
+            return i;
+        }
+        p = wide(sn[a]);
+        q = wide(mn[b]);
+        i += 1;
+    }
+    count
+}
+
+// The first test that the machine fails and the position in it of the first wrong output.
+pub(crate) fn first_failure(
+    sheet: &[u8],
+    starts: &[u16; 256],
+    lengths: &[u16; 256],
+    count: usize,
+    so: &[u8; 256],
+    sn: &[u8; 256],
+    mo: &[u8; 256],
+    mn: &[u8; 256],
+    n: usize,
+    k: usize,
+    start: usize,
+) -> Failed
+    requires { ⌜ Valid n k (now so) (now sn) (now mo) (now mn) ⌝ }
+    requires { ⌜ start < n ⌝ }
+    requires { ⌜ ((ts : List (List ℕ)) × Tests (tables n k start (now so) (now sn) (now mo) (now mn)) (now sheet) (now starts) (now lengths) count ts) ⌝ }
+    ensures { λ r. ⌜ ((ts : List (List ℕ)) → Tests (tables n k start (now (so .entry)) (now (sn .entry)) (now (mo .entry)) (now (mn .entry))) (now (sheet .entry)) (now (starts .entry)) (now (lengths .entry)) count ts → r ≡ failedOf (failedFrom (tables n k start (now (so .entry)) (now (sn .entry)) (now (mo .entry)) (now (mn .entry))) ts)) ⌝ }
+{
+    let mut t: usize = 0;
+    while t < count {
+        let inputs = wide16(lengths[t]);
+        let wrong = first_wrong(
+            sheet,
+            so,
+            sn,
+            mo,
+            mn,
+            n,
+            k,
+            start,
+            wide16(starts[t]),
+            inputs,
+        );
+        if wrong < inputs {
+            return Failed::At(t, wrong);
+        }
+        t += 1;
+    }
+    Failed::Nothing
+}
+
+// First failed test, on an accepted sheet.
+pub(crate) fn first_failed_accepted(
+    sheet: &[u8],
+    size: Summary,
+    tables: Tables,
+    mutant: &[u8],
+) -> Failed
+    requires { ⌜ ((sh : Sheet) × Read sh size tables × (encode sh ≡ now sheet)) ⌝ }
+    ensures { λ r. ⌜ ((sh : Sheet) → Read sh size tables → encode sh ≡ now (sheet .entry) → r ≡ failedAnswer (withMutant sh (now (mutant .entry)) (accepted (firstFailedOf sh (now (mutant .entry)))))) ⌝ }
+{
+    let machine = machine_of(size, tables, mutant);
+    let fit = machine.fit;
+    if let Fit::Refused(number, place) = fit {
+        return Failed::Refused(number, place);
+    }
+    let starts = tables.starts;
+    let lengths = tables.lengths;
+    let so = tables.output;
+    let sn = tables.target;
+    let mo = machine.output;
+    let mn = machine.target;
+    let n = wide(size.states);
+    let k = wide(size.inputs);
+    first_failure(
+        sheet,
+        &starts,
+        &lengths,
+        size.tests,
+        &so,
+        &sn,
+        &mo,
+        &mn,
+        n,
+        k,
+        initial(),
+    )
+}

@@ -1,0 +1,138 @@
+// Whether a mutant with all its choices is a survivor.
+use crate::Compared;
+use crate::distance::distinguish;
+use crate::moves::wide;
+use engine::Step;
+use engine::inputs;
+use engine::rule_output;
+use engine::rule_target;
+use engine::site;
+use engine::states;
+use engine::transition;
+ghost use mathlib.Core.Path.{_≡_};
+ghost use Prim.Native.Nat.{ℕ, _+_, _*_, _/_, _%_, _≤_, _<_};
+ghost use lib.ListN.{length, getD, take, replicate};
+ghost use Rattle.sheet.specs.Sheet.{Sheet};
+ghost use Rattle.engine.specs.Machine.{Wf, chosen};
+ghost use Rattle.mutation.specs.Search.{isSurvivor, Searching};
+ghost use Rattle.mutation.specs.Survive.{slot, walkOf, Chosen, Acts, Laid};
+
+// The choice of p at a pair, 0 where it is no suspect.
+fn choice_at(block: &[u8; 1603], p: &[u16; 32], k: usize) -> u16
+    requires { ⌜ Wf (now block) × (k < 256) ⌝ }
+    ensures { λ r. ⌜ r ≡ chosen (now (block .entry)) (now (p .entry)) k ⌝ }
+{
+    let i = site(block, k);
+    if i == 255 {
+        return 0;
+    }
+    p[wide(i)]
+}
+
+// What the mutant p does at an index.
+fn act(block: &[u8; 1603], p: &[u16; 32], k: usize) -> Step
+    requires { ⌜ Wf (now block) × Chosen (now block) (now p) × (k < 256) ⌝ }
+    ensures { λ r. ⌜ Acts (now (block .entry)) (now (p .entry)) k r ⌝ }
+{
+    if k / 16 >= wide(states(block)) {
+        return Step {
+            output: 0,
+            target: 0,
+        };
+    }
+    if k % 16 >= wide(inputs(block)) {
+        return Step {
+            output: 0,
+            target: 0,
+        };
+    }
+    let c = choice_at(block, p, k);
+    transition(block, k, c)
+}
+
+// Lays out the rules in so and sn, and what the mutant p does in mo and mn.
+pub(crate) fn lay(
+    block: &[u8; 1603],
+    p: &[u16; 32],
+    so: &mut [u8; 256],
+    sn: &mut [u8; 256],
+    mo: &mut [u8; 256],
+    mn: &mut [u8; 256],
+)
+    requires { ⌜ Wf (now block) × Chosen (now block) (now p) ⌝ }
+    requires { ⌜ (length (now so) ≡ 256) × (length (now sn) ≡ 256) × (length (now mo) ≡ 256) × (length (now mn) ≡ 256) ⌝ }
+    ensures { λ r. ⌜ Laid (now (block .entry)) (now (p .entry)) (now (so .exit)) (now (sn .exit)) (now (mo .exit)) (now (mn .exit)) 256 ⌝ }
+{
+    let mut k: usize = 0;
+    while k < 256 {
+        let r = act(block, p, k);
+        so[k] = rule_output(block, k);
+        sn[k] = rule_target(block, k);
+        mo[k] = r.output;
+        mn[k] = r.target;
+        k += 1;
+    }
+}
+
+// The place of a state and an input.
+fn slot_at(s: u8, x: u8) -> usize
+    ensures { λ r. ⌜ (r ≡ slot s x) × (r < 256) ⌝ }
+{
+    ((s % 16) as usize) * 16 + ((x % 16) as usize)
+}
+
+// Whether the mutant gives every specified output along the tests.
+fn passes(bytes: &[u8], so: &[u8; 256], sn: &[u8; 256], mo: &[u8; 256], mn: &[u8; 256]) -> bool
+    ensures { λ r. ⌜ r ≡ walkOf (now (so .entry)) (now (sn .entry)) (now (mo .entry)) (now (mn .entry)) 0 0 (now (bytes .entry)) ⌝ }
+{
+    let mut at: usize = 0;
+    let mut s: u8 = 0;
+    let mut q: u8 = 0;
+    while bytes.len() - at >= 2 {
+        if bytes[at] != 5 {
+            s = 0;
+            q = 0;
+            at += 1;
+        } else {
+            let x = bytes[at + 1];
+            let a = slot_at(s, x);
+            let b = slot_at(q, x);
+            if so[a] != mo[b] {
+                return false;
+            }
+            s = sn[a];
+            q = mn[b];
+            at += 2;
+        }
+    }
+    true
+}
+
+pub(crate) fn no_table() -> [u8; 256]
+    ensures { λ r. ⌜ r ≡ replicate 256 0 ⌝ }
+{
+    [0u8; 256]
+}
+
+// Whether the mutant with the choices p passes the tests and is nonconforming.
+pub(crate) fn survives(block: &[u8; 1603], bytes: &[u8], p: &[u16; 32], n: usize) -> bool
+    requires { ⌜ ((sh : Sheet) × Searching sh (now block) (now bytes) (now p) n n) ⌝ }
+    ensures { λ r. ⌜ ((sh : Sheet) → Searching sh (now (block .entry)) (now (bytes .entry)) (now (p .entry)) n n → r ≡ isSurvivor sh (take n (now (p .entry)))) ⌝ }
+{
+    let mut so = no_table();
+    let mut sn = no_table();
+    let mut mo = no_table();
+    let mut mn = no_table();
+    lay(block, p, &mut so, &mut sn, &mut mo, &mut mn);
+    if !passes(bytes, &so, &sn, &mo, &mn) {
+        return false;
+    }
+    let states = wide(states(block));
+    let inputs = wide(inputs(block));
+    let mut found = no_table();
+    match distinguish(&so, &sn, &mo, &mn, states, inputs, 0, &mut found) {
+        Compared::Differs(_) => true,
+        Compared::Conforms => false,
+        Compared::Refused(_, _) => false,
+    }
+}

@@ -1,0 +1,187 @@
+// 01's Judge.
+use crate::Compared;
+use crate::distance::distinguish;
+use crate::moves::wide;
+use crate::search::Found;
+use crate::search::search;
+use crate::sites::number;
+use crate::survive::lay;
+use crate::survive::no_table;
+use engine::clear;
+use engine::inputs;
+use engine::pack;
+use engine::states;
+use sheet::Reading;
+use sheet::Summary;
+use sheet::Tables;
+use sheet::load;
+ghost use mathlib.Core.Path.{_≡_};
+ghost use mathlib.Core.List.{List};
+ghost use Prim.Native.Nat.{ℕ, _+_, _*_, _≤_, _<_};
+ghost use lib.ListN.{length, getD, take, drop, replicate};
+ghost use Rattle.sheet.specs.Sheet.{Sheet};
+ghost use Rattle.model.specs.Suite.{compareOf};
+ghost use Rattle.model.specs.Operations.{judging};
+ghost use Rattle.engine.specs.Machine.{statesOf, suiteBytes};
+ghost use Rattle.mutation.specs.Answers.{overlay, found};
+ghost use Rattle.mutation.specs.Search.{Searching, byFound};
+ghost use Rattle.mutation.specs.Judging.{judgedAnswer, boardWrites, sequenceWrites, refusalOf, judgingOf, Judges, ReadFrom, shownOf, ToldJudged};
+
+// What Judge answers: complete, or the length of the first survivor's shortest distinguishing sequence.
+pub enum Judged {
+    Complete,
+    Survivor(usize),
+    Refused(u8, usize),
+}
+
+// A refusal of Read, handed on.
+fn refusal(reading: Reading) -> Judged
+    ensures { λ r. ⌜ r ≡ refusalOf reading ⌝ }
+{
+    match reading {
+        Reading::Accepted(_) => Judged::Refused(0, 0),
+        Reading::Refused(number, place) => Judged::Refused(number, place),
+    }
+}
+
+// No choice settled.
+fn unsettled() -> [u16; 32]
+    ensures { λ r. ⌜ r ≡ replicate 32 256 ⌝ }
+{
+    [256u16; 32]
+}
+
+// A block for the engine's tables.
+fn no_block() -> [u8; 1603]
+    ensures { λ r. ⌜ r ≡ replicate 1603 0 ⌝ }
+{
+    [0u8; 1603]
+}
+
+fn no_sets() -> [u32; 1024] {
+    [0u32; 1024]
+}
+
+fn no_values() -> [u16; 32768] {
+    [0u16; 32768]
+}
+
+fn no_notes() -> [u32; 80] {
+    [0u32; 80]
+}
+
+// The first survivor of all.
+fn find(block: &[u8; 1603], bytes: &[u8], n: usize) -> Found
+    requires { ⌜ ((sh : Sheet) × Searching sh (now block) (now bytes) (replicate 32 256) 0 n) ⌝ }
+    ensures { λ r. ⌜ ((sh : Sheet) → Searching sh (now (block .entry)) (now (bytes .entry)) (replicate 32 256) 0 n → byFound sh (replicate 32 256) 0 (r .found) (r .p)) ⌝ }
+{
+    let mut sets = no_sets();
+    let mut values = no_values();
+    let mut notes = no_notes();
+    clear(block, bytes, &mut sets, &mut values, &mut notes);
+    let p = unsettled();
+    search(block, bytes, &mut sets, &mut values, &mut notes, p, 0, n)
+}
+
+// Writes the first n choices at the buffer's front.
+fn write_choices(p: &[u16; 32], n: usize, board: &mut [u8])
+    requires { ⌜ (n ≤ 32) × (length (now p) ≡ 32) × (n ≤ length (now board)) × ((j : ℕ) → j < n → getD (now p) j 0 < 256) ⌝ }
+    ensures { λ r. ⌜ now (board .exit) ≡ overlay (take n (now (p .entry))) (now (board .entry)) ⌝ }
+{
+    let mut j: usize = 0;
+    while j < n {
+        board[j] = p[j] as u8;
+        j += 1;
+    }
+}
+
+// Writes the shortest distinguishing sequence of the mutant p at the buffer's front.
+fn show(block: &[u8; 1603], p: &[u16; 32], n: usize, sequence: &mut [u8]) -> Judged
+    requires { ⌜ ((sh : Sheet) × Searching sh (now block) (suiteBytes (sh .tests)) (now p) n n) ⌝ }
+    requires { ⌜ statesOf (now block) * statesOf (now block) ≤ length (now sequence) ⌝ }
+    ensures { λ r. ⌜ ((sh : Sheet) → Searching sh (now (block .entry)) (suiteBytes (sh .tests)) (now (p .entry)) n n → r ≡ shownOf (compareOf sh (take n (now (p .entry))))) ⌝ }
+    ensures { λ r. ⌜ ((sh : Sheet) → Searching sh (now (block .entry)) (suiteBytes (sh .tests)) (now (p .entry)) n n → now (sequence .exit) ≡ overlay (found (compareOf sh (take n (now (p .entry))))) (now (sequence .entry))) ⌝ }
+{
+    let mut so = no_table();
+    let mut sn = no_table();
+    let mut mo = no_table();
+    let mut mn = no_table();
+    lay(block, p, &mut so, &mut sn, &mut mo, &mut mn);
+    let states = wide(states(block));
+    let inputs = wide(inputs(block));
+    match distinguish(&so, &sn, &mo, &mn, states, inputs, 0, sequence) {
+        Compared::Differs(length) => Judged::Survivor(length),
+        Compared::Conforms => Judged::Complete,
+        Compared::Refused(_, _) => Judged::Complete,
+    }
+}
+
+// The judgement of a sheet that was read.
+fn judge_read(
+    size: Summary,
+    tables: Tables,
+    sheet: &[u8],
+    board: &mut [u8],
+    sequence: &mut [u8],
+) -> Judged
+    requires { ⌜ ((sh : Sheet) × ReadFrom sh size tables (now sheet)) ⌝ }
+    ensures { λ r. ⌜ ((sh : Sheet) → ReadFrom sh size tables (now (sheet .entry)) → Judges (judgingOf sh (length (now (board .entry))) (length (now (sequence .entry)))) r (now (board .entry)) (now (board .exit)) (now (sequence .entry)) (now (sequence .exit))) ⌝ }
+{
+    let n = wide(size.states);
+    let k = wide(size.inputs);
+    let choices = tables.choices;
+    let sites = number(&choices, n, k);
+    let count = sites.count;
+    if board.len() < count {
+        return Judged::Refused(16, 0);
+    }
+    if sequence.len() < n * n {
+        return Judged::Refused(16, 1);
+    }
+    let output = tables.output;
+    let target = tables.target;
+    let first = tables.first;
+    let mutated = tables.mutated;
+    let diverted = tables.diverted;
+    let site = sites.site;
+    let sizes = sites.slots;
+    let mut block = no_block();
+    pack(
+        &output,
+        &target,
+        &site,
+        &first,
+        &mutated,
+        &diverted,
+        &sizes,
+        size.states,
+        size.inputs,
+        &mut block,
+    );
+    let place = 4 + 5 * size.rules + 5 * size.faults;
+    let bytes = &sheet[place..];
+    let answer = find(&block, bytes, count);
+    if !answer.found {
+        return Judged::Complete;
+    }
+    let p = answer.p;
+    write_choices(&p, count, board);
+    show(&block, &p, count, sequence)
+}
+
+// Complete with nothing written, or the first nonconforming mutant that passes the tests, at the board buffer's front, and its
+// shortest, then smallest, distinguishing sequence, at the sequence buffer's front, with its length.
+pub fn judge(sheet: &[u8], board: &mut [u8], sequence: &mut [u8]) -> Judged
+    ensures answer { λ r. ⌜ r ≡ judgedAnswer (judging (now (sheet .entry)) (length (now (board .entry))) (length (now (sequence .entry)))) ⌝ }
+    ensures board { λ r. ⌜ now (board .exit) ≡ overlay (boardWrites (judging (now (sheet .entry)) (length (now (board .entry))) (length (now (sequence .entry))))) (now (board .entry)) ⌝ }
+    ensures sequence { λ r. ⌜ now (sequence .exit) ≡ overlay (sequenceWrites (judging (now (sheet .entry)) (length (now (board .entry))) (length (now (sequence .entry))))) (now (sequence .entry)) ⌝ }
+    ensures told { λ r. ⌜ ToldJudged (now (sheet .entry)) (length (now (board .entry))) (length (now (sequence .entry))) r (now (board .exit)) (now (sequence .exit)) ⌝ }
+{
+    let loaded = load(sheet);
+    let reading = loaded.reading;
+    let tables = loaded.tables;
+    let Reading::Accepted(size) = reading else {
+        return refusal(reading);
+    };
+    judge_read(size, tables, sheet, board, sequence)
+}
