@@ -19,6 +19,22 @@ void ranthelo_read(const uint8_t *sheet, size_t sheet_len, size_t answer[9]);
 /* One test's part. answer: number, place, and where in the sheet the test's PRESS commands start and how many bytes they are. */
 void ranthelo_test_span(const uint8_t *sheet, size_t sheet_len, size_t test, size_t answer[4]);
 
+/* Run a board on presses: one sound for each at the buffer's front. answer: number, place. */
+void ranthelo_run(const uint8_t *sheet, size_t sheet_len, const uint8_t *board, size_t board_len, const uint8_t *presses,
+                  size_t presses_len, uint8_t *buffer, size_t buffer_len, size_t answer[2]);
+
+/* First failed test. answer: number, place, 1 if a test fails, that test, the position of its first wrong sound. */
+void ranthelo_first_failed(const uint8_t *sheet, size_t sheet_len, const uint8_t *board, size_t board_len, size_t answer[5]);
+
+/* Compare: the shortest departing sequence at the buffer's front. answer: number, place, 1 if the board departs, its length. */
+void ranthelo_compare(const uint8_t *sheet, size_t sheet_len, const uint8_t *board, size_t board_len, uint8_t *buffer,
+                      size_t buffer_len, size_t answer[4]);
+
+/* Judge: the first departing board that passes the list, and its shortest departing sequence, at the buffers' fronts. answer:
+ * number, place, 0 for complete or 1 for a survivor, the sequence's length. */
+void ranthelo_judge(const uint8_t *sheet, size_t sheet_len, uint8_t *board, size_t board_len, uint8_t *sequence,
+                    size_t sequence_len, size_t answer[4]);
+
 #ifdef __cplusplus
 }
 #endif

@@ -5,6 +5,14 @@ use Rattle.sheet.specs.declared.Reading.{Reading}
 use Rattle.sheet.specs.declared.Reading.the-variants as read
 use Rattle.sheet.specs.declared.Parting.{Parting}
 use Rattle.sheet.specs.declared.Parting.the-variants as part
+use Rattle.mutation.specs.declared.Ran.{Ran}
+use Rattle.mutation.specs.declared.Ran.the-variants as ran
+use Rattle.mutation.specs.declared.Failed.{Failed}
+use Rattle.mutation.specs.declared.Failed.the-variants as failed
+use Rattle.mutation.specs.declared.Compared.{Compared}
+use Rattle.mutation.specs.declared.Compared.the-variants as compared
+use Rattle.mutation.specs.declared.verdict.Judged.{Judged}
+use Rattle.mutation.specs.declared.verdict.Judged.the-variants as judged
 
 -- number, place; states, inputs, outputs (01: n, k, m), and how many RULEs, FAULTs, TESTs and open pairs
 abbrev pub readNumbers : Reading → List ℕ
@@ -16,3 +24,26 @@ readNumbers (read.Refused number place) = number ∷ place ∷ 0 ∷ 0 ∷ 0 ∷
 abbrev pub partNumbers : Parting → List ℕ
 partNumbers (part.At span) = 0 ∷ 0 ∷ span .start ∷ span .length ∷ []
 partNumbers (part.Refused number place) = number ∷ place ∷ 0 ∷ 0 ∷ []
+
+-- number, place
+abbrev pub ranNumbers : Ran → List ℕ
+ranNumbers ran.Done = 0 ∷ 0 ∷ []
+ranNumbers (ran.Refused number place) = number ∷ place ∷ []
+
+-- number, place; 1 if a test fails, that test and the position of its first wrong output
+abbrev pub failedNumbers : Failed → List ℕ
+failedNumbers failed.Nothing = 0 ∷ 0 ∷ 0 ∷ 0 ∷ 0 ∷ []
+failedNumbers (failed.At test position) = 0 ∷ 0 ∷ 1 ∷ test ∷ position ∷ []
+failedNumbers (failed.Refused number place) = number ∷ place ∷ 0 ∷ 0 ∷ 0 ∷ []
+
+-- number, place; 1 if the mutant differs, and the length of the sequence
+abbrev pub comparedNumbers : Compared → List ℕ
+comparedNumbers compared.Conforms = 0 ∷ 0 ∷ 0 ∷ 0 ∷ []
+comparedNumbers (compared.Differs d) = 0 ∷ 0 ∷ 1 ∷ d ∷ []
+comparedNumbers (compared.Refused number place) = number ∷ place ∷ 0 ∷ 0 ∷ []
+
+-- number, place; 1 if there is a survivor, and the length of its sequence
+abbrev pub judgedNumbers : Judged → List ℕ
+judgedNumbers judged.Complete = 0 ∷ 0 ∷ 0 ∷ 0 ∷ []
+judgedNumbers (judged.Survivor d) = 0 ∷ 0 ∷ 1 ∷ d ∷ []
+judgedNumbers (judged.Refused number place) = number ∷ place ∷ 0 ∷ 0 ∷ []

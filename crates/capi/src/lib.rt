@@ -1,9 +1,17 @@
 // The operations for C: each fills an array with its answer as numbers. See include/ranthelo.h.
 ghost use mathlib.Core.Path.{_≡_};
+ghost use lib.ListN.{length};
 ghost use Rattle.sheet.specs.Reading.{reading};
 ghost use Rattle.sheet.specs.Part.{parting};
 ghost use Rattle.sheet.specs.Tables.{readAnswer, partAnswer};
-ghost use Rattle.capi.specs.Numbers.{readNumbers, partNumbers};
+ghost use Rattle.model.specs.Operations.{running, failing, comparing, judging};
+ghost use Rattle.mutation.specs.Answers.{overlay, ranAnswer, ranWrites, failedAnswer, comparedAnswer, comparedWrites};
+ghost use Rattle.mutation.specs.Judging.{judgedAnswer, boardWrites, sequenceWrites};
+ghost use Rattle.capi.specs.Numbers.{readNumbers, partNumbers, ranNumbers, failedNumbers, comparedNumbers, judgedNumbers};
+use mutation::Compared;
+use mutation::Failed;
+use mutation::Judged;
+use mutation::Ran;
 use sheet::Parting;
 use sheet::Reading;
 
@@ -42,6 +50,95 @@ pub extern "C" fn ranthelo_test_span(sheet: &[u8], test: usize, answer: &mut [us
             *answer = [0, 0, span.start, span.length];
         }
         Parting::Refused(number, place) => {
+            *answer = [number as usize, place, 0, 0];
+        }
+    }
+}
+
+// Run.
+#[no_mangle]
+pub extern "C" fn ranthelo_run(
+    sheet: &[u8],
+    board: &[u8],
+    presses: &[u8],
+    buffer: &mut [u8],
+    answer: &mut [usize; 2],
+)
+    ensures { λ r. ⌜ now (answer .exit) ≡ ranNumbers (ranAnswer (running (now (sheet .entry)) (now (board .entry)) (now (presses .entry)) (length (now (buffer .entry))))) ⌝ }
+    ensures { λ r. ⌜ now (buffer .exit) ≡ overlay (ranWrites (running (now (sheet .entry)) (now (board .entry)) (now (presses .entry)) (length (now (buffer .entry))))) (now (buffer .entry)) ⌝ }
+{
+    match mutation::run(sheet, board, presses, buffer) {
+        Ran::Done => {
+            *answer = [0, 0];
+        }
+        Ran::Refused(number, place) => {
+            *answer = [number as usize, place];
+        }
+    }
+}
+
+// First failed test.
+#[no_mangle]
+pub extern "C" fn ranthelo_first_failed(sheet: &[u8], board: &[u8], answer: &mut [usize; 5])
+    ensures { λ r. ⌜ now (answer .exit) ≡ failedNumbers (failedAnswer (failing (now (sheet .entry)) (now (board .entry)))) ⌝ }
+{
+    match mutation::first_failed(sheet, board) {
+        Failed::Nothing => {
+            *answer = [0, 0, 0, 0, 0];
+        }
+        Failed::At(test, position) => {
+            *answer = [0, 0, 1, test, position];
+        }
+        Failed::Refused(number, place) => {
+            *answer = [number as usize, place, 0, 0, 0];
+        }
+    }
+}
+
+// Compare.
+#[no_mangle]
+pub extern "C" fn ranthelo_compare(
+    sheet: &[u8],
+    board: &[u8],
+    buffer: &mut [u8],
+    answer: &mut [usize; 4],
+)
+    ensures { λ r. ⌜ now (answer .exit) ≡ comparedNumbers (comparedAnswer (comparing (now (sheet .entry)) (now (board .entry)) (length (now (buffer .entry))))) ⌝ }
+    ensures { λ r. ⌜ now (buffer .exit) ≡ overlay (comparedWrites (comparing (now (sheet .entry)) (now (board .entry)) (length (now (buffer .entry))))) (now (buffer .entry)) ⌝ }
+{
+    match mutation::compare(sheet, board, buffer) {
+        Compared::Conforms => {
+            *answer = [0, 0, 0, 0];
+        }
+        Compared::Differs(d) => {
+            *answer = [0, 0, 1, d];
+        }
+        Compared::Refused(number, place) => {
+            *answer = [number as usize, place, 0, 0];
+        }
+    }
+}
+
+// Judge.
+#[no_mangle]
+pub extern "C" fn ranthelo_judge(
+    sheet: &[u8],
+    board: &mut [u8],
+    sequence: &mut [u8],
+    answer: &mut [usize; 4],
+)
+    ensures { λ r. ⌜ now (answer .exit) ≡ judgedNumbers (judgedAnswer (judging (now (sheet .entry)) (length (now (board .entry))) (length (now (sequence .entry))))) ⌝ }
+    ensures { λ r. ⌜ now (board .exit) ≡ overlay (boardWrites (judging (now (sheet .entry)) (length (now (board .entry))) (length (now (sequence .entry))))) (now (board .entry)) ⌝ }
+    ensures { λ r. ⌜ now (sequence .exit) ≡ overlay (sequenceWrites (judging (now (sheet .entry)) (length (now (board .entry))) (length (now (sequence .entry))))) (now (sequence .entry)) ⌝ }
+{
+    match mutation::judge(sheet, board, sequence) {
+        Judged::Complete => {
+            *answer = [0, 0, 0, 0];
+        }
+        Judged::Survivor(d) => {
+            *answer = [0, 0, 1, d];
+        }
+        Judged::Refused(number, place) => {
             *answer = [number as usize, place, 0, 0];
         }
     }
