@@ -1,0 +1,116 @@
+-- `put_number` writes the upper digits, then the last one.
+use Prim.Native.Nat.{ℕ, _<_}
+use borrow.Fn.Kinds.{In}
+use borrow.Fn.PlainCycle.{Measures, is, falls, and}
+use native.Mathlib.Omega.{arith}
+use mathlib.Core.Path.{_∙_}
+use borrow.Author.Needs.{needs}
+use Rattle.report.proofs.TextLaws.{decimal-some, decimal-longer, number-one, number-more}
+use Rattle.report.proofs.text.put_number.Reads as put-number
+use Rattle.report.proofs.text.put_number.Kinds as put-number-kinds
+use Rattle.report.proofs.text.+put_number.Lts-put_number as put-number-lts
+use Rattle.report.proofs.text.put.Reads as put-reads
+use Rattle.report.proofs.text.+put_number.{statement}
+use Rattle.report.proofs.text.+put_number.Tie.{close}
+
+abbrev μ-put-number : Measures 1 put-number-kinds.ps ℕ
+μ-put-number κs a = a .1 .1 .0
+
+abbrev put-number-at : ℕ → In 1 put-number-kinds.ps
+put-number-at t =
+    and 1 put-number-kinds.ps (is 1 put-number-kinds.ps μ-put-number t) put-number.Pre
+
+abbrev put-number-below : ℕ → In 1 put-number-kinds.ps
+put-number-below t =
+    and 1 put-number-kinds.ps (falls 1 put-number-kinds.ps _<_ μ-put-number t) put-number.Pre
+
+put-number-cast-digit : (t : ℕ) → put-number-lts.Need-cast-digit (
+  put-reads.Asked,
+  put-reads.Learnt,
+  put-number-below t,
+  put-number.Post,
+) (put-number-at t) put-number.Post
+put-number-cast-digit t c = omega arith
+
+put-number-add-digit : (t : ℕ) → put-number-lts.Need-add-digit (
+  put-reads.Asked,
+  put-reads.Learnt,
+  put-number-below t,
+  put-number.Post,
+) (put-number-at t) put-number.Post
+put-number-add-digit t c = omega arith
+
+put-number-put-requires : (t : ℕ) → put-number-lts.Need-put-requires (
+  put-reads.Asked,
+  put-reads.Learnt,
+  put-number-below t,
+  put-number.Post,
+) (put-number-at t) put-number.Post
+put-number-put-requires t c κs = omega (arith, c .before .before .before .pre .1, decimal-some (c .before .before .before .args .n))
+
+put-number-same-length : (t : ℕ) → put-number-lts.Need-same-length (
+  put-reads.Asked,
+  put-reads.Learnt,
+  put-number-below t,
+  put-number.Post,
+) (put-number-at t) put-number.Post
+put-number-same-length t c = c .before .before .put .ensures .long
+
+put-number-returns : (t : ℕ) → put-number-lts.Need-returns (
+  put-reads.Asked,
+  put-reads.Learnt,
+  put-number-below t,
+  put-number.Post,
+) (put-number-at t) put-number.Post
+put-number-returns t c = number-one _ (c .before .before .before .before .if1 .taken) (c .before .before .put .ensures)
+
+put-number-put-number-requires : (t : ℕ) → put-number-lts.Need-put-number-requires (
+  put-reads.Asked,
+  put-reads.Learnt,
+  put-number-below t,
+  put-number.Post,
+) (put-number-at t) put-number.Post
+put-number-put-number-requires t c κs = (omega (arith, c .before .before .before .pre .0), omega (arith, c .before .before .before .pre .1, decimal-longer (c .before .before .before .args .n) (c .before .if1 .left)))
+
+put-number-put-requires-2 : (t : ℕ) → put-number-lts.Need-put-requires-2 (
+  put-reads.Asked,
+  put-reads.Learnt,
+  put-number-below t,
+  put-number.Post,
+) (put-number-at t) put-number.Post
+put-number-put-requires-2 t c κs = omega (arith, c .before .before .before .before .before .before .before .pre .1, decimal-longer (c .before .before .before .before .before .before .before .args .n) (c .before .before .before .before .before .if1 .left), c .before .before .before .put-number .ensures .end, c .before .before .before .put-number .ensures .long)
+
+put-number-same-length-2 : (t : ℕ) → put-number-lts.Need-same-length-2 (
+  put-reads.Asked,
+  put-reads.Learnt,
+  put-number-below t,
+  put-number.Post,
+) (put-number-at t) put-number.Post
+put-number-same-length-2 t c = c .before .before .put2 .ensures .long ∙ c .before .before .before .before .before .before .put-number .ensures .long
+
+put-number-returns-2 : (t : ℕ) → put-number-lts.Need-returns-2 (
+  put-reads.Asked,
+  put-reads.Learnt,
+  put-number-below t,
+  put-number.Post,
+) (put-number-at t) put-number.Post
+put-number-returns-2 t c = number-more _ (c .before .before .before .before .before .before .before .before .if1 .left) (c .before .before .before .before .before .before .put-number .ensures) (c .before .before .put2 .ensures)
+
+pub +put-number-spec : {M : Type 1} → statement M
++put-number-spec = close μ-put-number λ t. put-number-lts.spec (
+  put-reads.Asked,
+  put-reads.Learnt,
+  put-number-below t,
+  put-number.Post,
+)
+    (put-number-at t)
+    put-number.Post
+    (put-number-cast-digit t)
+    (put-number-add-digit t)
+    (put-number-put-requires t)
+    (put-number-same-length t)
+    (put-number-returns t)
+    (put-number-put-number-requires t)
+    (put-number-put-requires-2 t)
+    (put-number-same-length-2 t)
+    (put-number-returns-2 t)

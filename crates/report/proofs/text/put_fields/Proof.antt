@@ -1,0 +1,73 @@
+-- `put_fields` writes a blank and a number for each byte: after i of them, the first i are written.
+use Prim.Native.Nat.{_≤_, _-_}
+use native.Mathlib.Omega.{arith}
+use lib.ListN.{length, take}
+use Rattle.report.proofs.TextLaws.{fields-room, field-more, fields-none, fields-all}
+use Rattle.report.specs.Text.{Appended, fields}
+use Rattle.report.proofs.text.put_fields.Statement.{statement}
+use Rattle.report.proofs.text.put_fields.Tie as tie
+
+abbrev Inv-loop : tie.InvT-loop
+Inv-loop out₀ at numbers i₀ end₀ out i end = (i ≤ length numbers) × Appended out₀ out at end (fields (take i numbers))
+
+abbrev μ-loop : tie.MeasureT-loop
+μ-loop out₀ at numbers i₀ end₀ out i end = length numbers - i
+
+loop-holds : tie.Need-loop-holds Inv-loop μ-loop
+loop-holds c = (omega arith, fields-none _ _)
+
+put-requires : tie.Need-put-requires Inv-loop μ-loop
+put-requires c κs = omega (arith, c .before .before .loop .inv .1 .end, c .before .before .loop .inv .1 .long, fields-room (c .before .before .before .before .before .args .numbers .now) (c .before .before .loop .i) (omega arith))
+
+shared-slice-read-put-number : tie.Need-shared-slice-read-put-number Inv-loop μ-loop
+shared-slice-read-put-number c = omega arith
+
+cast-put-number : tie.Need-cast-put-number Inv-loop μ-loop
+cast-put-number c = omega (arith, c .shared-slice-known2 .given (c .before .before .before .before .before .before .before .loop .i))
+
+put-number-requires : tie.Need-put-number-requires Inv-loop μ-loop
+put-number-requires c κs =
+    omega (
+      arith,
+      c .before .before .before .before .put .ensures .end,
+      c .before .before .before .before .put .ensures .long,
+      c .before .before .before .before .before .before .before .loop .inv .1 .end,
+      c .before .before .before .before .before .before .before .loop .inv .1 .long,
+      c .before .before .before .before .before .before .before .before .before .before .pre,
+      fields-room (c .before .before .before .before .before .before .before .before .before .before .args .numbers .now) (c .before .before .before .before .before .before .before .loop .i) (omega arith),
+    )
+
+add-i : tie.Need-add-i Inv-loop μ-loop
+add-i c = omega arith
+
+loop-less : tie.Need-loop-less Inv-loop μ-loop
+loop-less c = omega arith
+
+loop-again : tie.Need-loop-again Inv-loop μ-loop
+loop-again c = (
+  omega arith,
+  field-more (c .before .before .before .before .before .before .before .before .before .before .before .before .before .args .numbers .now) (c .before .before .before .before .before .before .before .before .before .before .loop .i) (c .before .before .before .before .before .before .before .before .before .before .loop .inv .1) (c .before .before .before .before .before .before .before .put .ensures) (c .before .before .put-number .ensures) (omega arith),
+)
+
+same-length : tie.Need-same-length Inv-loop μ-loop
+same-length c = c .before .loop .inv .1 .long
+
+returns : tie.Need-returns Inv-loop μ-loop
+returns c = fields-all (c .before .before .before .before .args .numbers .now) (c .before .loop .i) (c .before .loop .inv .1) (omega arith)
+
+pub put-fields-spec : {M : Type 1} → statement M
+put-fields-spec =
+    tie.close
+    (tie.spec
+    Inv-loop
+    μ-loop
+    loop-holds
+    put-requires
+    shared-slice-read-put-number
+    cast-put-number
+    put-number-requires
+    add-i
+    loop-less
+    loop-again
+    same-length
+    returns)

@@ -1,0 +1,70 @@
+-- What the program prints.
+use Prim.Native.Nat.{ℕ, zero, suc, _+_, _/_, _%_}
+use mathlib.Core.Path.{_≡_}
+use mathlib.Core.Bool.{cond}
+use mathlib.Core.List.{List, [], _∷_, _++_}
+use lib.Dec.{ltb}
+use lib.ListN.{length, take, drop}
+use Rattle.sheet.specs.Reading.{Result, accepted, refused}
+use Rattle.model.specs.Suite.{Judgement, complete, survivor}
+
+-- the digits of a number in ASCII, the most significant first; fuel of one more than the number never runs out
+unfoldable pub decimalFrom : ℕ → ℕ → List ℕ
+decimalFrom zero n = []
+decimalFrom (suc fuel) n =
+    let upper = decimalFrom fuel (n / 10) in
+    let last = (48 + n % 10) ∷ [] in
+    cond (ltb n 10) last (upper ++ last)
+
+unfoldable pub decimal : ℕ → List ℕ
+decimal n = decimalFrom (suc n) n
+
+-- each number after one blank
+unfoldable pub fields : List ℕ → List ℕ
+fields [] = []
+fields (x ∷ xs) = 32 ∷ decimal x ++ fields xs
+
+abbrev pub newline : List ℕ
+newline = 10 ∷ []
+
+-- complete
+abbrev pub completeText : List ℕ
+completeText = 99 ∷ 111 ∷ 109 ∷ 112 ∷ 108 ∷ 101 ∷ 116 ∷ 101 ∷ newline
+
+-- survivor
+abbrev pub survivorText : List ℕ
+survivorText = 115 ∷ 117 ∷ 114 ∷ 118 ∷ 105 ∷ 118 ∷ 111 ∷ 114 ∷ newline
+
+-- board
+abbrev pub boardText : List ℕ
+boardText = 98 ∷ 111 ∷ 97 ∷ 114 ∷ 100 ∷ []
+
+-- press
+abbrev pub pressText : List ℕ
+pressText = 112 ∷ 114 ∷ 101 ∷ 115 ∷ 115 ∷ []
+
+-- refused, at: with a blank on each side that a number stands
+abbrev pub refusedText : List ℕ
+refusedText = 114 ∷ 101 ∷ 102 ∷ 117 ∷ 115 ∷ 101 ∷ 100 ∷ 32 ∷ []
+
+abbrev pub atText : List ℕ
+atText = 32 ∷ 97 ∷ 116 ∷ 32 ∷ []
+
+unfoldable pub survivorLines : List ℕ → List ℕ → List ℕ
+survivorLines b xs = survivorText ++ (boardText ++ (fields b ++ (newline ++ (pressText ++ (fields xs ++ newline)))))
+
+unfoldable pub refusedLine : ℕ → ℕ → List ℕ
+refusedLine number place = refusedText ++ (decimal number ++ (atText ++ (decimal place ++ newline)))
+
+-- 01's The program: `complete`; or three lines, `survivor`, `board` and the choices, `press` and the presses; or `refused N at P`
+unfoldable pub textOf : Result Judgement → List ℕ
+textOf (accepted complete) = completeText
+textOf (accepted (survivor b xs)) = survivorLines b xs
+textOf (refused number place) = refusedLine number place
+
+-- new is old with the text from at to r; all before and after is as it was
+pub record Appended (old new : List ℕ) (at r : ℕ) (text : List ℕ) : Type 0 where
+  pub long : length new ≡ length old
+  pub end : r ≡ at + length text
+  pub front : take r new ≡ take at old ++ text
+  pub rest : drop r new ≡ drop r old

@@ -1,0 +1,2 @@
+// The bytes that the program prints, for each form of its output.
+mod text;

@@ -1,0 +1,81 @@
+// Text in a buffer, a piece at a time: each function writes at a place and answers the place after it.
+ghost use mathlib.Core.Path.{_≡_};
+ghost use mathlib.Core.List.{[], _∷_, _++_};
+ghost use Prim.Native.Nat.{_+_, _<_, _≤_};
+ghost use lib.ListN.{length};
+ghost use Rattle.report.specs.Text.{Appended, decimal, fields, survivorLines, refusedLine};
+
+// One byte.
+pub fn put(out: &mut [u8], at: usize, b: u8) -> usize
+    requires { ⌜ at < length (now out) ⌝ }
+    ensures { λ r. ⌜ Appended (now (out .entry)) (now (out .exit)) at r (b ∷ []) ⌝ }
+{
+    out[at] = b;
+    at + 1
+}
+
+// Some bytes.
+pub fn put_all(out: &mut [u8], at: usize, text: &[u8]) -> usize
+    requires { ⌜ at + length (now text) ≤ length (now out) ⌝ }
+    ensures { λ r. ⌜ Appended (now (out .entry)) (now (out .exit)) at r (now (text .entry)) ⌝ }
+{
+    let mut i: usize = 0;
+    let mut end = at;
+    while i < text.len() {
+        end = put(out, end, text[i]);
+        i += 1;
+    }
+    end
+}
+
+// A number in decimal.
+pub fn put_number(out: &mut [u8], at: usize, n: usize) -> usize
+    requires { ⌜ at + length (decimal n) ≤ length (now out) ⌝ }
+    ensures { λ r. ⌜ Appended (now (out .entry)) (now (out .exit)) at r (decimal n) ⌝ }
+{
+    let digit = 48 + (n % 10) as u8;
+    if n < 10 {
+        return put(out, at, digit);
+    }
+    let end = put_number(out, at, n / 10);
+    put(out, end, digit)
+}
+
+// Numbers, each after a blank.
+pub fn put_fields(out: &mut [u8], at: usize, numbers: &[u8]) -> usize
+    requires { ⌜ at + length (fields (now numbers)) ≤ length (now out) ⌝ }
+    ensures { λ r. ⌜ Appended (now (out .entry)) (now (out .exit)) at r (fields (now (numbers .entry))) ⌝ }
+{
+    let mut i: usize = 0;
+    let mut end = at;
+    while i < numbers.len() {
+        let blank = put(out, end, 32);
+        end = put_number(out, blank, numbers[i] as usize);
+        i += 1;
+    }
+    end
+}
+
+// The three lines of a survivor.
+pub fn put_survivor(out: &mut [u8], mutant: &[u8], sequence: &[u8]) -> usize
+    requires { ⌜ length (survivorLines (now mutant) (now sequence)) ≤ length (now out) ⌝ }
+    ensures { λ r. ⌜ Appended (now (out .entry)) (now (out .exit)) 0 r (survivorLines (now (mutant .entry)) (now (sequence .entry))) ⌝ }
+{
+    let head = put_all(out, 0, b"survivor\nboard");
+    let board = put_fields(out, head, mutant);
+    let press = put_all(out, board, b"\npress");
+    let end = put_fields(out, press, sequence);
+    put(out, end, 10)
+}
+
+// The line of a refusal.
+pub fn put_refused(out: &mut [u8], number: u8, place: usize) -> usize
+    requires { ⌜ length (refusedLine number place) ≤ length (now out) ⌝ }
+    ensures { λ r. ⌜ Appended (now (out .entry)) (now (out .exit)) 0 r (refusedLine number place) ⌝ }
+{
+    let head = put_all(out, 0, b"refused ");
+    let at = put_number(out, head, number as usize);
+    let middle = put_all(out, at, b" at ");
+    let end = put_number(out, middle, place);
+    put(out, end, 10)
+}
