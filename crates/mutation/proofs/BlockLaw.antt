@@ -33,36 +33,10 @@ use Rattle.model.specs.laws.StepLaw.{step-at, step-outside, choice-below}
 use Rattle.model.specs.laws.StepLaw.{choiceOf as choiceAt}
 use Rattle.model.specs.laws.SuiteLaw.{test-specified, passes-right}
 use Rattle.model.specs.laws.SuiteLaw.{Specified as SpecifiedIn}
-use Rattle.engine.specs.Machine.{pair, ruleOutput, ruleTarget, siteAt, mutated, diverted, choicesOf, statesOf, inputsOf, choicesAt, choiceOf, chosen, ruleOf, stepOf, startOf, pairOf, PassesAll, Survivor, Specified, AllSpecified, suiteBytes, split, testsOf, SuiteOk, Ranged, Wf}
+use Rattle.engine.specs.Machine.{pair, ruleOutput, ruleTarget, siteAt, mutated, diverted, choicesOf, statesOf, inputsOf, choicesAt, choiceOf, chosen, ruleOf, stepOf, startOf, pairOf, PassesAll, Survivor, Specified, AllSpecified, suiteBytes, testsOf, SuiteOk, Ranged, Wf}
 use Rattle.engine.specs.Machine.{firstFault as firstIndex}
+use Rattle.engine.proofs.Suites.{tests-same}
 use Rattle.mutation.specs.Block.{BlockFor}
-
--- ---- the tests that the commands say
-
--- a TEST before some commands begins a test with the inputs up to the next TEST
-split-test : (l : List ℕ) → 0 < length l → split (4 ∷ l) ≡ ([], split l .0 ∷ split l .1)
-unfolding split
-split-test [] h = absurd (omega arith)
-split-test (c ∷ l) h = refl
-
-split-presses : (ts : List (List ℕ)) → split (suiteBytes ts) ≡ ([], ts) → (left : List ℕ) → split (pressBytes left ++ suiteBytes ts) ≡ (left, ts)
-unfolding split pressBytes
-split-presses ts e [] = e
-split-presses ts e (x ∷ left) = rw (split-presses ts e left) refl
-
-split-suite : (ts : List (List ℕ)) → split (suiteBytes ts) ≡ ([], ts)
-unfolding split testBytes
-split-suite [] = refl
-split-suite (t ∷ ts) =
-    let e : (pressBytes t ++ testBytes ts) ++ 6 ∷ [] ≡ pressBytes t ++ suiteBytes ts = append-assoc (pressBytes t) (testBytes ts) (6 ∷ []) in
-    ap (λ (l : List ℕ). split (4 ∷ l)) e
-    ∙ split-test (pressBytes t ++ suiteBytes ts) (omega (arith, length-append (pressBytes t) (suiteBytes ts), length-append (testBytes ts) (6 ∷ [])))
-    ∙ rw (split-presses ts (split-suite ts) t) refl
-
--- the commands of tests, and END, say these tests
-pub tests-same : (ts : List (List ℕ)) → testsOf (suiteBytes ts) ≡ ts
-unfolding testsOf
-tests-same ts = ap (λ (p : List ℕ × List (List ℕ)). p .1) (split-suite ts)
 
 -- ---- numbers
 
