@@ -1,15 +1,18 @@
 -- Appending text piece by piece, and the digits of a number.
-use Prim.Native.Nat.{ℕ, zero, suc, _+_, _*_, _/_, _%_, _<_, _≤_, suc-le-suc}
+use Prim.Native.Nat.{ℕ, zero, suc, _+_, _/_, _%_, _^_, _<_, _≤_}
+use native.Mathlib.Nat.{pow-suc}
 use native.Mathlib.Omega.{arith}
 use native.Mathlib.Numerals.{add-one}
+use mir.Syntax.{w8, w64}
+use mir.Val.{Fits}
 use mathlib.Core.Path.{_≡_, refl, sym, _∙_, ap}
 use mathlib.Core.Bool.{Bool, true, false, cond}
 use mathlib.Core.List.{List, [], _∷_, _++_, append-assoc, append-nil}
 use lib.Dec.{ltb}
-use lib.ListN.{length, getD, take, drop, set, take-append-drop, length-append, length-set}
-use lib.Seq.{take-suc-set, drop-set-lt, drop-drop, drop-cons, take-suc, take-all}
+use lib.ListN.{length, getD, take, drop, set, length-append, length-set}
+use lib.Seq.{take-suc-set, drop-set-lt, drop-drop, take-suc, take-all}
 use borrow.Author.Tests.{lt-ltb, le-ltb, ltb-true, ltb-false}
-use Rattle.report.specs.Text.{Appended, decimalFrom, decimal, fields, survivorLines, refusedLine}
+use Rattle.report.specs.Text.{Appended, decimalFrom, decimal, fields}
 
 pub appended-none : (l : List ℕ) (at : ℕ) → Appended l l at at []
 appended-none l at = record { long = refl; end = omega arith; front = sym (append-nil (take at l)); rest = refl }
@@ -80,24 +83,22 @@ number-one n h p = rw (decimal-one n h) p
 pub number-more : {a b c : List ℕ} {i j k : ℕ} (n : ℕ) → 10 ≤ n → Appended a b i j (decimal (n / 10)) → Appended b c j k ((48 + n % 10) ∷ []) → Appended a c i k (decimal n)
 number-more n h p q = rw (decimal-more n h) (appended-more p q)
 
--- a number of at most three digits; of at most five
-short : (k n : ℕ) → n < 10 → length (decimal n) ≤ suc k
-short k n h = rw (decimal-one n h) (omega arith)
-
-longer : (k n m : ℕ) → ((j : ℕ) → j < m → length (decimal j) ≤ k) → n < m * 10 → 1 ≤ k → length (decimal n) ≤ suc k
-longer k n m h l o = go (ltb n 10) refl
+-- a number below 10 to the k has at most k digits
+pub few-digits : (k n : ℕ) → n < 10 ^ suc k → length (decimal n) ≤ suc k
+few-digits zero n h = rw (decimal-one n h) (omega arith)
+few-digits (suc k) n h = go (ltb n 10) refl (few-digits k (n / 10) (omega (arith, pow-suc 10 (suc k))))
   where
-    go : (b : Bool) → ltb n 10 ≡ b → length (decimal n) ≤ suc k
-    go true e = rw (decimal-one n (ltb-true n 10 e)) (omega arith)
-    go false e =
-        let up = h (n / 10) (omega arith) in
-        rw (decimal-more n (ltb-false n 10 e), length-append (decimal (n / 10)) ((48 + n % 10) ∷ [])) (omega arith)
+    go : (b : Bool) → ltb n 10 ≡ b → length (decimal (n / 10)) ≤ suc k → length (decimal n) ≤ suc (suc k)
+    go true e up = rw (decimal-one n (ltb-true n 10 e)) (omega arith)
+    go false e up = rw (decimal-longer n (ltb-false n 10 e)) (omega arith)
 
-pub three-digits : (n : ℕ) → n < 1000 → length (decimal n) ≤ 3
-three-digits n h = longer 2 n 100 (λ j k. longer 1 j 10 (λ i l. short 0 i l) k (omega arith)) h (omega arith)
+-- a byte has at most three
+pub byte-digits : (n : ℕ) → Fits w8 n → length (decimal n) ≤ 3
+byte-digits n h = few-digits 2 n (omega arith)
 
-pub five-digits : (n : ℕ) → n < 100000 → length (decimal n) ≤ 5
-five-digits n h = longer 4 n 10000 (λ j k. longer 3 j 1000 (λ i l. three-digits i l) k (omega arith)) h (omega arith)
+-- a place has at most twenty
+pub place-digits : (n : ℕ) → Fits w64 n → length (decimal n) ≤ 20
+place-digits n h = few-digits 19 n (omega arith)
 
 fields-append : (xs ys : List ℕ) → fields (xs ++ ys) ≡ fields xs ++ fields ys
 unfolding fields
@@ -111,13 +112,6 @@ fields-take xs n h =
     rw (add-one, take-suc xs n 0 h, fields-append (take n xs) (getD xs n 0 ∷ []))
     (ap (λ (l : List ℕ). fields (take n xs) ++ 32 ∷ l) (append-nil (decimal (getD xs n 0))))
 
-pub fields-room : (xs : List ℕ) (n : ℕ) → n < length xs → length (fields (take n xs)) + suc (length (decimal (getD xs n 0))) ≤ length (fields xs)
-fields-room xs n h =
-    let whole : fields xs ≡ fields (take (n + 1) xs) ++ fields (drop (n + 1) xs) =
-    ap fields (sym (take-append-drop (n + 1) xs)) ∙ fields-append (take (n + 1) xs) (drop (n + 1) xs) in
-    rw (whole, length-append (fields (take (n + 1) xs)) (fields (drop (n + 1) xs)), fields-take xs n h, length-append (fields (take n xs)) (32 ∷ decimal (getD xs n 0)))
-    (omega arith)
-
 pub field-more : {a b c d : List ℕ} {i j k l : ℕ} (xs : List ℕ) (n : ℕ) → Appended a b i j (fields (take n xs)) → Appended b c j k (32 ∷ []) → Appended c d k l (decimal (getD xs n 0)) → n < length xs → Appended a d i l (fields (take (n + 1) xs))
 field-more xs n p q r h = rw (fields-take xs n h) (appended-more p (appended-more q r))
 
@@ -127,27 +121,3 @@ fields-none l at = appended-none l at
 
 pub fields-all : {a b : List ℕ} {i j : ℕ} (xs : List ℕ) (n : ℕ) → Appended a b i j (fields (take n xs)) → length xs ≤ n → Appended a b i j (fields xs)
 fields-all xs n p h = rw (take-all n xs h) at p
-
--- how long the lines are
-pub refused-length : (number place : ℕ) → length (refusedLine number place) ≡ length (decimal number) + length (decimal place) + 13
-unfolding refusedLine
-refused-length number place =
-    simp length-append (omega arith)
-
-pub survivor-length : (b xs : List ℕ) → length (survivorLines b xs) ≡ length (fields b) + length (fields xs) + 21
-unfolding survivorLines
-survivor-length b xs = simp length-append (omega arith)
-
--- a head, a first part, a middle, a second part, a line feed
-pub lines : {a b c d e f : List ℕ} {i j k l m : ℕ} {t u v w x : List ℕ} → Appended a b 0 i t → Appended b c i j u → Appended c d j k v → Appended d e k l w → Appended e f l m x
-    → Appended a f 0 m (t ++ (u ++ (v ++ (w ++ x))))
-lines p q r s t = appended-more p (appended-more q (appended-more r (appended-more s t)))
-
--- numbers of at most three digits take at most four bytes each, with their blank
-pub fields-short : (xs : List ℕ) → ((i : ℕ) → i < length xs → getD xs i 0 < 1000) → length (fields xs) ≤ 4 * length xs
-unfolding fields
-fields-short [] h = omega arith
-fields-short (x ∷ xs) h =
-    let one = three-digits x (h 0 (omega arith)) in
-    let more = fields-short xs (λ i k. h (suc i) (suc-le-suc k)) in
-    rw (length-append (decimal x) (fields xs)) (omega arith)

@@ -5,6 +5,8 @@ use mathlib.Core.Bool.{cond}
 use mathlib.Core.List.{List, [], _∷_, _++_}
 use lib.Dec.{ltb}
 use lib.ListN.{length, take, drop}
+use Rattle.sheet.specs.declared.Reading.{Reading as ReadAnswer}
+use Rattle.sheet.specs.declared.Reading.the-variants as read
 use Rattle.sheet.specs.Reading.{Result, accepted, refused}
 use Rattle.model.specs.Suite.{Judgement, complete, survivor}
 
@@ -50,8 +52,12 @@ refusedText = 114 ∷ 101 ∷ 102 ∷ 117 ∷ 115 ∷ 101 ∷ 100 ∷ 32 ∷ []
 abbrev pub atText : List ℕ
 atText = 32 ∷ 97 ∷ 116 ∷ 32 ∷ []
 
+-- a word, numbers and a line feed
+unfoldable pub line : List ℕ → List ℕ → List ℕ
+line name numbers = name ++ (fields numbers ++ newline)
+
 unfoldable pub survivorLines : List ℕ → List ℕ → List ℕ
-survivorLines b xs = survivorText ++ (boardText ++ (fields b ++ (newline ++ (pressText ++ (fields xs ++ newline)))))
+survivorLines b xs = survivorText ++ (line boardText b ++ line pressText xs)
 
 unfoldable pub refusedLine : ℕ → ℕ → List ℕ
 refusedLine number place = refusedText ++ (decimal number ++ (atText ++ (decimal place ++ newline)))
@@ -61,6 +67,15 @@ unfoldable pub textOf : Result Judgement → List ℕ
 textOf (accepted complete) = completeText
 textOf (accepted (survivor b xs)) = survivorLines b xs
 textOf (refused number place) = refusedLine number place
+
+-- a buffer of fewer than 2,048 bytes gets nothing
+unfoldable pub textIn : ℕ → Result Judgement → List ℕ
+textIn room result = cond (ltb room 2048) [] (textOf result)
+
+-- how many choices a mutant has, by what Read answers; 0 on a refusal
+abbrev pub suspectsIn : ReadAnswer → ℕ
+suspectsIn (read.Accepted summary) = summary .suspects
+suspectsIn (read.Refused number place) = 0
 
 -- new is old with the text from at to r; all before and after is as it was
 pub record Appended (old new : List ℕ) (at r : ℕ) (text : List ℕ) : Type 0 where

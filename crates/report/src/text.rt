@@ -1,9 +1,8 @@
 // Text in a buffer, a piece at a time: each function writes at a place and answers the place after it.
-ghost use mathlib.Core.Path.{_≡_};
-ghost use mathlib.Core.List.{[], _∷_, _++_};
-ghost use Prim.Native.Nat.{_+_, _<_, _≤_};
+ghost use mathlib.Core.List.{[], _∷_};
+ghost use Prim.Native.Nat.{_+_, _*_, _<_, _≤_};
 ghost use lib.ListN.{length};
-ghost use Rattle.report.specs.Text.{Appended, decimal, fields, survivorLines, refusedLine};
+ghost use Rattle.report.specs.Text.{Appended, decimal, fields, line, survivorLines, refusedLine};
 
 // One byte.
 pub fn put(out: &mut [u8], at: usize, b: u8) -> usize
@@ -41,10 +40,11 @@ pub fn put_number(out: &mut [u8], at: usize, n: usize) -> usize
     put(out, end, digit)
 }
 
-// Numbers, each after a blank.
+// Numbers, each after a blank: a byte takes at most four.
 pub fn put_fields(out: &mut [u8], at: usize, numbers: &[u8]) -> usize
-    requires { ⌜ at + length (fields (now numbers)) ≤ length (now out) ⌝ }
-    ensures { λ r. ⌜ Appended (now (out .entry)) (now (out .exit)) at r (fields (now (numbers .entry))) ⌝ }
+    requires { ⌜ at + 4 * length (now numbers) ≤ length (now out) ⌝ }
+    ensures text { λ r. ⌜ Appended (now (out .entry)) (now (out .exit)) at r (fields (now (numbers .entry))) ⌝ }
+    ensures short { λ r. ⌜ r ≤ at + 4 * length (now (numbers .entry)) ⌝ }
 {
     let mut i: usize = 0;
     let mut end = at;
@@ -56,21 +56,30 @@ pub fn put_fields(out: &mut [u8], at: usize, numbers: &[u8]) -> usize
     end
 }
 
-// The three lines of a survivor.
-pub fn put_survivor(out: &mut [u8], mutant: &[u8], sequence: &[u8]) -> usize
-    requires { ⌜ length (survivorLines (now mutant) (now sequence)) ≤ length (now out) ⌝ }
-    ensures { λ r. ⌜ Appended (now (out .entry)) (now (out .exit)) 0 r (survivorLines (now (mutant .entry)) (now (sequence .entry))) ⌝ }
+// A line: a word and numbers.
+pub fn put_line(out: &mut [u8], at: usize, name: &[u8], numbers: &[u8]) -> usize
+    requires { ⌜ at + length (now name) + 4 * length (now numbers) < length (now out) ⌝ }
+    ensures text { λ r. ⌜ Appended (now (out .entry)) (now (out .exit)) at r (line (now (name .entry)) (now (numbers .entry))) ⌝ }
+    ensures short { λ r. ⌜ r ≤ at + length (now (name .entry)) + 4 * length (now (numbers .entry)) + 1 ⌝ }
 {
-    let head = put_all(out, 0, b"survivor\nboard");
-    let board = put_fields(out, head, mutant);
-    let press = put_all(out, board, b"\npress");
-    let end = put_fields(out, press, sequence);
+    let middle = put_all(out, at, name);
+    let end = put_fields(out, middle, numbers);
     put(out, end, 10)
 }
 
-// The line of a refusal.
+// The three lines of a survivor.
+pub fn put_survivor(out: &mut [u8], mutant: &[u8], sequence: &[u8]) -> usize
+    requires { ⌜ 21 + 4 * length (now mutant) + 4 * length (now sequence) ≤ length (now out) ⌝ }
+    ensures { λ r. ⌜ Appended (now (out .entry)) (now (out .exit)) 0 r (survivorLines (now (mutant .entry)) (now (sequence .entry))) ⌝ }
+{
+    let first = put_all(out, 0, b"survivor\n");
+    let second = put_line(out, first, b"board", mutant);
+    put_line(out, second, b"press", sequence)
+}
+
+// The line of a refusal: at most 3 digits for the number and 20 for the place.
 pub fn put_refused(out: &mut [u8], number: u8, place: usize) -> usize
-    requires { ⌜ length (refusedLine number place) ≤ length (now out) ⌝ }
+    requires { ⌜ 36 ≤ length (now out) ⌝ }
     ensures { λ r. ⌜ Appended (now (out .entry)) (now (out .exit)) 0 r (refusedLine number place) ⌝ }
 {
     let head = put_all(out, 0, b"refused ");

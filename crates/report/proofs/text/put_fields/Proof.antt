@@ -1,23 +1,23 @@
 -- `put_fields` writes a blank and a number for each byte: after i of them, the first i are written.
-use Prim.Native.Nat.{_≤_, _-_}
+use Prim.Native.Nat.{_+_, _*_, _≤_, _-_}
 use native.Mathlib.Omega.{arith}
 use lib.ListN.{length, take}
-use Rattle.report.proofs.TextLaws.{fields-room, field-more, fields-none, fields-all}
+use Rattle.report.proofs.TextLaws.{byte-digits, field-more, fields-none, fields-all}
 use Rattle.report.specs.Text.{Appended, fields}
 use Rattle.report.proofs.text.put_fields.Statement.{statement}
 use Rattle.report.proofs.text.put_fields.Tie as tie
 
 abbrev Inv-loop : tie.InvT-loop
-Inv-loop out₀ at numbers i₀ end₀ out i end = (i ≤ length numbers) × Appended out₀ out at end (fields (take i numbers))
+Inv-loop out₀ at numbers i₀ end₀ out i end = (i ≤ length numbers) × (end ≤ at + 4 * i) × Appended out₀ out at end (fields (take i numbers))
 
 abbrev μ-loop : tie.MeasureT-loop
 μ-loop out₀ at numbers i₀ end₀ out i end = length numbers - i
 
 loop-holds : tie.Need-loop-holds Inv-loop μ-loop
-loop-holds c = (omega arith, fields-none _ _)
+loop-holds c = (omega arith, omega arith, fields-none _ _)
 
 put-requires : tie.Need-put-requires Inv-loop μ-loop
-put-requires c κs = omega (arith, c .before .before .loop .inv .1 .end, c .before .before .loop .inv .1 .long, fields-room (c .before .before .before .before .before .args .numbers .now) (c .before .before .loop .i) (omega arith))
+put-requires c κs = omega (arith, c .before .before .loop .inv .2 .long)
 
 shared-slice-read-put-number : tie.Need-shared-slice-read-put-number Inv-loop μ-loop
 shared-slice-read-put-number c = omega arith
@@ -27,15 +27,7 @@ cast-put-number c = omega (arith, c .shared-slice-known2 .given (c .before .befo
 
 put-number-requires : tie.Need-put-number-requires Inv-loop μ-loop
 put-number-requires c κs =
-    omega (
-      arith,
-      c .before .before .before .before .put .ensures .end,
-      c .before .before .before .before .put .ensures .long,
-      c .before .before .before .before .before .before .before .loop .inv .1 .end,
-      c .before .before .before .before .before .before .before .loop .inv .1 .long,
-      c .before .before .before .before .before .before .before .before .before .before .pre,
-      fields-room (c .before .before .before .before .before .before .before .before .before .before .args .numbers .now) (c .before .before .before .before .before .before .before .loop .i) (omega arith),
-    )
+    omega (arith, c .before .before .before .before .before .before .before .loop .inv .2 .long, c .before .before .before .before .put .ensures .end, c .before .before .before .before .put .ensures .long, byte-digits _ (c .shared-slice-known2 .given (c .before .before .before .before .before .before .before .loop .i)))
 
 add-i : tie.Need-add-i Inv-loop μ-loop
 add-i c = omega arith
@@ -46,14 +38,15 @@ loop-less c = omega arith
 loop-again : tie.Need-loop-again Inv-loop μ-loop
 loop-again c = (
   omega arith,
-  field-more (c .before .before .before .before .before .before .before .before .before .before .before .before .before .args .numbers .now) (c .before .before .before .before .before .before .before .before .before .before .loop .i) (c .before .before .before .before .before .before .before .before .before .before .loop .inv .1) (c .before .before .before .before .before .before .before .put .ensures) (c .before .before .put-number .ensures) (omega arith),
+  omega (arith, c .before .before .before .before .before .before .before .put .ensures .end, c .before .before .put-number .ensures .end, byte-digits _ (c .before .before .before .shared-slice-known2 .given (c .before .before .before .before .before .before .before .before .before .before .loop .i))),
+  field-more (c .before .before .before .before .before .before .before .before .before .before .before .before .before .args .numbers .now) (c .before .before .before .before .before .before .before .before .before .before .loop .i) (c .before .before .before .before .before .before .before .before .before .before .loop .inv .2) (c .before .before .before .before .before .before .before .put .ensures) (c .before .before .put-number .ensures) (omega arith),
 )
 
 same-length : tie.Need-same-length Inv-loop μ-loop
-same-length c = c .before .loop .inv .1 .long
+same-length c = c .before .loop .inv .2 .long
 
 returns : tie.Need-returns Inv-loop μ-loop
-returns c = fields-all (c .before .before .before .before .args .numbers .now) (c .before .loop .i) (c .before .loop .inv .1) (omega arith)
+returns c = (fields-all (c .before .before .before .before .args .numbers .now) (c .before .loop .i) (c .before .loop .inv .2) (omega arith), omega arith)
 
 pub put-fields-spec : {M : Type 1} → statement M
 put-fields-spec =
