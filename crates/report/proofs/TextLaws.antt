@@ -9,7 +9,7 @@ use mathlib.Core.Path.{_≡_, refl, sym, _∙_, ap}
 use mathlib.Core.Bool.{Bool, true, false, cond}
 use mathlib.Core.List.{List, [], _∷_, _++_, append-assoc, append-nil}
 use lib.Dec.{ltb}
-use lib.ListN.{length, getD, take, drop, set, length-append, length-set}
+use lib.ListN.{length, getD, take, drop, set, length-append, length-set, length-take}
 use lib.Seq.{take-suc-set, drop-set-lt, drop-drop, take-suc, take-all}
 use borrow.Author.Tests.{lt-ltb, le-ltb, ltb-true, ltb-false}
 use Rattle.report.specs.Text.{Appended, decimalFrom, decimal, fields}
@@ -121,3 +121,9 @@ fields-none l at = appended-none l at
 
 pub fields-all : {a b : List ℕ} {i j : ℕ} (xs : List ℕ) (n : ℕ) → Appended a b i j (fields (take n xs)) → length xs ≤ n → Appended a b i j (fields xs)
 fields-all xs n p h = rw (take-all n xs h) at p
+
+-- text at a buffer's front ends within it
+pub appended-front : {old new text : List ℕ} {r : ℕ} → Appended old new 0 r text → (r ≤ length new) × (r ≡ length (take r new))
+appended-front {old} {new} {text} {r} a =
+    let long : length (take r new) ≡ length text = ap length (a .front) in
+    (omega (arith, length-take r new, a .end), omega (arith, a .end))
