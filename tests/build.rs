@@ -2,6 +2,7 @@
 //!
 //! The environment variable RANTHELO_LIB names the folder of `libcapi.a`: an
 //! absolute path, or one relative to this package. Default: ../target/staticlib.
+//! The tests that build programs of their own find it as RANTHELO_FOLDER.
 
 use std::env;
 use std::path::Path;
@@ -19,6 +20,7 @@ fn main() {
         "cargo:rerun-if-changed={}",
         folder.join("libcapi.a").display()
     );
+    println!("cargo:rustc-env=RANTHELO_FOLDER={}", folder.display());
     println!("cargo:rustc-link-search=native={}", folder.display());
     println!("cargo:rustc-link-lib=static=capi");
 }
