@@ -20,6 +20,7 @@ use Rattle.sheet.specs.Part.{spanOf}
 use Rattle.sheet.specs.Tables.{tablesOf}
 use Rattle.sheet.specs.WellFormed.{WellFormed}
 use Rattle.sheet.specs.laws.TablesLaw.{table-at}
+use Rattle.sheet.specs.laws.Parts.{before, presses, after, layout, presses-length}
 use Rattle.model.specs.Machine.{Pair}
 use Rattle.model.specs.Mutant.{rule, specified, outputs, against}
 use Rattle.model.specs.Suite.{Place, laterTest, wrongIn, firstFailedIn, firstFailedOf}
@@ -28,60 +29,27 @@ use Rattle.model.specs.laws.SuiteLaw.{Specified, test-specified}
 use Rattle.mutation.specs.Tests.{wrongFrom, failedFrom, Test, Tests}
 use Rattle.mutation.specs.Fits.{Read}
 
-press-length : (xs : List ℕ) → length (pressBytes xs) ≡ 2 * length xs
-unfolding pressBytes
-press-length [] = refl
-press-length (x ∷ xs) = omega (arith, press-length xs)
-
 press-at : (xs rest : List ℕ) (i : ℕ) → i < length xs → getD (pressBytes xs ++ rest) (2 * i + 1) 0 ≡ getD xs i 0
 unfolding pressBytes
 press-at [] rest i l = absurd (omega arith)
 press-at (x ∷ xs) rest zero l = refl
 press-at (x ∷ xs) rest (suc i) l = let e : 2 * suc i + 1 ≡ suc (suc (2 * i + 1)) = omega arith in rw e (press-at xs rest i (le-of-suc-le-suc l))
 
-tests-append : (l m : List (List ℕ)) → testBytes (l ++ m) ≡ testBytes l ++ testBytes m
-unfolding testBytes
-tests-append [] m = refl
-tests-append (xs ∷ l) m = ap (λ (t : List ℕ). 4 ∷ t) (ap (λ (t : List ℕ). pressBytes xs ++ t) (tests-append l m) ∙ sym (append-assoc (pressBytes xs) (testBytes l) (testBytes m)))
-
 module _ (sh : Sheet) (t : ℕ) (l : t < length (sh .tests)) where
-  front : List ℕ
-  front = machineBytes sh ++ testBytes (take t (sh .tests))
-
-  presses : List ℕ
-  presses = pressBytes (getD (sh .tests) t [])
-
-  rest : List ℕ
-  rest = testBytes (drop (suc t) (sh .tests)) ++ 6 ∷ []
-
-  -- what stands before a test, its TEST, its PRESS commands, and the rest
-  layout : encode sh ≡ front ++ 4 ∷ (presses ++ rest)
-  unfolding front presses rest encode body
-  layout =
-      ap (λ (u : List (List ℕ)). (machineBytes sh ++ testBytes u) ++ 6 ∷ []) (split-at (sh .tests) t [] l)
-      ∙ ap (λ (u : List ℕ). (machineBytes sh ++ u) ++ 6 ∷ []) (tests-append (take t (sh .tests)) (getD (sh .tests) t [] ∷ drop (suc t) (sh .tests)) ∙ opened)
-      ∙ simp append-assoc
-    where
-      opened : testBytes (take t (sh .tests)) ++ testBytes (getD (sh .tests) t [] ∷ drop (suc t) (sh .tests))
-          ≡ testBytes (take t (sh .tests)) ++ 4 ∷ (pressBytes (getD (sh .tests) t []) ++ testBytes (drop (suc t) (sh .tests)))
-      opened = unfold testBytes in refl
-
-  press-byte : (i : ℕ) → i < length (getD (sh .tests) t []) → getD (encode sh) (suc (length front) + 2 * i + 1) 0 ≡ getD (getD (sh .tests) t []) i 0
-  unfolding presses
+  press-byte : (i : ℕ) → i < length (getD (sh .tests) t []) → getD (encode sh) (suc (length (before sh t)) + 2 * i + 1) 0 ≡ getD (getD (sh .tests) t []) i 0
   press-byte i li =
-      let e : suc (length front) + 2 * i + 1 ≡ length front + suc (2 * i + 1) = omega arith in
-      rw (layout, e) (getD-append-add front (4 ∷ (presses ++ rest)) (suc (2 * i + 1)) 0 ∙ press-at (getD (sh .tests) t []) rest i li)
+      let e : suc (length (before sh t)) + 2 * i + 1 ≡ length (before sh t) + suc (2 * i + 1) = omega arith in
+      rw (layout sh t l, e) (getD-append-add (before sh t) (4 ∷ (presses sh t ++ after sh t)) (suc (2 * i + 1)) 0 ∙ press-at (getD (sh .tests) t []) (after sh t) i li)
 
-  press-room : suc (length front) + 2 * length (getD (sh .tests) t []) ≤ length (encode sh)
-  unfolding presses
+  press-room : suc (length (before sh t)) + 2 * length (getD (sh .tests) t []) ≤ length (encode sh)
   press-room =
-      let e = ap length layout ∙ length-append front (4 ∷ (presses ++ rest)) in
-      let f = length-append presses rest in
-      omega (arith, press-length (getD (sh .tests) t []))
+      let e = ap length (layout sh t l) ∙ length-append (before sh t) (4 ∷ (presses sh t ++ after sh t)) in
+      let f = length-append (presses sh t) (after sh t) in
+      omega (arith, presses-length (getD (sh .tests) t []))
 
   module _ (low : t < 256) where
-    start-at : getD (tablesOf sh .starts) t 0 ≡ suc (length front)
-    unfolding tablesOf spanOf front
+    start-at : getD (tablesOf sh .starts) t 0 ≡ suc (length (before sh t))
+    unfolding tablesOf spanOf
     start-at = table-at (λ i. cond (ltb i (length (sh .tests))) (spanOf sh i .start) 0) t low ∙ rw (lt-ltb t (length (sh .tests)) l) refl
 
     length-at : getD (tablesOf sh .lengths) t 0 ≡ length (getD (sh .tests) t [])

@@ -20,6 +20,7 @@ use Rattle.sheet.specs.declared.fetch.Fetched.{Fetched}
 use Rattle.sheet.specs.Sheet.{Sheet}
 use Rattle.sheet.specs.Reading.{width}
 use Rattle.sheet.specs.Encode.{sizeBytes, rowBytes, pressBytes, testBytes, machineBytes, body, encode}
+use Rattle.sheet.specs.laws.Parts.{presses-length}
 use Rattle.sheet.specs.Fetch.{itemAt, fetchBy, fetchAt, itemIn}
 use Rattle.sheet.specs.Places.{Calm, PressesFrom, TestAt, spanFrom}
 use Rattle.sheet.proofs.FetchLaws.{WholeAt, fetched-whole}
@@ -112,14 +113,9 @@ split-test : (l : List (List ℕ)) (j : ℕ) → j < length l
 unfolding testBytes
 split-test l j h = rw (drop-cons l j [] h, add-one j) (ap (λ (t : List ℕ). 4 ∷ t) (append-assoc (pressBytes (getD l j [])) (testBytes (drop (suc j) l)) (6 ∷ [])))
 
-pub press-length : (xs : List ℕ) → length (pressBytes xs) ≡ 2 * length xs
-unfolding pressBytes
-press-length [] = refl
-press-length (x ∷ xs) = let w = press-length xs in omega arith
-
 tests-more : (l : List (List ℕ)) (xs : List ℕ) → length (testBytes (l ++ xs ∷ [])) ≡ length (testBytes l) + (1 + 2 * length xs)
 unfolding testBytes
-tests-more [] xs = let w = press-length xs in simp length-append (omega arith)
+tests-more [] xs = let w = presses-length xs in simp length-append (omega arith)
 tests-more (ys ∷ l) xs = let w = tests-more l xs in simp length-append (omega arith)
 
 pub tests-suc : (l : List (List ℕ)) (j : ℕ) → j < length l → length (testBytes (take (j + 1) l)) ≡ length (testBytes (take j l)) + (1 + 2 * length (getD l j []))
@@ -150,7 +146,7 @@ module _ (s : List ℕ) (place : ℕ) (l : List (List ℕ)) (j at : ℕ) (h : j 
       record {
         is = omega (arith, a, p .is, tests-suc l j h);
         bytes = rw a (sym (drop-drop (1 + 2 * length (getD l j [])) at s) ∙ ap (drop (1 + 2 * length (getD l j []))) here
-            ∙ drop-at (4 ∷ pressBytes (getD l j [])) (testBytes (drop (j + 1) l) ++ 6 ∷ []) (1 + 2 * length (getD l j [])) (omega (arith, press-length (getD l j []))));
+            ∙ drop-at (4 ∷ pressBytes (getD l j [])) (testBytes (drop (j + 1) l) ++ 6 ∷ []) (1 + 2 * length (getD l j [])) (omega (arith, presses-length (getD l j []))));
       }
 
 -- where the tests start

@@ -3,6 +3,7 @@ pub mod Basics
 pub mod Steps
 pub mod Ordered
 pub mod Encoded
+pub mod Parts
 pub mod Rows
 pub mod Reached
 pub mod Right
