@@ -18,6 +18,7 @@ use Rattle.sheet.specs.Lists.{maybe, any, all, count}
 use Rattle.sheet.specs.Sheet.{Sheet, rowsAt, ruleAt, leads, within, allReached, unruledChoices, choicesAt, isOpen, openBelow, openPairs}
 use Rattle.sheet.specs.Reading.{firstBroken, finishing}
 use Rattle.sheet.specs.Held.{Within16, Digits, placeOf, ruleTarget, present, Leads, Marks, Linked, markOf, endOf}
+use Rattle.sheet.specs.laws.Reached.{all-early}
 use Rattle.sheet.proofs.Laws.{If, rule-digits}
 
 pub few-pairs : (z : Size) → Within16 z → z .outputs * z .states ≤ 256
@@ -190,10 +191,13 @@ pub open-all : (sh : Sheet) (n : ℕ) → n ≡ openBelow sh (sh .size .states) 
 unfolding openPairs
 open-all sh n e = e
 
-pub reached-is : (sh : Sheet) (z : Size) (seen : List ℕ) (r : Bool) → z ≡ sh .size → Marks seen (within sh (sh .size .states))
-    → ((g : ℕ → Bool) → Marks seen g → r ≡ all g (z .states)) → r ≡ allReached sh
+-- all states are found after j rounds, and after the last
+pub reached-early : (sh : Sheet) (z : Size) (j : ℕ) → z ≡ sh .size → j ≤ z .states → all (within sh j) (z .states) ≡ true → true ≡ allReached sh
+reached-early sh z j e = rw e (λ k a. sym (all-early sh j k a))
+
+pub reached-late : (sh : Sheet) (z : Size) (j : ℕ) (r : Bool) → z ≡ sh .size → j ≡ z .states → r ≡ all (within sh j) (z .states) → r ≡ allReached sh
 unfolding allReached
-reached-is sh z seen r e m h = h (within sh (sh .size .states)) m ∙ ap (λ (z : Size). all (within sh (sh .size .states)) (z .states)) e
+reached-late sh z j r e k h = rw (k, e) at h
 
 module _ (sh : Sheet) (s : List ℕ) (at : ℕ) where
   pub end-more : at + 1 < length s → Refused 10 (at + 1) ≡ endOf (finishing sh s at)

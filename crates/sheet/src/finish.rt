@@ -5,7 +5,7 @@ ghost use mathlib.Core.List.{List};
 ghost use Prim.Native.Nat.{ℕ, _<_, _≤_};
 ghost use lib.ListN.{length};
 ghost use Rattle.sheet.specs.Lists.{any, all, count};
-ghost use Rattle.sheet.specs.Sheet.{Sheet, leads, within, isOpen, openPairs};
+ghost use Rattle.sheet.specs.Sheet.{Sheet, leads, allReached, isOpen, openPairs};
 ghost use Rattle.sheet.specs.Reading.{finishing};
 ghost use Rattle.sheet.specs.Held.{Within16, Leads, Marks, Linked, endOf};
 use crate::Row;
@@ -103,24 +103,6 @@ fn round(size: Size, target: &[u8; 256], seen: [u8; 16]) -> [u8; 16]
     next
 }
 
-// The states that are reached from 0: as many rounds as there are states.
-fn reached(size: Size, target: &[u8; 256]) -> [u8; 16]
-    requires { ⌜ Within16 size ⌝ }
-    ensures { λ r. ⌜ ((sh : Sheet) → size ≡ sh .size → Leads (now (target .entry)) (sh .rules)
-        → Marks r (within sh (sh .size .states))) ⌝ }
-{
-    let n = size.states as usize;
-    let mut seen = [0u8; 16];
-    seen[0] = 1;
-    let mut j: usize = 0;
-    while j < n {
-        let more = round(size, target, seen);
-        seen = more;
-        j += 1;
-    }
-    seen
-}
-
 // Are the first n marked?
 fn all_marked(n: u8, seen: [u8; 16]) -> bool
     requires { ⌜ n ≤ 16 ⌝ }
@@ -138,6 +120,26 @@ fn all_marked(n: u8, seen: [u8; 16]) -> bool
     true
 }
 
+// Is every state reached from 0? One round for each state at most: they end once all are marked.
+fn all_reached(size: Size, target: &[u8; 256]) -> bool
+    requires { ⌜ Within16 size ⌝ }
+    ensures { λ r. ⌜ ((sh : Sheet) → size ≡ sh .size → Leads (now (target .entry)) (sh .rules) → r ≡ allReached sh) ⌝ }
+{
+    let n = size.states;
+    let mut seen = [0u8; 16];
+    seen[0] = 1;
+    let mut j: u8 = 0;
+    while j < n {
+        if all_marked(n, seen) {
+            return true;
+        }
+        let more = round(size, target, seen);
+        seen = more;
+        j += 1;
+    }
+    all_marked(n, seen)
+}
+
 // 10 a byte follows, 11 a state is not reached, 12 over 32 open pairs.
 pub(crate) fn finish(
     sheet: &[u8],
@@ -153,8 +155,7 @@ pub(crate) fn finish(
     if at + 1 < sheet.len() {
         return End::Refused(10, at + 1);
     }
-    let seen = reached(size, target);
-    if all_marked(size.states, seen) {
+    if all_reached(size, target) {
         let pairs = open_pairs(size, target, faulty);
         if pairs <= 32 {
             End::Accepted(pairs)

@@ -23,6 +23,15 @@ below {P} n h e i k = one (eqb i n) refl
     one true q = subst P (sym (eqb-true i n q)) e
     one false q = let ne = eqb-false i n q in h i (omega arith)
 
+-- what each step keeps holds from there on
+onward : {P : ℕ → Type 0} → ((j : ℕ) → P j → P (suc j)) → (m i : ℕ) → i ≤ m → P i → P m
+onward {P} step zero i k h = subst P (omega arith) h
+onward {P} step (suc m) i k h = one (eqb i (suc m)) refl (onward step m i)
+  where
+    one : (b : Bool) → eqb i (suc m) ≡ b → (i ≤ m → P i → P m) → P (suc m)
+    one true q ih = subst P (eqb-true i (suc m) q) h
+    one false q ih = let ne = eqb-false i (suc m) q in step m (ih (omega arith) h)
+
 -- one number below n passes
 pub any-some : (p : ℕ → Bool) (n : ℕ) → any p n ≡ true → (i : ℕ) × (i < n) × (p i ≡ true)
 unfolding any
@@ -116,6 +125,13 @@ module _ (sh : Sheet) where
   within-up : (j t : ℕ) → within sh j t ≡ true → within sh (suc j) t ≡ true
   within-up j t e = rw within-suc (or-left (within sh j t) (round (within sh j) t) e)
 
+  -- the rounds may end once every state is found
+  pub all-early : (j : ℕ) → j ≤ sh .size .states → all (within sh j) (sh .size .states) ≡ true → allReached sh ≡ true
+  unfolding allReached
+  all-early j k e =
+      each-all _ (sh .size .states)
+      (λ t i. onward {P = λ m. within sh m t ≡ true} (λ m. within-up m t) (sh .size .states) j k (all-each _ (sh .size .states) e t i))
+
   within-start : (j : ℕ) → within sh j 0 ≡ true
   unfolding within
   within-start zero = refl
@@ -134,14 +150,6 @@ module _ (sh : Sheet) where
     where
       again : (t : ℕ) → round (within sh (suc j)) t ≡ round (within sh j) t
       again t = any-same _ _ (sh .size .states) (λ s k. rw (h .same-states s k))
-
-  stable-at : (m i : ℕ) → i ≤ m → Stable i → Stable m
-  stable-at zero i k h = subst Stable (omega arith) h
-  stable-at (suc m) i k h = one (eqb i (suc m)) refl (stable-at m i)
-    where
-      one : (b : Bool) → eqb i (suc m) ≡ b → (i ≤ m → Stable i → Stable m) → Stable (suc m)
-      one true q ih = subst Stable (eqb-true i (suc m) q) h
-      one false q ih = let ne = eqb-false i (suc m) q in stable-suc m (ih (omega arith) h)
 
   data Found (j : ℕ) : Type 0 where
     stable : (i : ℕ) → i ≤ j → Stable i → Found j
@@ -166,7 +174,7 @@ module _ (sh : Sheet) where
     settled = one (found (sh .size .states))
       where
         one : Found (sh .size .states) → Stable (sh .size .states)
-        one (stable i k e) = stable-at (sh .size .states) i k e
+        one (stable i k e) = onward stable-suc (sh .size .states) i k e
         one (many k) = let most = count-most (within sh (sh .size .states)) (sh .size .states) in absurd (omega arith)
 
     closed : (s x t : ℕ) → s < sh .size .states → x < sh .size .inputs → t < sh .size .states → leads (sh .rules) s x t ≡ true

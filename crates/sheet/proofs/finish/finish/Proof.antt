@@ -10,39 +10,43 @@ use Rattle.sheet.proofs.finish.finish.Tie as tie
 add-if1 : tie.Need-add-if1
 add-if1 c = search needs
 
-add-t11 : tie.Need-add-t11
-add-t11 c = search needs
+add-t10 : tie.Need-add-t10
+add-t10 c = search needs
 
 returns : tie.Need-returns
 returns c = λ sh k. let a = c .before .before .args in laws.end-more sh (now (a .sheet)) (a .at) (c .if1 .taken)
 
-reached-requires : tie.Need-reached-requires
-reached-requires c κs = search needs
-
-all-marked-requires : tie.Need-all-marked-requires
-all-marked-requires c κs = search needs
+all-reached-requires : tie.Need-all-reached-requires
+all-reached-requires c κs = search needs
 
 open-pairs-requires : tie.Need-open-pairs-requires
 open-pairs-requires c κs = search needs
 
 returns-2 : tie.Need-returns-2
-returns-2 c = λ sh k. let a = c .before .before .before .before .before .before .before .args in ap Accepted (c .before .open-pairs .ensures sh k) ∙ laws.end-good sh (now (a .sheet)) (a .at) (c .before .before .before .before .before .if1 .left) (sym (laws.reached-is sh _ _ _ (k .size) (c .before .before .before .before .reached .ensures sh (k .size) (k .leads)) (c .before .before .before .all-marked .ensures)) ∙ c .before .before .if2 .taken) (omega (arith, c .before .open-pairs .ensures sh k))
+returns-2 c = λ sh k.
+    let a = c .before .before .before .before .before .before .args in
+    let n = c .before .open-pairs .ensures sh k in
+    ap Accepted n ∙ laws.end-good sh (now (a .sheet)) (a .at) (c .before .before .before .before .if1 .left) (sym (c .before .before .before .all-reached .ensures sh (k .size) (k .leads)) ∙ c .before .before .if2 .taken) (omega arith)
 
 returns-3 : tie.Need-returns-3
-returns-3 c = λ sh k. let a = c .before .before .before .before .before .before .before .args in laws.end-many sh (now (a .sheet)) (a .at) (c .before .before .before .before .before .if1 .left) (sym (laws.reached-is sh _ _ _ (k .size) (c .before .before .before .before .reached .ensures sh (k .size) (k .leads)) (c .before .before .before .all-marked .ensures)) ∙ c .before .before .if2 .taken) (omega (arith, c .before .open-pairs .ensures sh k))
+returns-3 c = λ sh k.
+    let a = c .before .before .before .before .before .before .args in
+    let n = c .before .open-pairs .ensures sh k in
+    laws.end-many sh (now (a .sheet)) (a .at) (c .before .before .before .before .if1 .left) (sym (c .before .before .before .all-reached .ensures sh (k .size) (k .leads)) ∙ c .before .before .if2 .taken) (omega arith)
 
 returns-4 : tie.Need-returns-4
-returns-4 c = λ sh k. let a = c .before .before .before .before .before .args in laws.end-lost sh (now (a .sheet)) (a .at) (c .before .before .before .if1 .left) (sym (laws.reached-is sh _ _ _ (k .size) (c .before .before .reached .ensures sh (k .size) (k .leads)) (c .before .all-marked .ensures)) ∙ c .if2 .left)
+returns-4 c = λ sh k.
+    let a = c .before .before .before .before .args in
+    laws.end-lost sh (now (a .sheet)) (a .at) (c .before .before .if1 .left) (sym (c .before .all-reached .ensures sh (k .size) (k .leads)) ∙ c .if2 .left)
 
 pub finish-spec : {M : Type 1} → statement M
 finish-spec =
     tie.close
     (tie.spec
     add-if1
-    add-t11
+    add-t10
     returns
-    reached-requires
-    all-marked-requires
+    all-reached-requires
     open-pairs-requires
     returns-2
     returns-3

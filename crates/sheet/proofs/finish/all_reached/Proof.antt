@@ -1,0 +1,62 @@
+use Rattle.sheet.specs.Sheet.{Sheet, within}
+use Rattle.sheet.specs.Held.{Leads, Marks}
+use Prim.Native.Nat.{ℕ, _-_, _≤_}
+use Rattle.sheet.proofs.EndLaws as laws
+use mathlib.Core.Path.{_∙_, _≡_, sym}
+use borrow.Author.Needs.{needs}
+use native.Mathlib.Omega.{arith}
+use Rattle.sheet.proofs.finish.all_reached.Statement.{statement}
+use Rattle.sheet.proofs.finish.all_reached.Tie as tie
+
+abbrev Inv-loop : tie.InvT-loop
+Inv-loop size target n seen₀ j₀ seen j = (j ≤ n) × ((sh : Sheet) → size ≡ sh .size → Leads target (sh .rules) → Marks seen (within sh j))
+
+abbrev μ-loop : tie.MeasureT-loop
+μ-loop size target n seen₀ j₀ seen j = n - j
+
+array-write-seen : tie.Need-array-write-seen Inv-loop μ-loop
+array-write-seen c = search needs
+
+loop-holds : tie.Need-loop-holds Inv-loop μ-loop
+loop-holds c = (omega arith, λ sh e h. laws.within-start sh)
+
+all-marked-requires : tie.Need-all-marked-requires Inv-loop μ-loop
+all-marked-requires c κs = c .before .before .pre .states
+
+returns : tie.Need-returns Inv-loop μ-loop
+returns c = λ sh e h. laws.reached-early sh _ _ e (omega arith) (sym (c .before .all-marked .ensures (within sh _) (c .before .before .before .loop .inv .1 sh e h)) ∙ c .if1 .taken)
+
+round-requires : tie.Need-round-requires Inv-loop μ-loop
+round-requires c κs = c .before .before .before .before .pre
+
+add-j : tie.Need-add-j Inv-loop μ-loop
+add-j c = omega (arith, c .before .before .before .before .before .pre)
+
+loop-less : tie.Need-loop-less Inv-loop μ-loop
+loop-less c = omega arith
+
+loop-again : tie.Need-loop-again Inv-loop μ-loop
+loop-again c = (omega arith, λ sh e h. laws.within-more sh _ _ e (c .round .ensures (sh .rules) (within sh _) h (c .before .before .before .before .loop .inv .1 sh e h)))
+
+all-marked-requires-2 : tie.Need-all-marked-requires-2 Inv-loop μ-loop
+all-marked-requires-2 c κs = c .before .before .pre .states
+
+returns-2 : tie.Need-returns-2 Inv-loop μ-loop
+returns-2 c = λ sh e h. laws.reached-late sh _ _ _ e (omega arith) (c .all-marked2 .ensures (within sh _) (c .before .before .loop .inv .1 sh e h))
+
+pub all-reached-spec : {M : Type 1} → statement M
+all-reached-spec =
+    tie.close
+    (tie.spec
+    Inv-loop
+    μ-loop
+    array-write-seen
+    loop-holds
+    all-marked-requires
+    returns
+    round-requires
+    add-j
+    loop-less
+    loop-again
+    all-marked-requires-2
+    returns-2)
