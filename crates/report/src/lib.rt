@@ -14,7 +14,7 @@ use text::put_all;
 use text::put_refused;
 use text::put_survivor;
 
-// How many choices a mutant of the sheet has, which judge does not say.
+// How many choices a mutant of the sheet has: judge answers only the length of the sequence.
 fn suspects(sheet: &[u8]) -> usize
     ensures { λ r. ⌜ r ≡ suspectsIn (readAnswer (reading (now (sheet .entry)))) ⌝ }
 {
