@@ -17,8 +17,9 @@ use Rattle.sheet.specs.declared.finish.End.the-variants.{Accepted, Refus
 use Rattle.sheet.specs.Lists.{maybe, any, all, count}
 use Rattle.sheet.specs.Sheet.{Sheet, rowsAt, ruleAt, leads, within, allReached, unruledChoices, choicesAt, isOpen, openBelow, openPairs}
 use Rattle.sheet.specs.Reading.{firstBroken, finishing}
-use Rattle.sheet.specs.Held.{Within16, Digits, placeOf, ruleTarget, present, Leads, Marks, Linked, markOf, endOf}
-use Rattle.sheet.specs.laws.Reached.{all-early}
+use Rattle.sheet.specs.Held.{Within16, Digits, placeOf, ruleTarget, present, Leads, Marks, Follows, Linked, markOf, endOf}
+use Rattle.sheet.specs.laws.Basics.{never, both, or-right, and-both}
+use Rattle.sheet.specs.laws.Reached.{some-any, all-early}
 use Rattle.sheet.proofs.Laws.{If, rule-digits}
 
 pub few-pairs : (z : Size) → Within16 z → z .outputs * z .states ≤ 256
@@ -31,6 +32,14 @@ mark-true false e = absurd (omega arith)
 pub mark-false : (b : Bool) → (markOf b ≡ 1 → ⊥) → b ≡ false
 mark-false true e = absurd (e refl)
 mark-false false e = refl
+
+mark-above : (b : Bool) {m n : ℕ} → n ≡ markOf b → m < n → b ≡ true
+mark-above true e k = refl
+mark-above false e k = absurd (omega arith)
+
+mark-below : (a b : Bool) {m n : ℕ} → m ≡ markOf a → n ≡ markOf b → m ≤ n → a ≡ true → b ≡ true
+mark-below a true e f k h = refl
+mark-below a false e f k h = let one : markOf a ≡ 1 = rw h in absurd (omega arith)
 
 opened : (rows : List Row) → eqb (present rows) 1 ≡ ltb 1 (suc (length rows))
 opened [] = refl
@@ -94,6 +103,11 @@ or-late false true false = refl
 or-late false false true = refl
 or-late false false false = refl
 
+or-known : (a b c : Bool) → (b ≡ true → a ≡ true) → a || (b || c) ≡ a || c
+or-known true b c h = refl
+or-known false true c h = let e = h refl in never (cc)
+or-known false false c h = refl
+
 -- where a rule leads, by its next state
 hits : (o : Option Row) (v t : ℕ) → v ≡ ruleTarget o → v < 16 → t ≡ v → maybe o false (λ r. eqb (r .target) t) ≡ true
 hits none v t e h k = absurd (omega arith)
@@ -138,33 +152,57 @@ module _ (rules : List Row) (g : ℕ → Bool) (s : ℕ) where
     unfolding any
     spread-miss m v = marks-same (spreading (x + 1)) m (λ t k. rw (add-one x, leads-none t v))
 
-module _ (rules : List Row) (g : ℕ → Bool) (k : ℕ) where
+module _ (z : Size) (rules : List Row) (g : ℕ → Bool) where
   abbrev pub rounding : ℕ → ℕ → Bool
-  rounding s t = g t || any (λ y. g y && any (λ x. leads rules y x t) k) s
+  rounding s t = g t || any (λ y. g y && any (λ x. leads rules y x t) (z .inputs)) s
 
   pub round-none : {l : List ℕ} → Marks l g → Marks l (rounding 0)
   unfolding any
   round-none h = marks-same (rounding 0) h (λ t j. or-false (g t))
 
-  pub round-seen : {l : List ℕ} (s : ℕ) → g s ≡ true → Marks l (λ t. rounding s t || any (λ x. leads rules s x t) k) → Marks l (rounding (s + 1))
-  unfolding any
-  round-seen s e h = marks-same (rounding (s + 1)) h
-      (λ t j. rw (add-one s, e) (or-late (g t) (any (λ x. leads rules s x t) k) (any (λ y. g y && any (λ x. leads rules y x t) k) s)))
+  module _ {ds ss l : List ℕ} {f : ℕ → Bool} (d : Marks ds f) (m : Marks ss g) (s : ℕ) (hs : s < 16) where
+    pub round-new : getD ds s 0 < getD ss s 0 → Marks l (λ t. rounding s t || any (λ x. leads rules s x t) (z .inputs)) → Marks l (rounding (s + 1))
+    unfolding any
+    round-new v h = marks-same (rounding (s + 1)) h
+        (λ t j. rw (add-one s, mark-above (g s) (m .at s hs) v) (or-late (g t) (any (λ x. leads rules s x t) (z .inputs)) _))
 
-  pub round-unseen : {l : List ℕ} (s : ℕ) → g s ≡ false → Marks l (rounding s) → Marks l (rounding (s + 1))
-  unfolding any
-  round-unseen s e h = marks-same (rounding (s + 1)) h (λ t j. rw (add-one s, e))
+    pub round-known : Follows z rules f g → s < z .states → getD ss s 0 ≤ getD ds s 0 → Marks l (rounding s) → Marks l (rounding (s + 1))
+    unfolding any
+    round-known q k v h = marks-same (rounding (s + 1)) h (λ t j. rw (add-one s) (or-known (g t) _ _ (λ e. led t (both (g s) _ e))))
+      where
+        led : (t : ℕ) → (g s ≡ true) × (any (λ x. leads rules s x t) (z .inputs) ≡ true) → g t ≡ true
+        led t p = q .each s t k (mark-below (g s) (f s) (m .at s hs) (d .at s hs) v (p .0)) (p .1)
 
 no-marks : Marks (replicate 16 0) (λ t. false)
 no-marks = record { size = refl; at = λ t h. getD-replicate 16 t 0 0 h }
 
-pub within-start : (sh : Sheet) → Marks (set (replicate 16 0) 0 1) (within sh 0)
-unfolding within
-within-start sh = marks-set (within sh 0) 0 no-marks (omega arith) (λ t e. eq-eqb t 0 e) (λ t n. ne-eqb t 0 n)
+-- after j rounds: ss marks the states found, ds some whose rules lead only to such
+pub record Rounds (z : Size) (sh : Sheet) (j : ℕ) (ds ss : List ℕ) : Type 0 where
+  pub before : ℕ → Bool
+  pub done : Marks ds before
+  pub seen : Marks ss (within sh j)
+  pub follows : Follows z (sh .rules) before (within sh j)
 
-pub within-more : (sh : Sheet) (z : Size) (j : ℕ) {l : List ℕ} → z ≡ sh .size → Marks l (rounding (sh .rules) (within sh j) (z .inputs) (z .states)) → Marks l (within sh (j + 1))
+pub rounds-start : (z : Size) (sh : Sheet) → Rounds z sh 0 (replicate 16 0) (set (replicate 16 0) 0 1)
 unfolding within
-within-more sh z j e h = marks-same (within sh (j + 1)) h (λ t k. rw (add-one j, e))
+rounds-start z sh = record {
+  before = λ t. false;
+  done = no-marks;
+  seen = marks-set (within sh 0) 0 no-marks (omega arith) (λ t e. eq-eqb t 0 e) (λ t n. ne-eqb t 0 n);
+  follows = record { each = λ s t k e l. never (cc) };
+}
+
+pub rounds-more : (z : Size) (sh : Sheet) (j : ℕ) {ds ss : List ℕ} → z ≡ sh .size → Marks ds (within sh j)
+    → Marks ss (rounding z (sh .rules) (within sh j) (z .states)) → Rounds z sh (j + 1) ds ss
+unfolding within
+rounds-more z sh j e = rw e (λ d m. record {
+  before = within sh j;
+  done = d;
+  seen = marks-same (within sh (j + 1)) m (λ t k. rw (add-one j));
+  follows = record {
+    each = λ s t k w l. rw (add-one j) (or-right (within sh j t) _ (some-any _ (sh .size .states) s k (and-both (within sh j s) _ w l)));
+  };
+})
 
 pub all-more : (g : ℕ → Bool) (i : ℕ) → all g i ≡ true → g i ≡ true → all g (i + 1) ≡ true
 unfolding all

@@ -1,7 +1,7 @@
 -- What the code's counters and tables say of what was read: words for the contracts of the crate's own functions.
 use Prim.Native.Nat.{ℕ, suc, _+_, _*_, _<_, _≤_}
 use mathlib.Core.Path.{_≡_}
-use mathlib.Core.Bool.{Bool, cond}
+use mathlib.Core.Bool.{Bool, true, cond}
 use mathlib.Core.Option.{Option, none, some}
 use mathlib.Core.List.{List, [], _∷_, _++_}
 use lib.ListN.{length, getD}
@@ -20,8 +20,8 @@ use Rattle.sheet.specs.declared.finish.End.the-variants as ending
 use Rattle.sheet.specs.declared.scan.Verdict.the-variants as verdict
 use Rattle.sheet.specs.declared.scan.Step.{Step}
 use Rattle.sheet.specs.declared.scan.Done.{Done}
-use Rattle.sheet.specs.Lists.{maybe, last, All}
-use Rattle.sheet.specs.Sheet.{Sheet, rowsAt, ruleAt, after, openPairs}
+use Rattle.sheet.specs.Lists.{maybe, last, All, any}
+use Rattle.sheet.specs.Sheet.{Sheet, rowsAt, ruleAt, after, leads, openPairs}
 use Rattle.sheet.specs.laws.Ordered.{Ordered}
 use Rattle.sheet.specs.Reading.{Reading, accepted, refused, Command, rule, fault, press, Progress, Outcome, go, stop, phaseAfter, lastTest, addPress, refusal, advance}
 
@@ -136,6 +136,10 @@ markOf b = cond b 1 0
 pub record Marks (l : List ℕ) (g : ℕ → Bool) : Type 0 where
   pub size : length l ≡ 16
   pub at : (t : ℕ) → t < 16 → getD l t 0 ≡ markOf (g t)
+
+-- where a rule at a state of f leads, g holds
+pub record Follows (z : Size) (rules : List Row) (f g : ℕ → Bool) : Type 0 where
+  pub each : (s t : ℕ) → s < z .states → f s ≡ true → any (λ x. leads rules s x t) (z .inputs) ≡ true → g t ≡ true
 
 -- size, rules and faults are those of a sheet
 pub record Linked (z : Size) (ts ms : List ℕ) (sh : Sheet) : Type 0 where

@@ -7,7 +7,7 @@ ghost use lib.ListN.{length};
 ghost use Rattle.sheet.specs.Lists.{any, all, count};
 ghost use Rattle.sheet.specs.Sheet.{Sheet, leads, allReached, isOpen, openPairs};
 ghost use Rattle.sheet.specs.Reading.{finishing};
-ghost use Rattle.sheet.specs.Held.{Within16, Leads, Marks, Linked, endOf};
+ghost use Rattle.sheet.specs.Held.{Within16, Leads, Marks, Follows, Linked, endOf};
 use crate::Row;
 use crate::Size;
 
@@ -84,17 +84,18 @@ fn spread(size: Size, target: &[u8; 256], s: usize, seen: [u8; 16]) -> [u8; 16]
     next
 }
 
-// The states marked, and those that a rule at one of them leads to.
-fn round(size: Size, target: &[u8; 256], seen: [u8; 16]) -> [u8; 16]
+// The states seen, and those that a rule at one of them leads to. States done are passed over: where their rules lead is seen.
+fn round(size: Size, target: &[u8; 256], done: [u8; 16], seen: [u8; 16]) -> [u8; 16]
     requires { ⌜ Within16 size ⌝ }
-    ensures { λ r. ⌜ ((rules : List Row) (g : ℕ → Bool) → Leads (now (target .entry)) rules → Marks seen g
+    ensures { λ r. ⌜ ((rules : List Row) (f g : ℕ → Bool) → Leads (now (target .entry)) rules → Marks done f → Marks seen g
+        → Follows size rules f g
         → Marks r (λ t. g t || any (λ s. g s && any (λ x. leads rules s x t) (size .inputs)) (size .states))) ⌝ }
 {
     let n = size.states as usize;
     let mut next = seen;
     let mut s: usize = 0;
     while s < n {
-        if seen[s] == 1 {
+        if done[s] < seen[s] {
             let more = spread(size, target, s, next);
             next = more;
         }
@@ -120,12 +121,13 @@ fn all_marked(n: u8, seen: [u8; 16]) -> bool
     true
 }
 
-// Is every state reached from 0? One round for each state at most: they end once all are marked.
+// Is every state reached from 0? One round for each state at most: they end once all are seen.
 fn all_reached(size: Size, target: &[u8; 256]) -> bool
     requires { ⌜ Within16 size ⌝ }
     ensures { λ r. ⌜ ((sh : Sheet) → size ≡ sh .size → Leads (now (target .entry)) (sh .rules) → r ≡ allReached sh) ⌝ }
 {
     let n = size.states;
+    let mut done = [0u8; 16];
     let mut seen = [0u8; 16];
     seen[0] = 1;
     let mut j: u8 = 0;
@@ -133,7 +135,8 @@ fn all_reached(size: Size, target: &[u8; 256]) -> bool
         if all_marked(n, seen) {
             return true;
         }
-        let more = round(size, target, seen);
+        let more = round(size, target, done, seen);
+        done = seen;
         seen = more;
         j += 1;
     }

@@ -1,6 +1,6 @@
 use Rattle.sheet.specs.Sheet.{Sheet, within}
-use Rattle.sheet.specs.Held.{Leads, Marks}
-use Prim.Native.Nat.{ℕ, _-_, _≤_}
+use Rattle.sheet.specs.Held.{Leads}
+use Prim.Native.Nat.{_-_, _≤_}
 use Rattle.sheet.proofs.EndLaws as laws
 use mathlib.Core.Path.{_∙_, _≡_, sym}
 use borrow.Author.Needs.{needs}
@@ -9,22 +9,22 @@ use Rattle.sheet.proofs.finish.all_reached.Statement.{statement}
 use Rattle.sheet.proofs.finish.all_reached.Tie as tie
 
 abbrev Inv-loop : tie.InvT-loop
-Inv-loop size target n seen₀ j₀ seen j = (j ≤ n) × ((sh : Sheet) → size ≡ sh .size → Leads target (sh .rules) → Marks seen (within sh j))
+Inv-loop size target n done₀ seen₀ j₀ done seen j = (j ≤ n) × ((sh : Sheet) → size ≡ sh .size → Leads target (sh .rules) → laws.Rounds size sh j done seen)
 
 abbrev μ-loop : tie.MeasureT-loop
-μ-loop size target n seen₀ j₀ seen j = n - j
+μ-loop size target n done₀ seen₀ j₀ done seen j = n - j
 
 array-write-seen : tie.Need-array-write-seen Inv-loop μ-loop
 array-write-seen c = search needs
 
 loop-holds : tie.Need-loop-holds Inv-loop μ-loop
-loop-holds c = (omega arith, λ sh e h. laws.within-start sh)
+loop-holds c = (omega arith, λ sh e h. laws.rounds-start _ sh)
 
 all-marked-requires : tie.Need-all-marked-requires Inv-loop μ-loop
 all-marked-requires c κs = c .before .before .pre .states
 
 returns : tie.Need-returns Inv-loop μ-loop
-returns c = λ sh e h. laws.reached-early sh _ _ e (omega arith) (sym (c .before .all-marked .ensures (within sh _) (c .before .before .before .loop .inv .1 sh e h)) ∙ c .if1 .taken)
+returns c = λ sh e h. laws.reached-early sh _ _ e (omega arith) (sym (c .before .all-marked .ensures (within sh _) (c .before .before .before .loop .inv .1 sh e h .seen)) ∙ c .if1 .taken)
 
 round-requires : tie.Need-round-requires Inv-loop μ-loop
 round-requires c κs = c .before .before .before .before .pre
@@ -36,13 +36,18 @@ loop-less : tie.Need-loop-less Inv-loop μ-loop
 loop-less c = omega arith
 
 loop-again : tie.Need-loop-again Inv-loop μ-loop
-loop-again c = (omega arith, λ sh e h. laws.within-more sh _ _ e (c .round .ensures (sh .rules) (within sh _) h (c .before .before .before .before .loop .inv .1 sh e h)))
+loop-again c = (
+  omega arith,
+  λ sh e h.
+      let r = c .before .before .before .before .loop .inv .1 sh e h in
+      laws.rounds-more (c .before .before .before .before .before .args .size) sh _ e (r .seen) (c .round .ensures (sh .rules) (r .before) (within sh _) h (r .done) (r .seen) (r .follows)),
+)
 
 all-marked-requires-2 : tie.Need-all-marked-requires-2 Inv-loop μ-loop
 all-marked-requires-2 c κs = c .before .before .pre .states
 
 returns-2 : tie.Need-returns-2 Inv-loop μ-loop
-returns-2 c = λ sh e h. laws.reached-late sh _ _ _ e (omega arith) (c .all-marked2 .ensures (within sh _) (c .before .before .loop .inv .1 sh e h))
+returns-2 c = λ sh e h. laws.reached-late sh _ _ _ e (omega arith) (c .all-marked2 .ensures (within sh _) (c .before .before .loop .inv .1 sh e h .seen))
 
 pub all-reached-spec : {M : Type 1} → statement M
 all-reached-spec =

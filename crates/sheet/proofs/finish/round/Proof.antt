@@ -2,29 +2,32 @@ use Rattle.sheet.specs.declared.Row.{Row}
 use mathlib.Core.List.{List}
 use mathlib.Core.Bool.{Bool}
 use mathlib.Core.Logic.{⊎-elim}
-use Rattle.sheet.specs.Held.{Leads, Marks}
+use Rattle.sheet.specs.Held.{Leads, Marks, Follows}
 use Prim.Native.Nat.{ℕ, _-_, _≤_}
 use Rattle.sheet.proofs.EndLaws as laws
-use mathlib.Core.Path.{_∙_, sym, _≡_}
+use mathlib.Core.Path.{_≡_}
 use borrow.Author.Needs.{needs}
 use native.Mathlib.Omega.{arith}
 use Rattle.sheet.proofs.finish.round.Statement.{statement}
 use Rattle.sheet.proofs.finish.round.Tie as tie
 
 abbrev Inv-loop : tie.InvT-loop
-Inv-loop size target seen n next₀ s₀ next s = (s ≤ n) × ((rules : List Row) (g : ℕ → Bool) → Leads target rules → Marks seen g → Marks next (laws.rounding rules g (size .inputs) s))
+Inv-loop size target done seen n next₀ s₀ next s = (s ≤ n) × ((rules : List Row) (f g : ℕ → Bool) → Leads target rules → Marks done f → Marks seen g → Follows size rules f g → Marks next (laws.rounding size rules g s))
 
 abbrev μ-loop : tie.MeasureT-loop
-μ-loop size target seen n next₀ s₀ next s = n - s
+μ-loop size target done seen n next₀ s₀ next s = n - s
 
 cast-n : tie.Need-cast-n Inv-loop μ-loop
 cast-n c = search needs
 
 loop-holds : tie.Need-loop-holds Inv-loop μ-loop
-loop-holds c = (omega arith, λ rules g h m. laws.round-none rules g _ m)
+loop-holds c = (omega arith, λ rules f g h d m q. laws.round-none (c .before .args .size) rules g m)
 
 array-read-if1 : tie.Need-array-read-if1 Inv-loop μ-loop
 array-read-if1 c = omega (arith, c .before .before .before .pre)
+
+array-read-if1-2 : tie.Need-array-read-if1-2 Inv-loop μ-loop
+array-read-if1-2 c = omega (arith, c .before .before .before .pre)
 
 spread-requires : tie.Need-spread-requires Inv-loop μ-loop
 spread-requires c κs = (c .before .before .before .before .pre, omega (arith, c .before .before .before .before .pre))
@@ -37,12 +40,12 @@ loop-less c = omega arith
 
 loop-again : tie.Need-loop-again Inv-loop μ-loop
 loop-again c = ⊎-elim
-    (λ w. (omega arith, λ rules g h m. rw (w .2) (laws.round-seen rules g _ _ (laws.mark-true _ (sym (m .at _ (omega (arith, c .before .before .before .before .pre))) ∙ w .0 .taken)) (w .1 .ensures rules _ h (c .before .before .loop .inv .1 rules g h m)))))
-    (λ w. (omega arith, λ rules g h m. rw (w .1) (laws.round-unseen rules g _ _ (laws.mark-false _ (λ q. w .0 .left (m .at _ (omega (arith, c .before .before .before .before .pre)) ∙ q))) (c .before .before .loop .inv .1 rules g h m))))
+    (λ w. (omega arith, λ rules f g h d m q. rw (w .2) (laws.round-new (c .before .before .before .before .args .size) rules g d m _ (omega (arith, c .before .before .before .before .pre)) (w .0 .taken) (w .1 .ensures rules _ h (c .before .before .loop .inv .1 rules f g h d m q)))))
+    (λ w. (omega arith, λ rules f g h d m q. rw (w .1) (laws.round-known (c .before .before .before .before .args .size) rules g d m _ (omega (arith, c .before .before .before .before .pre)) q (omega arith) (w .0 .left) (c .before .before .loop .inv .1 rules f g h d m q))))
     (c .if1 .came)
 
 returns : tie.Need-returns Inv-loop μ-loop
-returns c = λ rules g h m. let e : c .before .loop .s ≡ c .before .before .before .args .size .states = omega arith in rw (← e) (c .before .loop .inv .1 rules g h m)
+returns c = λ rules f g h d m q. let e : c .before .loop .s ≡ c .before .before .before .args .size .states = omega arith in rw (← e) (c .before .loop .inv .1 rules f g h d m q)
 
 pub round-spec : {M : Type 1} → statement M
 round-spec =
@@ -53,6 +56,7 @@ round-spec =
     cast-n
     loop-holds
     array-read-if1
+    array-read-if1-2
     spread-requires
     add-s
     loop-less
