@@ -127,8 +127,8 @@ module _ (sh : Sheet) (size : Summary) (tables : Tables) (rd : Read sh size tabl
           diverts = ap (λ (t : Tables). t .diverted) (rd .tabled);
         }
 
-    pub read-few : length (openChoices n k (tables .choices) 256) ≤ 32
-    read-few = rw (en ∙ read-states, ek ∙ read-inputs) (few-slots sh (rd .formed) (tables .choices) read-choices)
+    pub read-few : (n ≤ 16) × (length (openChoices n k (tables .choices) 256) ≤ 32)
+    read-few = rw (en ∙ read-states, ek ∙ read-inputs) (rd .formed .size .states .few, few-slots sh (rd .formed) (tables .choices) read-choices)
 
     pub read-sited : (r : Sites) → Numbered n k (tables .choices) r → Sited sh (r .site) (r .slots) (r .count)
     read-sited r num = sited sh (rd .formed) (tables .choices) read-choices r (rw (en ∙ read-states, ek ∙ read-inputs) at num)

@@ -129,14 +129,11 @@ module _ {sh : Sheet} {size : Summary} {tables : Tables} {s : List ℕ} (rd : Re
       ∙ rw (rd .read .summary, rd .bytes) (tests-from sh)
 
   module _ (n k : ℕ) (en : n ≡ size .states) (ek : k ≡ size .inputs) where
-    pub few-open : length (openChoices n k (tables .choices) 256) ≤ 32
+    pub few-open : (n ≤ 16) × (length (openChoices n k (tables .choices) 256) ≤ 32)
     few-open = read-few sh size tables (rd .read) n k en ek
 
-    states-small : n ≤ 16
-    states-small = omega (arith, read-states sh size tables (rd .read), rd .read .formed .size .states .few)
-
     pub square-small : n * n ≤ 256
-    square-small = let h : n * n ≤ 16 * 16 = mul-le-mul states-small states-small in omega arith
+    square-small = let h : n * n ≤ 16 * 16 = mul-le-mul (few-open .0) (few-open .0) in omega arith
 
     module _ (r : Sites) (num : Numbered n k (tables .choices) r) where
       pub counted : r .count ≡ length (slots sh)

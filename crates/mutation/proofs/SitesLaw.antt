@@ -1,5 +1,5 @@
 -- Numbering the suspects: what holds after the pairs before an index.
-use Prim.Native.Nat.{ℕ, zero, suc, _+_, _-_, _/_, _%_, _≤_, _<_}
+use Prim.Native.Nat.{ℕ, zero, suc, _+_, _-_, _*_, _/_, _%_, _≤_, _<_}
 use native.Mathlib.Numerals.{add-one}
 use native.Mathlib.Decide.{ℕ-discrete, decLt}
 use native.Mathlib.Omega.{arith}
@@ -16,7 +16,7 @@ use Rattle.mutation.specs.Sites.{openAt, openChoices, Numbered}
 use Rattle.mutation.specs.declared.sites.Sites.{Sites}
 
 module _ (n k : ℕ) (choices : List ℕ) (i : ℕ) where
-  pub open-no-state : n ≤ i / 16 → false ≡ openAt n k choices i
+  open-no-state : n ≤ i / 16 → openAt n k choices i ≡ false
   unfolding openAt
   open-no-state l = rw (le-ltb (i / 16) n l) refl
 
@@ -46,6 +46,13 @@ choices-most n k choices i zero = let e : i + 0 ≡ i = omega arith in rw e (ome
 choices-most n k choices i (suc d) =
     let e : i + suc d ≡ suc (i + d) = omega arith in
     rw e (omega (arith, choices-most n k choices i d, choices-longer n k choices (i + d)))
+
+-- past the last state there is no open pair
+choices-past : (n k : ℕ) (choices : List ℕ) (i d : ℕ) → 16 * n ≤ i → openChoices n k choices (i + d) ≡ openChoices n k choices i
+choices-past n k choices i zero l = let e : i + 0 ≡ i = omega arith in rw e refl
+choices-past n k choices i (suc d) l =
+    let e : i + suc d ≡ suc (i + d) = omega arith in
+    rw e (choices-shut n k choices (i + d) (open-no-state n k choices (i + d) (omega arith)) ∙ choices-past n k choices i d l)
 
 pub record Numbering (n k : ℕ) (choices site slots : List ℕ) (count i : ℕ) : Type 0 where
   pub most : i ≤ 256
@@ -119,12 +126,15 @@ module _ (n k : ℕ) (choices : List ℕ) where
           slotted = rw next (inv .slotted);
         }
 
-  pub number-end : (site slots : List ℕ) (count i : ℕ) → Numbering n k choices site slots count i → 256 ≤ i →
+  pub number-end : (site slots : List ℕ) (count i : ℕ) → Numbering n k choices site slots count i → 16 * n ≤ i →
       Numbered n k choices (record { site = site; slots = slots; count = count })
   number-end site slots count i inv l =
-      let e : i ≡ 256 = omega (arith, inv .most) in
-      record {
-        site = λ t lt. inv .sites t lt ∙ rw (lt-ltb t i (omega arith)) refl;
-        slots = rw e at (inv .slotted);
-        count = rw e at (inv .counts);
-      }
+      let d : i + (256 - i) ≡ 256 = omega (arith, inv .most) in
+      let e : openChoices n k choices 256 ≡ openChoices n k choices i = rw d at (choices-past n k choices i (256 - i) l) in
+      record { site = λ t lt. inv .sites t lt ∙ here-or-past t; slots = rw e (inv .slotted); count = rw e (inv .counts) }
+    where
+      here-or-past : (t : ℕ) → cond (ltb t i && openAt n k choices t) (length (openChoices n k choices t)) 255 ≡ cond (openAt n k choices t) (length (openChoices n k choices t)) 255
+      here-or-past t =
+          by-cases (decLt t i)
+          (λ h. rw (lt-ltb t i h) refl)
+          (λ nh. rw (le-ltb t i (omega arith), open-no-state n k choices t (omega arith)) refl)

@@ -1,5 +1,5 @@
 // The suspects of a sheet (01: open pairs), numbered in 01's order, and whether bytes choose at each of them.
-ghost use Prim.Native.Nat.{_≤_, _<_};
+ghost use Prim.Native.Nat.{ℕ, _/_, _≤_, _<_};
 ghost use mathlib.Core.Path.{_≡_};
 ghost use lib.ListN.{length, replicate, take};
 ghost use Rattle.model.specs.Operations.{firstHigh};
@@ -21,14 +21,11 @@ pub(crate) enum Fit {
     Refused(u8, usize),
 }
 
-// Whether the pair at an index has two choices or more.
-fn is_open(choices: &[u16; 256], n: usize, k: usize, i: usize) -> bool
+// Whether the pair at an index, of any of the states, has two choices or more.
+fn is_open(choices: &[u16; 256], k: usize, i: usize) -> bool
     requires { ⌜ i < 256 ⌝ }
-    ensures { λ r. ⌜ r ≡ openAt n k (now (choices .entry)) i ⌝ }
+    ensures { λ r. ⌜ ((n : ℕ) → i / 16 < n → r ≡ openAt n k (now (choices .entry)) i) ⌝ }
 {
-    if i / 16 >= n {
-        return false;
-    }
     if i % 16 >= k {
         return false;
     }
@@ -47,17 +44,17 @@ fn no_slots() -> [u16; 32]
     [1u16; 32]
 }
 
-// Numbers the suspects of n states and k inputs.
+// Numbers the suspects of n states and k inputs: past the last state there is none.
 pub(crate) fn number(choices: &[u16; 256], n: usize, k: usize) -> Sites
-    requires { ⌜ length (openChoices n k (now choices) 256) ≤ 32 ⌝ }
+    requires { ⌜ (n ≤ 16) × (length (openChoices n k (now choices) 256) ≤ 32) ⌝ }
     ensures { λ r. ⌜ Numbered n k (now (choices .entry)) r ⌝ }
 {
     let mut site = no_sites();
     let mut slots = no_slots();
     let mut count: usize = 0;
     let mut i: usize = 0;
-    while i < 256 {
-        if is_open(choices, n, k, i) {
+    while i < 16 * n {
+        if is_open(choices, k, i) {
             site[i] = count as u8;
             slots[count] = choices[i];
             count += 1;

@@ -1,22 +1,17 @@
 -- `number`: what holds after the pairs before an index.
-use Prim.Native.Nat.{_-_}
+use Prim.Native.Nat.{_*_, _-_, _<_}
 use mathlib.Core.Path.{_≡_, sym, _∙_}
 use mathlib.Core.Logic.{⊎-elim}
 use native.Mathlib.Omega.{arith}
 use Rattle.mutation.proofs.SitesLaw.{Numbering, number-start, number-open, number-shut, number-end, room}
 use Rattle.mutation.proofs.sites.number.Statement.{statement}
 use Rattle.mutation.proofs.sites.number.Tie as tie
-use Rattle.mutation.proofs.sites.number.Reads as reads
-use Rattle.mutation.proofs.sites.number.Lts as lts
-use Rattle.mutation.proofs.sites.is_open.Reads as is-open-reads
-use Rattle.mutation.proofs.sites.no_sites.Reads as no-sites-reads
-use Rattle.mutation.proofs.sites.no_slots.Reads as no-slots-reads
 
 abbrev Inv-loop : tie.InvT-loop
 Inv-loop choices n k site₀ slots₀ count₀ i₀ site slots count i = Numbering n k choices site slots count i
 
 abbrev μ-loop : tie.MeasureT-loop
-μ-loop choices n k site₀ slots₀ count₀ i₀ site slots count i = 256 - i
+μ-loop choices n k site₀ slots₀ count₀ i₀ site slots count i = 16 * n - i
 
 no-sites-requires : tie.Need-no-sites-requires Inv-loop μ-loop
 no-sites-requires c κs = tt
@@ -27,11 +22,22 @@ no-slots-requires c κs = tt
 loop-holds : tie.Need-loop-holds Inv-loop μ-loop
 loop-holds c = let a = c .before .before .args in number-start (a .n) (a .k) (a .choices .now) (c .before .no-sites .result) (c .no-slots .result) (c .before .no-sites .ensures) (c .no-slots .ensures)
 
+mul-loop : tie.Need-mul-loop Inv-loop μ-loop
+mul-loop c = omega arith
+
 is-open-requires : tie.Need-is-open-requires Inv-loop μ-loop
 is-open-requires c κs = omega arith
 
+-- at a suspect there is room for one more
+space : (c : tie.Then1 Inv-loop μ-loop) → c .before .before .before .loop .count < 32
+space c =
+    let a = c .before .before .before .before .before .before .args in
+    let p = c .before .before .before .before .before .before .pre in
+    let l = c .before .before .before .loop in
+    omega (arith, l .inv .counts, room (a .n) (a .k) (a .choices .now) (l .i) (omega arith) (p .1) (sym (c .before .is-open .ensures (a .n) (omega arith)) ∙ c .if1 .taken))
+
 cast-site : tie.Need-cast-site Inv-loop μ-loop
-cast-site c = let a = c .before .before .before .before .before .before .args in let l = c .before .before .before .loop in omega (arith, l .inv .counts, room (a .n) (a .k) (a .choices .now) (l .i) (c .before .before .loop-test .taken) (c .before .before .before .before .before .before .pre) (sym (c .before .is-open .ensures) ∙ c .if1 .taken))
+cast-site c = omega (arith, space c)
 
 array-write-site : tie.Need-array-write-site Inv-loop μ-loop
 array-write-site c = omega arith
@@ -43,13 +49,13 @@ element-copy-out-slots : tie.Need-element-copy-out-slots Inv-loop μ-loop
 element-copy-out-slots c = omega arith
 
 mul-slots-2 : tie.Need-mul-slots-2 Inv-loop μ-loop
-mul-slots-2 c = let a = c .before .before .before .before .before .before .before .args in let l = c .before .before .before .before .loop in omega (arith, l .inv .counts, room (a .n) (a .k) (a .choices .now) (l .i) (c .before .before .before .loop-test .taken) (c .before .before .before .before .before .before .before .pre) (sym (c .before .before .is-open .ensures) ∙ c .before .if1 .taken))
+mul-slots-2 c = omega (arith, space (c .before))
 
 array-write-slots : tie.Need-array-write-slots Inv-loop μ-loop
-array-write-slots c = let a = c .before .before .before .before .before .before .before .args in let l = c .before .before .before .before .loop in omega (arith, l .inv .counts, room (a .n) (a .k) (a .choices .now) (l .i) (c .before .before .before .loop-test .taken) (c .before .before .before .before .before .before .before .pre) (sym (c .before .before .is-open .ensures) ∙ c .before .if1 .taken))
+array-write-slots c = omega (arith, space (c .before))
 
 add-count : tie.Need-add-count Inv-loop μ-loop
-add-count c = let a = c .before .before .before .before .before .before .before .args in let l = c .before .before .before .before .loop in omega (arith, l .inv .counts, room (a .n) (a .k) (a .choices .now) (l .i) (c .before .before .before .loop-test .taken) (c .before .before .before .before .before .before .before .pre) (sym (c .before .before .is-open .ensures) ∙ c .before .if1 .taken))
+add-count c = omega (arith, space (c .before))
 
 add-i : tie.Need-add-i Inv-loop μ-loop
 add-i c = omega arith
@@ -60,10 +66,12 @@ loop-less c = omega arith
 loop-again : tie.Need-loop-again Inv-loop μ-loop
 loop-again c =
     let a = c .before .before .before .before .before .before .args in
+    let p = c .before .before .before .before .before .before .pre in
     let l = c .before .before .before .loop in
+    let e = sym (c .before .is-open .ensures (a .n) (omega arith)) in
     ⊎-elim
-    (λ w. rw (w .2, w .3, w .4) (number-open (a .n) (a .k) (a .choices .now) (l .site) (l .slots) (l .count) (l .i) (l .inv) (c .before .before .loop-test .taken) (c .before .before .before .before .before .before .pre) (sym (c .before .is-open .ensures) ∙ w .0 .taken)))
-    (λ w. rw (w .1, w .2, w .3) (number-shut (a .n) (a .k) (a .choices .now) (l .site) (l .slots) (l .count) (l .i) (l .inv) (c .before .before .loop-test .taken) (sym (c .before .is-open .ensures) ∙ w .0 .left)))
+    (λ w. rw (w .2, w .3, w .4) (number-open (a .n) (a .k) (a .choices .now) (l .site) (l .slots) (l .count) (l .i) (l .inv) (omega arith) (p .1) (e ∙ w .0 .taken)))
+    (λ w. rw (w .1, w .2, w .3) (number-shut (a .n) (a .k) (a .choices .now) (l .site) (l .slots) (l .count) (l .i) (l .inv) (omega arith) (e ∙ w .0 .left)))
     (c .if1 .came)
 
 returns : tie.Need-returns Inv-loop μ-loop
@@ -78,6 +86,7 @@ number-spec =
     no-sites-requires
     no-slots-requires
     loop-holds
+    mul-loop
     is-open-requires
     cast-site
     array-write-site
