@@ -21,7 +21,7 @@ use Rattle.mutation.proofs.TablesLaw.{move-next-below}
 use Rattle.mutation.proofs.MovesLaw.{rule-at}
 
 module _ (sh : Sheet) (b : List ℕ) (n k : ℕ) (output target first mutated diverted mo mn : List ℕ)
-    (is : Ruled sh n k output target first mutated diverted) (moved : Moves sh b mo mn 256) where
+    (is : Ruled sh n k output target first mutated diverted) (moved : Moves sh b mo mn (16 * n)) where
   small : (s x : ℕ) → s < n → x < k → (s < 16) × (x < 16)
   small s x ls lx =
       (omega (arith, is .states, is .formed .size .states .few), omega (arith, is .inputs, is .formed .size .inputs .few))
@@ -51,7 +51,7 @@ module _ (sh : Sheet) (b : List ℕ) (n k : ℕ) (output target first mutated di
   unfolding movesIn moveIn
   same-move s x = go (ltb s n) refl (ltb x k) refl
     where
-      at : (i : ℕ) → i < 256 → moveIn mo mn i ≡ step sh b (i / 16) (i % 16)
+      at : (i : ℕ) → i < 16 * n → moveIn mo mn i ≡ step sh b (i / 16) (i % 16)
       at i l = λ j. record { output = moved .output i l j; target = moved .target i l j }
 
       go : (c : Bool) → ltb s n ≡ c → (d : Bool) → ltb x k ≡ d → cond (c && d) (moveIn mo mn (s * 16 + x)) idle ≡ step sh b s x
@@ -59,7 +59,7 @@ module _ (sh : Sheet) (b : List ℕ) (n k : ℕ) (output target first mutated di
           let h = small s x (ltb-true s n es) (ltb-true x k ex) in
           let e : (s * 16 + x) / 16 ≡ s = omega (arith, h) in
           let f : (s * 16 + x) % 16 ≡ x = omega (arith, h) in
-          at (s * 16 + x) (omega (arith, h)) ∙ rw (e, f) refl
+          at (s * 16 + x) (omega (arith, h, ltb-true s n es)) ∙ rw (e, f) refl
       go true es false ex = sym (step-outside sh b s x (λ l lx. omega (arith, ltb-false x k ex, is .inputs)))
       go false es d ex = sym (step-outside sh b s x (λ l lx. omega (arith, ltb-false s n es, is .states)))
 

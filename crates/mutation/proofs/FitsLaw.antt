@@ -1,5 +1,5 @@
 -- Whether bytes are a mutant, as the code and as the operations say it; and what the reading layer hands over.
-use Prim.Native.Nat.{ℕ, _≤_, _<_}
+use Prim.Native.Nat.{ℕ, _*_, _≤_, _<_}
 use native.Mathlib.Omega.{arith}
 use mathlib.Core.Path.{_≡_, refl, sym, _∙_, ap, ap₂}
 use mathlib.Core.Bool.{Bool, true, false, cond, not}
@@ -148,3 +148,10 @@ module _ (sh : Sheet) (size : Summary) (tables : Tables) (rd : Read sh size tabl
 
     pub read-fit : (r : Sites) → Numbered n k (tables .choices) r → (b : List ℕ) (f : Fit) → f ≡ fitIn (r .slots) (r .count) b → f ≡ fitOf sh b
     read-fit r num b f e = e ∙ fit-sheet sh b (r .site) (r .slots) (r .count) (read-sited r num)
+
+    -- a machine with these tables
+    pub read-machined : (r : Sites) → Numbered n k (tables .choices) r → (b : List ℕ) (f : Fit) → f ≡ fitIn (r .slots) (r .count) b → (mo mn : List ℕ) →
+        (Ready sh n k (tables .output) (tables .target) (tables .first) (tables .mutated) (tables .diverted) (r .site) b → Moves sh b mo mn (16 * n)) →
+        Machined sh b (record { fit = f; output = mo; target = mn })
+    read-machined r num b f e mo mn moved =
+        record { fits = read-fit r num b f e; moves = λ m. rw (en ∙ read-states) at (moved (read-ready r num b m)) }

@@ -25,11 +25,16 @@ module _ (m : Pair) (w : ℕ → ℕ → Bool) (j i d : ℕ) where
   unfolding cellWith
   cell-old h = rw (le-leb d j h) refl
 
-  module _ (new : j < d) where
-    pub cell-no-p : m .states ≤ i / 16 → cellWith m w j i d ≡ d
-    unfolding cellWith
-    cell-no-p h = rw (lt-leb d j new, le-ltb (i / 16) (m .states) h) refl
+  -- past the last state
+  cell-past : m .states ≤ i / 16 → cellWith m w j i d ≡ d
+  unfolding cellWith
+  cell-past h = rw (le-ltb (i / 16) (m .states) h) (either (leb d j))
+    where
+      either : (b : Bool) → cond b d d ≡ d
+      either true = refl
+      either false = refl
 
+  module _ (new : j < d) where
     pub cell-no-q : i / 16 < m .states → m .states ≤ i % 16 → cellWith m w j i d ≡ d
     unfolding cellWith
     cell-no-q hp h = rw (lt-leb d j new, lt-ltb (i / 16) (m .states) hp, le-ltb (i % 16) (m .states) h) refl
@@ -136,9 +141,13 @@ module _ (m : Pair) (dist₀ : List ℕ) (j : ℕ) where
   unfolding Done
   done-none t = rw (le-ltb t 0 (omega arith)) refl
 
-  pub done-all : (dist : List ℕ) (i t : ℕ) → Done m dist₀ j dist i → t < i → getD dist t 0 ≡ cellOf m dist₀ j t
+  -- after the last state the rest is as it was
+  pub done-all : (dist : List ℕ) (i t : ℕ) → Done m dist₀ j dist i → 16 * m .states ≤ i → getD dist t 0 ≡ cellOf m dist₀ j t
   unfolding Done
-  done-all dist i t done l = done t ∙ rw (lt-ltb t i l) refl
+  done-all dist i t done l =
+      done t ∙ by-cases (decLt t i)
+      (λ h. rw (lt-ltb t i h) refl)
+      (λ nh. rw (le-ltb t i (omega arith)) (sym (cell-past m (near dist₀ j) j t (getD dist₀ t 0) (omega arith))))
 
   module _ (dist : List ℕ) (i : ℕ) (done : Done m dist₀ j dist i) where
     same-near : near dist j ≡ near dist₀ j

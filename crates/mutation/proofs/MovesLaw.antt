@@ -202,9 +202,6 @@ module _ (sh : Sheet) (n k : ℕ) (output target first mutated diverted site b :
       em ∙ ap (λ (t : ℕ). getD (transitions sh (i / 16) (i % 16)) t idle) (e ∙ choice-is)
       ∙ sym (step-at sh b (i / 16) (i % 16) (omega (arith, is .ruled .states)) (omega (arith, is .ruled .inputs)))
 
-  pub step-no-state : n ≤ i / 16 → idle ≡ step sh b (i / 16) (i % 16)
-  step-no-state l = sym (step-outside sh b (i / 16) (i % 16) (λ ls lx. omega (arith, is .ruled .states)))
-
   pub step-no-input : k ≤ i % 16 → idle ≡ step sh b (i / 16) (i % 16)
   step-no-input l = sym (step-outside sh b (i / 16) (i % 16) (λ ls lx. omega (arith, is .ruled .inputs)))
 
@@ -228,5 +225,5 @@ module _ (sh : Sheet) (b mo mn : List ℕ) where
       before : (t : ℕ) → t < i + 1 → (t ≡ i → ⊥) → t < i
       before t l ne = by-cases (decLt t i) (λ h. h) (λ nh. absurd (ne (omega arith)))
 
-  pub moves-all : (i : ℕ) → 256 ≤ i → Moves sh b mo mn i → Moves sh b mo mn 256
-  moves-all i l inv = record { output = λ t lt. inv .output t (omega arith); target = λ t lt. inv .target t (omega arith) }
+  pub moves-fewer : (i j : ℕ) → j ≤ i → Moves sh b mo mn i → Moves sh b mo mn j
+  moves-fewer i j l inv = record { output = λ t lt. inv .output t (omega arith); target = λ t lt. inv .target t (omega arith) }

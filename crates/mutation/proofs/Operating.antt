@@ -49,7 +49,7 @@ module _ (sh : Sheet) (size : Summary) (t : Tables) (rd : Read sh size t) (b : L
       Prepared sh b n k start (t .output) (t .target) (r .output) (r .target)
   prepared e n k start en ek es =
       let ruled = read-ruled sh size t rd n k en ek in
-      let moved = is .moves (machine-mutant e) in
+      let moved = subst (λ (d : ℕ). Moves sh b (r .output) (r .target) (16 * d)) (sym (ruled .states)) (is .moves (machine-mutant e)) in
       record {
         states = ruled .states;
         inputs = ruled .inputs;

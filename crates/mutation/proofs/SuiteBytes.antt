@@ -69,11 +69,12 @@ module _ (sh : Sheet) (t : ℕ) (l : t < length (sh .tests)) where
         }
 
 -- as the tables and the sheet's bytes have them
-pub suite-tests : (sh : Sheet) (size : Summary) (tables : Tables) → Read sh size tables → (s : List ℕ) → encode sh ≡ s → (b : List ℕ) →
-    Tests (against sh b) s (tables .starts) (tables .lengths) (size .tests) (sh .tests)
+pub suite-tests : (sh : Sheet) (size : Summary) (tables : Tables) → Read sh size tables → (s : List ℕ) → encode sh ≡ s → (b : List ℕ) {m : Pair} → m ≡ against sh b →
+    Tests m s (tables .starts) (tables .lengths) (size .tests) (sh .tests)
 unfolding summaryOf
-suite-tests sh size tables rd s e b =
-    let many : size .tests ≡ length (sh .tests) = ap (λ (z : Summary). z .tests) (rd .summary) in
+suite-tests sh size tables rd s e b same =
+    rw same
+    (let many : size .tests ≡ length (sh .tests) = ap (λ (z : Summary). z .tests) (rd .summary) in
     let tabled = rd .tabled in
     record {
       many = sym many;
@@ -83,13 +84,13 @@ suite-tests sh size tables rd s e b =
           rw (← e, tabled)
           (test-at sh t lt (omega (arith, rd .formed .few-tests)) b
           (all-at-index (Specified sh) (sh .tests) t [] lt (test-specified sh (rd .formed))));
-    }
+    })
 
 failed-in : (sh : Sheet) (b : List ℕ) (ts : List (List ℕ)) → failedFrom (against sh b) ts ≡ firstFailedIn sh b ts
 unfolding failedFrom firstFailedIn wrongFrom wrongIn specified outputs
 failed-in sh b [] = refl
 failed-in sh b (t ∷ ts) = rw (failed-in sh b ts) refl
 
-pub failed-is : (sh : Sheet) (b : List ℕ) → failedFrom (against sh b) (sh .tests) ≡ firstFailedOf sh b
+pub failed-is : (sh : Sheet) (b : List ℕ) {m : Pair} → m ≡ against sh b → failedFrom m (sh .tests) ≡ firstFailedOf sh b
 unfolding firstFailedOf
-failed-is sh b = failed-in sh b (sh .tests)
+failed-is sh b same = rw same (failed-in sh b (sh .tests))

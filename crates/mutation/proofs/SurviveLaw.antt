@@ -10,7 +10,7 @@ use mathlib.Core.Bool.{Bool, true, false, cond, _&&_}
 use mathlib.Core.Option.{Option, none, some}
 use mathlib.Core.List.{List, [], _∷_, _++_, append-assoc}
 use borrow.Author.Count.{below-more}
-use borrow.Author.Tests.{lt-ltb, ltb-true, eq-eqb, ne-eqb}
+use borrow.Author.Tests.{lt-ltb, le-ltb, ltb-true, eq-eqb, ne-eqb}
 use lib.Dec.{eqb, ltb}
 use lib.ListN.{length, getD, take, drop, set, length-append, length-drop, length-set}
 use lib.Seq.{drop-cons, getD-take, getD-set-same, getD-set-other}
@@ -59,28 +59,26 @@ chosen-at m p k i ne e = ap (λ (j : ℕ). getD p j 0) e ∙ chosen-some m p k n
 
 -- ---- what the mutant does at an index
 
--- outside the states and inputs nothing
-pub acts-outside : (m p : List ℕ) (k : ℕ) (r : Step) → (k / 16 < statesOf m → k % 16 < inputsOf m → ⊥) → r .output ≡ 0 → r .target ≡ 0 → Acts m p k r
+-- outside the inputs nothing
+pub acts-outside : (m p : List ℕ) (k : ℕ) (r : Step) → inputsOf m ≤ k % 16 → r .output ≡ 0 → r .target ≡ 0 → Acts m p k r
 unfolding stepOf
 acts-outside m p k r out eo et = record { output = eo ∙ ap (λ (t : Move). t .output) (sym idles); target = et ∙ ap (λ (t : Move). t .target) (sym idles) }
   where
     idles : stepOf m p (k / 16) (k % 16) ≡ idle
-    idles = go (ltb (k / 16) (statesOf m)) refl (ltb (k % 16) (inputsOf m)) refl
+    idles = rw (le-ltb (k % 16) (inputsOf m) out) (go (ltb (k / 16) (statesOf m)))
       where
-        go : (c : Bool) → ltb (k / 16) (statesOf m) ≡ c → (d : Bool) → ltb (k % 16) (inputsOf m) ≡ d →
-            cond (c && d) (choiceOf m (pair (k / 16) (k % 16)) (chosen m p (pair (k / 16) (k % 16)))) idle ≡ idle
-        go true ec true ed = absurd (out (ltb-true (k / 16) (statesOf m) ec) (ltb-true (k % 16) (inputsOf m) ed))
-        go true ec false ed = refl
-        go false ec d ed = refl
+        go : (c : Bool) → cond (c && false) (choiceOf m (pair (k / 16) (k % 16)) (chosen m p (pair (k / 16) (k % 16)))) idle ≡ idle
+        go true = refl
+        go false = refl
 
 -- inside them the transition of its choice
-pub acts-inside : (m p : List ℕ) (k c : ℕ) (r : Step) → Wf m → Chosen m p → k < 256 → k / 16 < statesOf m → k % 16 < inputsOf m →
+pub acts-inside : (m p : List ℕ) (k c : ℕ) (r : Step) → Wf m → Chosen m p → k / 16 < statesOf m → k % 16 < inputsOf m →
     c ≡ chosen m p k → StepIs m k c r → Acts m p k r
 unfolding stepOf
-acts-inside m p k c r wf ch l ls lx ec st =
+acts-inside m p k c r wf ch ls lx ec st =
     let e : pair (k / 16) (k % 16) ≡ k = omega arith in
     let is : stepOf m p (k / 16) (k % 16) ≡ choiceOf m k c = rw (lt-ltb (k / 16) (statesOf m) ls, lt-ltb (k % 16) (inputsOf m) lx, e, ec) refl in
-    let low : c < choicesAt m k = rw ec (ch .at k l) in
+    let low : c < choicesAt m k = rw ec (ch .at k (omega (arith, wf .few-states))) in
     record {
       output = st .output wf low ∙ ap (λ (t : Move). t .output) (sym is);
       target = st .target wf low ∙ ap (λ (t : Move). t .target) (sym is);
@@ -114,9 +112,9 @@ laid-more m p so sn mo mn k o t r l₁ l₂ l₃ l₄ h eo et a =
       target = one-more mn (λ i. stepOf m p (i / 16) (i % 16) .target) k (r .target) l₄ (h .target) (a .target);
     }
 
--- all of them
-pub laid-all : (m p so sn mo mn : List ℕ) (k : ℕ) → Laid m p so sn mo mn k → 256 ≤ k → Laid m p so sn mo mn 256
-laid-all m p so sn mo mn k h l =
+-- as far as asked
+pub laid-fewer : (m p so sn mo mn : List ℕ) (k j : ℕ) → Laid m p so sn mo mn k → j ≤ k → Laid m p so sn mo mn j
+laid-fewer m p so sn mo mn k j h l =
     record {
       rule-output = λ t s. h .rule-output t (omega arith);
       rule-target = λ t s. h .rule-target t (omega arith);
@@ -288,6 +286,7 @@ module _ {sh : Sheet} {m bytes p : List ℕ} {n : ℕ} (w : Searching sh m bytes
   -- a state and an input of the sheet
   record Here (s x : ℕ) : Type 0 where
     low : pair s x < 256
+    laid : pair s x < 16 * statesOf m
     state : pair s x / 16 ≡ s
     input : pair s x % 16 ≡ x
     same : slot s x ≡ pair s x
@@ -296,7 +295,7 @@ module _ {sh : Sheet} {m bytes p : List ℕ} {n : ℕ} (w : Searching sh m bytes
   here s x ls lx =
       let c = w .formed .size .states .few in
       let d = w .formed .size .inputs .few in
-      record { low = omega arith; state = omega arith; input = omega arith; same = omega arith }
+      record { low = omega arith; laid = omega (arith, w .block .states); state = omega arith; input = omega arith; same = omega arith }
 
   step-taken : (s x : ℕ) → Here s x → stepOf m p s x ≡ step sh b s x
   unfolding stepOf
@@ -304,18 +303,18 @@ module _ {sh : Sheet} {m bytes p : List ℕ} {n : ℕ} (w : Searching sh m bytes
       ap (λ (c : ℕ). cond (ltb s (statesOf m) && ltb x (inputsOf m)) (choiceOf m (pair s x) c) idle) (chosen-same (pair s x) (h .low))
       ∙ ap (λ (f : ℕ → ℕ → Move). f s x) (step-same sh m (w .formed) (w .block) b is)
 
-  module _ {so sn mo mn : List ℕ} (l : Laid m p so sn mo mn 256) where
+  module _ {so sn mo mn : List ℕ} (l : Laid m p so sn mo mn (16 * statesOf m)) where
     rule-output-at : (s x : ℕ) → Here s x → getD so (pair s x) 0 ≡ maybe (ruleAt (sh .rules) s x) 255 (λ r. r .output)
-    rule-output-at s x h = l .rule-output (pair s x) (h .low) ∙ w .block .outputs (pair s x) (h .low) ∙ rw (h .state, h .input) refl
+    rule-output-at s x h = l .rule-output (pair s x) (h .laid) ∙ w .block .outputs (pair s x) (h .low) ∙ rw (h .state, h .input) refl
 
     rule-target-at : (s x : ℕ) → Here s x → getD sn (pair s x) 0 ≡ maybe (ruleAt (sh .rules) s x) 255 (λ r. r .target)
-    rule-target-at s x h = l .rule-target (pair s x) (h .low) ∙ w .block .targets (pair s x) (h .low) ∙ rw (h .state, h .input) refl
+    rule-target-at s x h = l .rule-target (pair s x) (h .laid) ∙ w .block .targets (pair s x) (h .low) ∙ rw (h .state, h .input) refl
 
     output-at : (s x : ℕ) → Here s x → getD mo (pair s x) 0 ≡ step sh b s x .output
-    output-at s x h = l .output (pair s x) (h .low) ∙ rw (h .state, h .input) (ap (λ (t : Move). t .output) (step-taken s x h))
+    output-at s x h = l .output (pair s x) (h .laid) ∙ rw (h .state, h .input) (ap (λ (t : Move). t .output) (step-taken s x h))
 
     target-at : (s x : ℕ) → Here s x → getD mn (pair s x) 0 ≡ step sh b s x .target
-    target-at s x h = l .target (pair s x) (h .low) ∙ rw (h .state, h .input) (ap (λ (t : Move). t .target) (step-taken s x h))
+    target-at s x h = l .target (pair s x) (h .laid) ∙ rw (h .state, h .input) (ap (λ (t : Move). t .target) (step-taken s x h))
 
     spec-at : (s x : ℕ) (r : Move) → rule sh s x ≡ some r → (getD so (slot s x) 0 ≡ r .output) × (getD sn (slot s x) 0 ≡ r .target)
     unfolding rule

@@ -1,5 +1,5 @@
 -- An accepted sheet as the reading layer hands it over, and a mutant of it.
-use Prim.Native.Nat.{ℕ, _<_}
+use Prim.Native.Nat.{ℕ, _*_, _<_}
 use mathlib.Core.Path.{_≡_}
 use mathlib.Core.Bool.{Bool, cond}
 use mathlib.Core.Option.{Option, none, some}
@@ -42,4 +42,4 @@ fitOf sh b = fitAnswer (withMutant sh b (accepted tt))
 
 pub record Machined (sh : Sheet) (b : List ℕ) (r : Machine) : Type 0 where
   pub fits : r .fit ≡ fitOf sh b
-  pub moves : IsMutant sh b → Moves sh b (r .output) (r .target) 256
+  pub moves : IsMutant sh b → Moves sh b (r .output) (r .target) (16 * sh .size .states)

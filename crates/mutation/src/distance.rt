@@ -2,7 +2,7 @@
 // state * 16 + input, mo and mn the mutant's.
 ghost use mathlib.Core.Path.{_≡_};
 ghost use mathlib.Core.Bool.{false};
-ghost use Prim.Native.Nat.{ℕ, _+_, _*_, _≤_, _<_};
+ghost use Prim.Native.Nat.{ℕ, _+_, _*_, _/_, _≤_, _<_};
 ghost use lib.ListN.{length, getD, replicate};
 ghost use Rattle.model.specs.Compare.{least, shortest, comparePair};
 ghost use Rattle.model.specs.Compare.{shows as showsOf};
@@ -105,7 +105,7 @@ fn first_showing(
     x
 }
 
-// The distance at an index of the table after one more round.
+// The distance at an index of one of the n states after one more round.
 fn cell(
     so: &[u8; 256],
     sn: &[u8; 256],
@@ -118,22 +118,18 @@ fn cell(
     j: u16,
 ) -> u16
     requires { ⌜ Valid n k (now so) (now sn) (now mo) (now mn) ⌝ }
-    requires { ⌜ (i < 256) × (j < 256) ⌝ }
+    requires { ⌜ (i / 16 < n) × (j < 256) ⌝ }
     ensures { λ r. ⌜ ((start : ℕ) → r ≡ cellOf (tables n k start (now (so .entry)) (now (sn .entry)) (now (mo .entry)) (now (mn .entry))) (now (dist .entry)) j i) ⌝ }
 {
     let d = dist[i];
     if d <= j {
         return d;
     }
-    let p = i / 16;
     let q = i % 16;
-    if p >= n {
-        return d;
-    }
     if q >= n {
         return d;
     }
-    if first_showing(so, sn, mo, mn, dist, n, k, p, q, j) < k {
+    if first_showing(so, sn, mo, mn, dist, n, k, i / 16, q, j) < k {
         return j + 1;
     }
     d
@@ -158,7 +154,7 @@ fn round(
 {
     let mut changed = false;
     let mut i = 0;
-    while i < 256 {
+    while i < 16 * n {
         let d = cell(so, sn, mo, mn, dist, n, k, i, j);
         if d != dist[i] {
             dist[i] = d;
@@ -211,11 +207,11 @@ fn unmarked() -> [u16; 256]
 }
 
 // Conforming, or the shortest, then smallest, distinguishing sequence, written at the front of buf.
-pub(crate) fn distinguish(
-    so: &[u8; 256],
-    sn: &[u8; 256],
-    mo: &[u8; 256],
-    mn: &[u8; 256],
+pub(crate) fn distinguish<'a, 'b>(
+    so: &'a [u8; 256],
+    sn: &'a [u8; 256],
+    mo: &'b [u8; 256],
+    mn: &'b [u8; 256],
     n: usize,
     k: usize,
     start: usize,
@@ -263,9 +259,14 @@ pub(crate) fn compare_accepted(
     if buffer.len() < bound(n) as usize {
         return Compared::Refused(16, 0);
     }
-    let so = tables.output;
-    let sn = tables.target;
-    let mo = machine.output;
-    let mn = machine.target;
-    distinguish(&so, &sn, &mo, &mn, n, wide(size.inputs), initial(), buffer)
+    distinguish(
+        &tables.output,
+        &tables.target,
+        &machine.output,
+        &machine.target,
+        n,
+        wide(size.inputs),
+        initial(),
+        buffer,
+    )
 }

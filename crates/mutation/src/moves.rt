@@ -82,7 +82,7 @@ fn transition(
     }
 }
 
-// What the mutant does at an index: nothing outside the n states and k inputs.
+// What the mutant does at an index of one of the n states: nothing outside the k inputs.
 fn move_at(
     output: &[u8; 256],
     target: &[u8; 256],
@@ -96,15 +96,9 @@ fn move_at(
     i: usize,
 ) -> Move
     requires { ⌜ ((sh : Sheet) × Ready sh n k (now output) (now target) (now first) (now mutated) (now diverted) (now site) (now mutant)) ⌝ }
-    requires { ⌜ i < 256 ⌝ }
+    requires { ⌜ (i < 256) × (i / 16 < n) ⌝ }
     ensures { λ r. ⌜ ((sh : Sheet) → Ready sh n k (now (output .entry)) (now (target .entry)) (now (first .entry)) (now (mutated .entry)) (now (diverted .entry)) (now (site .entry)) (now (mutant .entry)) → asMove r ≡ step sh (now (mutant .entry)) (i / 16) (i % 16)) ⌝ }
 {
-    if i / 16 >= n {
-        return Move {
-            output: 0,
-            target: 0,
-        };
-    }
     if i % 16 >= k {
         return Move {
             output: 0,
@@ -115,13 +109,13 @@ fn move_at(
     transition(output, target, first, mutated, diverted, n, k, i, c)
 }
 
-// Fills the mutant's own tables of outputs and next states.
-pub(crate) fn fill(
-    output: &[u8; 256],
-    target: &[u8; 256],
-    first: &[u16; 256],
-    mutated: &[u8; 256],
-    diverted: &[u8; 256],
+// Fills the mutant's own tables of outputs and next states, at the indices of the n states.
+fn fill<'a>(
+    output: &'a [u8; 256],
+    target: &'a [u8; 256],
+    first: &'a [u16; 256],
+    mutated: &'a [u8; 256],
+    diverted: &'a [u8; 256],
     site: &[u8; 256],
     mutant: &[u8],
     n: usize,
@@ -131,10 +125,10 @@ pub(crate) fn fill(
 )
     requires { ⌜ ((sh : Sheet) × Ready sh n k (now output) (now target) (now first) (now mutated) (now diverted) (now site) (now mutant)) ⌝ }
     requires { ⌜ (length (now mo) ≡ 256) × (length (now mn) ≡ 256) ⌝ }
-    ensures { λ r. ⌜ ((sh : Sheet) → Ready sh n k (now (output .entry)) (now (target .entry)) (now (first .entry)) (now (mutated .entry)) (now (diverted .entry)) (now (site .entry)) (now (mutant .entry)) → Moves sh (now (mutant .entry)) (now (mo .exit)) (now (mn .exit)) 256) ⌝ }
+    ensures { λ r. ⌜ ((sh : Sheet) → Ready sh n k (now (output .entry)) (now (target .entry)) (now (first .entry)) (now (mutated .entry)) (now (diverted .entry)) (now (site .entry)) (now (mutant .entry)) → Moves sh (now (mutant .entry)) (now (mo .exit)) (now (mn .exit)) (16 * n)) ⌝ }
 {
     let mut i: usize = 0;
-    while i < 256 {
+    while i < 16 * n {
         let m = move_at(
             output,
             target,
@@ -166,10 +160,8 @@ pub(crate) fn machine_of(size: Summary, tables: Tables, mutant: &[u8]) -> Machin
 {
     let n = wide(size.states);
     let k = wide(size.inputs);
-    let choices = tables.choices;
-    let sites = number(&choices, n, k);
-    let slots = sites.slots;
-    let fit = fits(&slots, sites.count, mutant);
+    let sites = number(&tables.choices, n, k);
+    let fit = fits(&sites.slots, sites.count, mutant);
     let mut mo = blank();
     let mut mn = blank();
     if let Fit::Refused(_, _) = fit {
@@ -179,19 +171,13 @@ pub(crate) fn machine_of(size: Summary, tables: Tables, mutant: &[u8]) -> Machin
             target: mn,
         };
     }
-    let output = tables.output;
-    let target = tables.target;
-    let first = tables.first;
-    let mutated = tables.mutated;
-    let diverted = tables.diverted;
-    let site = sites.site;
     fill(
-        &output,
-        &target,
-        &first,
-        &mutated,
-        &diverted,
-        &site,
+        &tables.output,
+        &tables.target,
+        &tables.first,
+        &tables.mutated,
+        &tables.diverted,
+        &sites.site,
         mutant,
         n,
         k,

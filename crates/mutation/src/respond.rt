@@ -20,7 +20,7 @@ use sheet::Summary;
 use sheet::Tables;
 
 // The lowest index of an input that is not below k; how many inputs there are where there is none.
-pub(crate) fn first_over(k: usize, inputs: &[u8]) -> usize
+fn first_over(k: usize, inputs: &[u8]) -> usize
     ensures { λ r. ⌜ r ≡ indexOr (length (now (inputs .entry))) (firstOver k (now (inputs .entry))) ⌝ }
 {
     let mut i: usize = 0;
@@ -34,9 +34,9 @@ pub(crate) fn first_over(k: usize, inputs: &[u8]) -> usize
 }
 
 // Writes one output for each input at the buffer's front.
-pub(crate) fn respond(
-    mo: &[u8; 256],
-    mn: &[u8; 256],
+fn respond<'a>(
+    mo: &'a [u8; 256],
+    mn: &'a [u8; 256],
     n: usize,
     k: usize,
     start: usize,
@@ -84,8 +84,14 @@ pub(crate) fn run_accepted(
     if buffer.len() < inputs.len() {
         return Ran::Refused(16, 0);
     }
-    let mo = machine.output;
-    let mn = machine.target;
-    respond(&mo, &mn, wide(size.states), k, initial(), inputs, buffer);
+    respond(
+        &machine.output,
+        &machine.target,
+        wide(size.states),
+        k,
+        initial(),
+        inputs,
+        buffer,
+    );
     Ran::Done
 }

@@ -64,15 +64,15 @@ fn first_wrong(
 }
 
 // The first test that the machine fails and the position in it of the first wrong output.
-pub(crate) fn first_failure(
+fn first_failure<'a, 'b>(
     sheet: &[u8],
-    starts: &[u16; 256],
-    lengths: &[u16; 256],
+    starts: &'a [u16; 256],
+    lengths: &'a [u16; 256],
     count: usize,
-    so: &[u8; 256],
-    sn: &[u8; 256],
-    mo: &[u8; 256],
-    mn: &[u8; 256],
+    so: &'a [u8; 256],
+    sn: &'a [u8; 256],
+    mo: &'b [u8; 256],
+    mn: &'b [u8; 256],
     n: usize,
     k: usize,
     start: usize,
@@ -120,23 +120,17 @@ pub(crate) fn first_failed_accepted(
     if let Fit::Refused(number, place) = fit {
         return Failed::Refused(number, place);
     }
-    let starts = tables.starts;
-    let lengths = tables.lengths;
-    let so = tables.output;
-    let sn = tables.target;
-    let mo = machine.output;
-    let mn = machine.target;
     let n = wide(size.states);
     let k = wide(size.inputs);
     first_failure(
         sheet,
-        &starts,
-        &lengths,
+        &tables.starts,
+        &tables.lengths,
         size.tests,
-        &so,
-        &sn,
-        &mo,
-        &mn,
+        &tables.output,
+        &tables.target,
+        &machine.output,
+        &machine.target,
         n,
         k,
         initial(),

@@ -13,7 +13,7 @@ ghost use mathlib.Core.Path.{_≡_};
 ghost use Prim.Native.Nat.{ℕ, _+_, _*_, _/_, _%_, _≤_, _<_};
 ghost use lib.ListN.{length, getD, take, replicate};
 ghost use Rattle.sheet.specs.Sheet.{Sheet};
-ghost use Rattle.engine.specs.Machine.{Wf, chosen};
+ghost use Rattle.engine.specs.Machine.{Wf, statesOf, chosen};
 ghost use Rattle.mutation.specs.Search.{isSurvivor, Searching};
 ghost use Rattle.mutation.specs.Survive.{slot, walkOf, Chosen, Acts, Laid};
 
@@ -29,17 +29,11 @@ fn choice_at(block: &[u8; 1603], p: &[u16; 32], k: usize) -> u16
     p[wide(i)]
 }
 
-// What the mutant p does at an index.
+// What the mutant p does at an index of one of the states.
 fn act(block: &[u8; 1603], p: &[u16; 32], k: usize) -> Step
-    requires { ⌜ Wf (now block) × Chosen (now block) (now p) × (k < 256) ⌝ }
+    requires { ⌜ Wf (now block) × Chosen (now block) (now p) × (k / 16 < statesOf (now block)) ⌝ }
     ensures { λ r. ⌜ Acts (now (block .entry)) (now (p .entry)) k r ⌝ }
 {
-    if k / 16 >= wide(states(block)) {
-        return Step {
-            output: 0,
-            target: 0,
-        };
-    }
     if k % 16 >= wide(inputs(block)) {
         return Step {
             output: 0,
@@ -50,7 +44,7 @@ fn act(block: &[u8; 1603], p: &[u16; 32], k: usize) -> Step
     transition(block, k, c)
 }
 
-// Lays out the rules in so and sn, and what the mutant p does in mo and mn.
+// Lays out the rules in so and sn, and what the mutant p does in mo and mn, at the indices of the states.
 pub(crate) fn lay(
     block: &[u8; 1603],
     p: &[u16; 32],
@@ -61,10 +55,11 @@ pub(crate) fn lay(
 )
     requires { ⌜ Wf (now block) × Chosen (now block) (now p) ⌝ }
     requires { ⌜ (length (now so) ≡ 256) × (length (now sn) ≡ 256) × (length (now mo) ≡ 256) × (length (now mn) ≡ 256) ⌝ }
-    ensures { λ r. ⌜ Laid (now (block .entry)) (now (p .entry)) (now (so .exit)) (now (sn .exit)) (now (mo .exit)) (now (mn .exit)) 256 ⌝ }
+    ensures { λ r. ⌜ Laid (now (block .entry)) (now (p .entry)) (now (so .exit)) (now (sn .exit)) (now (mo .exit)) (now (mn .exit)) (16 * statesOf (now (block .entry))) ⌝ }
 {
+    let n = wide(states(block));
     let mut k: usize = 0;
-    while k < 256 {
+    while k < 16 * n {
         let r = act(block, p, k);
         so[k] = rule_output(block, k);
         sn[k] = rule_target(block, k);

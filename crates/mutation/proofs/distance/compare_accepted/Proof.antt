@@ -9,13 +9,6 @@ use Rattle.mutation.proofs.Operating.{prepared, compare-refused, compar
 use borrow.Author.Needs.{needs}
 use Rattle.mutation.proofs.distance.compare_accepted.Statement.{statement}
 use Rattle.mutation.proofs.distance.compare_accepted.Tie as tie
-use Rattle.mutation.proofs.distance.compare_accepted.Reads as reads
-use Rattle.mutation.proofs.distance.compare_accepted.Lts as lts
-use Rattle.mutation.proofs.distance.bound.Reads as bound-reads
-use Rattle.mutation.proofs.distance.distinguish.Reads as distinguish-reads
-use Rattle.mutation.proofs.moves.initial.Reads as initial-reads
-use Rattle.mutation.proofs.moves.machine_of.Reads as machine-of-reads
-use Rattle.mutation.proofs.moves.wide.Reads as wide-reads
 
 machine-of-requires : tie.Need-machine-of-requires
 machine-of-requires c κs = c .before .before .pre
@@ -25,8 +18,8 @@ enum-known-fit c = search needs
 
 returns : tie.Need-returns
 returns c = let a = c .before .before .before .before .before .before .args in (
-  (λ sh rd. sym (ap comparedAnswer (compare-refused sh (a .size) (a .tables) rd (a .mutant .now) (c .before .before .before .machine-of .result) (c .before .before .before .machine-of .ensures sh rd) _ _ (c .before .fit .given .1) (length (a .buffer .now))))),
-  (λ sh rd. sym (ap (λ q. overlay (comparedWrites q) (a .buffer .now)) (compare-refused sh (a .size) (a .tables) rd (a .mutant .now) (c .before .before .before .machine-of .result) (c .before .before .before .machine-of .ensures sh rd) _ _ (c .before .fit .given .1) (length (a .buffer .now))))),
+  (λ sh rd. sym (ap comparedAnswer (compare-refused sh _ _ rd _ _ (c .before .before .before .machine-of .ensures sh rd) _ _ (c .before .fit .given .1) (length (a .buffer .now))))),
+  (λ sh rd. sym (ap (λ q. overlay (comparedWrites q) (a .buffer .now)) (compare-refused sh _ _ rd _ _ (c .before .before .before .machine-of .ensures sh rd) _ _ (c .before .fit .given .1) (length (a .buffer .now))))),
 )
 
 enum-told : tie.Need-enum-told
@@ -36,15 +29,15 @@ wide-requires : tie.Need-wide-requires
 wide-requires c κs = search needs
 
 bound-requires : tie.Need-bound-requires
-bound-requires c κs = let a = c .before .before .before .before .before .before .args in let p = c .before .before .before .before .before .before .pre in (omega (arith, c .wide .ensures, read-states (p .0) (a .size) (a .tables) (p .1), p .1 .formed .size .states .some), omega (arith, c .wide .ensures, read-states (p .0) (a .size) (a .tables) (p .1), p .1 .formed .size .states .few))
+bound-requires c κs = let a = c .before .before .before .before .before .before .args in let p = c .before .before .before .before .before .before .pre in (omega (arith, c .wide .ensures, read-states (p .0) _ _ (p .1), p .1 .formed .size .states .some), omega (arith, c .wide .ensures, read-states (p .0) _ _ (p .1), p .1 .formed .size .states .few))
 
 cast-if1 : tie.Need-cast-if1
 cast-if1 c = search needs
 
 returns-2 : tie.Need-returns-2
 returns-2 c = let a = c .before .before .before .before .before .before .before .before .args in (
-  (λ sh rd. sym (ap comparedAnswer (compare-short sh (a .size) (a .tables) rd (a .mutant .now) (c .before .before .before .before .before .machine-of .result) (c .before .before .before .before .before .machine-of .ensures sh rd) (c .before .before .before .enum-told .given .1) (c .before .before .wide .result) (c .before .before .wide .ensures) (length (a .buffer .now)) (rw (c .before .bound .ensures) at (c .if1 .taken))))),
-  (λ sh rd. sym (ap (λ q. overlay (comparedWrites q) (a .buffer .now)) (compare-short sh (a .size) (a .tables) rd (a .mutant .now) (c .before .before .before .before .before .machine-of .result) (c .before .before .before .before .before .machine-of .ensures sh rd) (c .before .before .before .enum-told .given .1) (c .before .before .wide .result) (c .before .before .wide .ensures) (length (a .buffer .now)) (rw (c .before .bound .ensures) at (c .if1 .taken))))),
+  (λ sh rd. sym (ap comparedAnswer (compare-short sh _ _ rd _ _ (c .before .before .before .before .before .machine-of .ensures sh rd) (c .before .before .before .enum-told .given .1) _ (c .before .before .wide .ensures) (length (a .buffer .now)) (rw (c .before .bound .ensures) at (c .if1 .taken))))),
+  (λ sh rd. sym (ap (λ q. overlay (comparedWrites q) (a .buffer .now)) (compare-short sh _ _ rd _ _ (c .before .before .before .before .before .machine-of .ensures sh rd) (c .before .before .before .enum-told .given .1) _ (c .before .before .wide .ensures) (length (a .buffer .now)) (rw (c .before .bound .ensures) at (c .if1 .taken))))),
 )
 
 wide-requires-2 : tie.Need-wide-requires-2
@@ -54,15 +47,15 @@ initial-requires : tie.Need-initial-requires
 initial-requires c κs = search needs
 
 distinguish-requires : tie.Need-distinguish-requires
-distinguish-requires c κs = let a = c .before .before .before .before .before .before .before .before .before .before .before .before .before .before .before .before .before .before .before .args in let p = c .before .before .before .before .before .before .before .before .before .before .before .before .before .before .before .before .before .before .before .pre in let q = prepared (p .0) (a .size) (a .tables) (p .1) (a .mutant .now) (c .before .before .before .before .before .before .before .before .before .before .before .before .before .before .before .before .machine-of .result) (c .before .before .before .before .before .before .before .before .before .before .before .before .before .before .before .before .machine-of .ensures (p .0) (p .1)) (c .before .before .before .before .before .before .before .before .before .before .before .before .before .before .enum-told .given .1) (c .before .before .before .before .before .before .before .before .before .before .before .before .before .wide .result) (c .before .before .wide2 .result) (c .before .initial .result) (c .before .before .before .before .before .before .before .before .before .before .before .before .before .wide .ensures) (c .before .before .wide2 .ensures) (c .before .initial .ensures (p .0) (a .mutant .now)) in (q .valid, (q .low, rw (c .before .before .before .before .before .before .before .before .before .before .before .before .bound .ensures) at (c .before .before .before .before .before .before .before .before .before .before .before .if1 .left)))
+distinguish-requires c κs = let a = c .before .before .before .before .before .before .before .before .before .before .before .before .before .before .before .before .before .args in let p = c .before .before .before .before .before .before .before .before .before .before .before .before .before .before .before .before .before .pre in let q = prepared (p .0) _ _ (p .1) _ _ (c .before .before .before .before .before .before .before .before .before .before .before .before .before .before .machine-of .ensures (p .0) (p .1)) (c .before .before .before .before .before .before .before .before .before .before .before .before .enum-told .given .1) _ _ _ (c .before .before .before .before .before .before .before .before .before .before .before .wide .ensures) (c .before .before .wide2 .ensures) (c .before .initial .ensures (p .0) (a .mutant .now)) in (q .valid, (q .low, rw (c .before .before .before .before .before .before .before .before .before .before .bound .ensures) at (c .before .before .before .before .before .before .before .before .before .if1 .left)))
 
 same-length : tie.Need-same-length
 same-length c = search needs
 
 returns-3 : tie.Need-returns-3
-returns-3 c = let a = c .before .before .before .before .before .before .before .before .before .before .before .before .before .before .before .before .before .before .before .before .before .before .args in (
-  (λ sh rd. c .before .before .distinguish .ensures .0 ∙ ap comparedOf (compare-is sh (a .mutant .now) (c .before .before .before .before .before .before .before .before .before .before .before .before .before .before .before .before .wide .result) (c .before .before .before .before .before .wide2 .result) (c .before .before .before .before .initial .result) (a .tables .output) (a .tables .target) (c .before .before .before .before .before .before .before .before .before .before .before .before .before .before .before .before .before .before .before .machine-of .result .output) (c .before .before .before .before .before .before .before .before .before .before .before .before .before .before .before .before .before .before .before .machine-of .result .target) (prepared sh (a .size) (a .tables) rd (a .mutant .now) (c .before .before .before .before .before .before .before .before .before .before .before .before .before .before .before .before .before .before .before .machine-of .result) (c .before .before .before .before .before .before .before .before .before .before .before .before .before .before .before .before .before .before .before .machine-of .ensures sh rd) (c .before .before .before .before .before .before .before .before .before .before .before .before .before .before .before .before .before .enum-told .given .1) (c .before .before .before .before .before .before .before .before .before .before .before .before .before .before .before .before .wide .result) (c .before .before .before .before .before .wide2 .result) (c .before .before .before .before .initial .result) (c .before .before .before .before .before .before .before .before .before .before .before .before .before .before .before .before .wide .ensures) (c .before .before .before .before .before .wide2 .ensures) (c .before .before .before .before .initial .ensures sh (a .mutant .now)))) ∙ sym (ap comparedAnswer (compare-done sh (a .size) (a .tables) rd (a .mutant .now) (c .before .before .before .before .before .before .before .before .before .before .before .before .before .before .before .before .before .before .before .machine-of .result) (c .before .before .before .before .before .before .before .before .before .before .before .before .before .before .before .before .before .before .before .machine-of .ensures sh rd) (c .before .before .before .before .before .before .before .before .before .before .before .before .before .before .before .before .before .enum-told .given .1) (c .before .before .before .before .before .before .before .before .before .before .before .before .before .before .before .before .wide .result) (c .before .before .before .before .before .before .before .before .before .before .before .before .before .before .before .before .wide .ensures) (length (a .buffer .now)) (rw (c .before .before .before .before .before .before .before .before .before .before .before .before .before .before .before .bound .ensures) at (c .before .before .before .before .before .before .before .before .before .before .before .before .before .before .if1 .left))))),
-  (λ sh rd. c .before .before .distinguish .ensures .1 ∙ ap (λ o. overlay (found o) (a .buffer .now)) (compare-is sh (a .mutant .now) (c .before .before .before .before .before .before .before .before .before .before .before .before .before .before .before .before .wide .result) (c .before .before .before .before .before .wide2 .result) (c .before .before .before .before .initial .result) (a .tables .output) (a .tables .target) (c .before .before .before .before .before .before .before .before .before .before .before .before .before .before .before .before .before .before .before .machine-of .result .output) (c .before .before .before .before .before .before .before .before .before .before .before .before .before .before .before .before .before .before .before .machine-of .result .target) (prepared sh (a .size) (a .tables) rd (a .mutant .now) (c .before .before .before .before .before .before .before .before .before .before .before .before .before .before .before .before .before .before .before .machine-of .result) (c .before .before .before .before .before .before .before .before .before .before .before .before .before .before .before .before .before .before .before .machine-of .ensures sh rd) (c .before .before .before .before .before .before .before .before .before .before .before .before .before .before .before .before .before .enum-told .given .1) (c .before .before .before .before .before .before .before .before .before .before .before .before .before .before .before .before .wide .result) (c .before .before .before .before .before .wide2 .result) (c .before .before .before .before .initial .result) (c .before .before .before .before .before .before .before .before .before .before .before .before .before .before .before .before .wide .ensures) (c .before .before .before .before .before .wide2 .ensures) (c .before .before .before .before .initial .ensures sh (a .mutant .now)))) ∙ sym (ap (λ q. overlay (comparedWrites q) (a .buffer .now)) (compare-done sh (a .size) (a .tables) rd (a .mutant .now) (c .before .before .before .before .before .before .before .before .before .before .before .before .before .before .before .before .before .before .before .machine-of .result) (c .before .before .before .before .before .before .before .before .before .before .before .before .before .before .before .before .before .before .before .machine-of .ensures sh rd) (c .before .before .before .before .before .before .before .before .before .before .before .before .before .before .before .before .before .enum-told .given .1) (c .before .before .before .before .before .before .before .before .before .before .before .before .before .before .before .before .wide .result) (c .before .before .before .before .before .before .before .before .before .before .before .before .before .before .before .before .wide .ensures) (length (a .buffer .now)) (rw (c .before .before .before .before .before .before .before .before .before .before .before .before .before .before .before .bound .ensures) at (c .before .before .before .before .before .before .before .before .before .before .before .before .before .before .if1 .left))))),
+returns-3 c = let a = c .before .before .before .before .before .before .before .before .before .before .before .before .before .before .before .before .before .before .before .before .args in (
+  (λ sh rd. c .before .before .distinguish .ensures .0 ∙ ap comparedOf (compare-is sh _ _ _ _ _ _ _ _ (prepared sh _ _ rd _ _ (c .before .before .before .before .before .before .before .before .before .before .before .before .before .before .before .before .before .machine-of .ensures sh rd) (c .before .before .before .before .before .before .before .before .before .before .before .before .before .before .before .enum-told .given .1) _ _ _ (c .before .before .before .before .before .before .before .before .before .before .before .before .before .before .wide .ensures) (c .before .before .before .before .before .wide2 .ensures) (c .before .before .before .before .initial .ensures sh (a .mutant .now)))) ∙ sym (ap comparedAnswer (compare-done sh _ _ rd _ _ (c .before .before .before .before .before .before .before .before .before .before .before .before .before .before .before .before .before .machine-of .ensures sh rd) (c .before .before .before .before .before .before .before .before .before .before .before .before .before .before .before .enum-told .given .1) _ (c .before .before .before .before .before .before .before .before .before .before .before .before .before .before .wide .ensures) (length (a .buffer .now)) (rw (c .before .before .before .before .before .before .before .before .before .before .before .before .before .bound .ensures) at (c .before .before .before .before .before .before .before .before .before .before .before .before .if1 .left))))),
+  (λ sh rd. c .before .before .distinguish .ensures .1 ∙ ap (λ o. overlay (found o) (a .buffer .now)) (compare-is sh _ _ _ _ _ _ _ _ (prepared sh _ _ rd _ _ (c .before .before .before .before .before .before .before .before .before .before .before .before .before .before .before .before .before .machine-of .ensures sh rd) (c .before .before .before .before .before .before .before .before .before .before .before .before .before .before .before .enum-told .given .1) _ _ _ (c .before .before .before .before .before .before .before .before .before .before .before .before .before .before .wide .ensures) (c .before .before .before .before .before .wide2 .ensures) (c .before .before .before .before .initial .ensures sh (a .mutant .now)))) ∙ sym (ap (λ q. overlay (comparedWrites q) (a .buffer .now)) (compare-done sh _ _ rd _ _ (c .before .before .before .before .before .before .before .before .before .before .before .before .before .before .before .before .before .machine-of .ensures sh rd) (c .before .before .before .before .before .before .before .before .before .before .before .before .before .before .before .enum-told .given .1) _ (c .before .before .before .before .before .before .before .before .before .before .before .before .before .before .wide .ensures) (length (a .buffer .now)) (rw (c .before .before .before .before .before .before .before .before .before .before .before .before .before .bound .ensures) at (c .before .before .before .before .before .before .before .before .before .before .before .before .if1 .left))))),
 )
 
 pub compare-accepted-spec : {M : Type 1} → statement M

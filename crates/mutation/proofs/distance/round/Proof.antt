@@ -1,29 +1,28 @@
 -- `round`: the cells below i are done, and each of the others is as it was.
-use Prim.Native.Nat.{ℕ, _≤_, _<_, _-_}
+use Prim.Native.Nat.{ℕ, _*_, _<_, _-_}
 use mathlib.Core.Path.{_≡_, refl, sym, _∙_}
 use mathlib.Core.Bool.{false}
 use mathlib.Core.Logic.{⊎-elim}
 use native.Mathlib.Omega.{arith}
-use borrow.Author.Needs.{needs}
 use lib.ListN.{length, length-set, getD}
 use Rattle.mutation.specs.Tables.{tables}
 use Rattle.mutation.proofs.MarksLaw.{Done, done-none, done-more, done-same, done-all}
 use Rattle.mutation.proofs.distance.round.Statement.{statement}
 use Rattle.mutation.proofs.distance.round.Tie as tie
-use Rattle.mutation.proofs.distance.round.Reads as reads
-use Rattle.mutation.proofs.distance.round.Lts as lts
-use Rattle.mutation.proofs.distance.cell.Reads as cell-reads
 
 abbrev Inv-loop : tie.InvT-loop
 Inv-loop so sn mo mn dist₀ n k j changed₀ i₀ dist changed i =
-    (i ≤ 256) × (length dist ≡ 256) × ((start : ℕ) → Done (tables n k start so sn mo mn) dist₀ j dist i)
+    (length dist ≡ 256) × ((start : ℕ) → Done (tables n k start so sn mo mn) dist₀ j dist i)
     × (changed ≡ false → (t : ℕ) → getD dist t 0 ≡ getD dist₀ t 0)
 
 abbrev μ-loop : tie.MeasureT-loop
-μ-loop so sn mo mn dist₀ n k j changed₀ i₀ dist changed i = 256 - i
+μ-loop so sn mo mn dist₀ n k j changed₀ i₀ dist changed i = 16 * n - i
 
 loop-holds : tie.Need-loop-holds Inv-loop μ-loop
-loop-holds c = (omega arith, c .pre .1 .1, λ start. done-none _ _ _, λ _ t. refl)
+loop-holds c = (c .pre .1 .1, λ start. done-none _ _ _, λ _ t. refl)
+
+mul-loop : tie.Need-mul-loop Inv-loop μ-loop
+mul-loop c = omega arith
 
 cell-requires : tie.Need-cell-requires Inv-loop μ-loop
 cell-requires c κs = (c .before .before .before .pre .0, (omega arith, omega arith))
@@ -53,21 +52,20 @@ loop-again c =
     let lt : l .i < length (l .dist) = omega arith in
     ⊎-elim
     (λ w. (
-      omega arith,
-      rw (w .1) (simp length-set (l .inv .1)),
-      λ start. rw (w .1) (done-more _ _ _ _ _ (l .inv .2 start) _ lt (e start)),
+      rw (w .1) (simp length-set (l .inv .0)),
+      λ start. rw (w .1) (done-more _ _ _ _ _ (l .inv .1 start) _ lt (e start)),
       λ f. let z : _≡_ {A = ℕ} 0 1 = cc in absurd (omega arith),
     ))
     (λ w. (
-      omega arith,
-      rw (w .1) (l .inv .1),
-      λ start. rw (w .1) (done-same _ _ _ _ _ (l .inv .2 start) lt (sym (w .0 .left) ∙ e start)),
-      λ f t. rw (w .1) (l .inv .3 (sym (w .2) ∙ f) t),
+      rw (w .1) (l .inv .0),
+      λ start. rw (w .1) (done-same _ _ _ _ _ (l .inv .1 start) lt (sym (w .0 .left) ∙ e start)),
+      λ f t. rw (w .1) (l .inv .2 (sym (w .2) ∙ f) t),
     ))
     (c .if1 .came)
 
 returns : tie.Need-returns Inv-loop μ-loop
-returns c = (c .before .loop .inv .1, (λ start i l. done-all _ _ _ _ _ i (c .before .loop .inv .2 start) (omega arith), c .before .loop .inv .3))
+unfolding tables
+returns c = let l = c .before .loop .inv in (l .0, (λ start t _. done-all _ _ _ _ _ t (l .1 start) (c .loop-test .left), l .2))
 
 pub round-spec : {M : Type 1} → statement M
 round-spec =
@@ -76,6 +74,7 @@ round-spec =
     Inv-loop
     μ-loop
     loop-holds
+    mul-loop
     cell-requires
     mul-if1
     element-copy-out-if1

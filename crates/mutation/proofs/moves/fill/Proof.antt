@@ -1,30 +1,33 @@
 -- `fill`: at each index before i both tables hold what the mutant does, for every sheet that these are the tables of.
-use Prim.Native.Nat.{_≤_, _-_}
-use mathlib.Core.Path.{_≡_, _∙_, subst}
+use Prim.Native.Nat.{_*_, _≤_, _-_}
+use mathlib.Core.Path.{_≡_}
 use native.Mathlib.Omega.{arith}
 use lib.ListN.{length, length-set}
 use Rattle.sheet.specs.Sheet.{Sheet}
 use Rattle.mutation.specs.Mutants.{Ready, Moves, asMove}
-use Rattle.mutation.proofs.MovesLaw.{moves-none, moves-more, moves-all}
+use Rattle.mutation.proofs.MovesLaw.{moves-none, moves-more, moves-fewer}
 use Rattle.mutation.proofs.moves.fill.Statement.{statement}
 use Rattle.mutation.proofs.moves.fill.Tie as tie
-use Rattle.mutation.proofs.moves.fill.Reads as reads
-use Rattle.mutation.proofs.moves.fill.Lts as lts
-use Rattle.mutation.proofs.moves.move_at.Reads as move-at-reads
 
 abbrev Inv-loop : tie.InvT-loop
 Inv-loop output target first mutated diverted site mutant n k mo₀ mn₀ i₀ mo mn i =
-    (i ≤ 256) × (length mo ≡ 256) × (length mn ≡ 256)
+    (n ≤ 16) × (length mo ≡ 256) × (length mn ≡ 256)
     × ((sh : Sheet) → Ready sh n k output target first mutated diverted site mutant → Moves sh mutant mo mn i)
 
 abbrev μ-loop : tie.MeasureT-loop
-μ-loop output target first mutated diverted site mutant n k mo₀ mn₀ i₀ mo mn i = 256 - i
+μ-loop output target first mutated diverted site mutant n k mo₀ mn₀ i₀ mo mn i = 16 * n - i
 
 loop-holds : tie.Need-loop-holds Inv-loop μ-loop
-loop-holds c = (omega arith, c .before .pre .1 .0, c .before .pre .1 .1, λ sh is. moves-none sh _ _ _)
+loop-holds c =
+    let p = c .before .pre in
+    let r = p .0 .1 .ruled in
+    (omega (arith, r .states, r .formed .size .states .few), p .1 .0, p .1 .1, λ sh is. moves-none sh _ _ _)
+
+mul-loop : tie.Need-mul-loop Inv-loop μ-loop
+mul-loop c = omega arith
 
 move-at-requires : tie.Need-move-at-requires Inv-loop μ-loop
-move-at-requires c κs = (c .before .before .before .pre .0, omega arith)
+move-at-requires c κs = (c .before .before .before .pre .0, (omega arith, omega arith))
 
 element-write-mo : tie.Need-element-write-mo Inv-loop μ-loop
 element-write-mo c = omega arith
@@ -42,14 +45,14 @@ loop-again : tie.Need-loop-again Inv-loop μ-loop
 loop-again c =
     let l = c .before .before .loop in
     let i = l .inv in (
-      omega arith,
+      i .0,
       simp length-set (i .1),
       simp length-set (i .2),
-      λ sh is. moves-more sh _ (l .mo) (l .mn) (l .i) (asMove (c .move-at .result)) (omega (arith, i .1)) (omega (arith, i .2)) (i .3 sh is) (c .move-at .ensures sh is),
+      λ sh is. moves-more sh _ (l .mo) (l .mn) (l .i) (asMove (c .move-at .result)) (omega arith) (omega arith) (i .3 sh is) (c .move-at .ensures sh is),
     )
 
 returns : tie.Need-returns Inv-loop μ-loop
-returns c = let l = c .before .loop in λ sh is. moves-all sh _ (l .mo) (l .mn) (l .i) (c .loop-test .left) (l .inv .3 sh is)
+returns c = let l = c .before .loop in λ sh is. moves-fewer sh _ (l .mo) (l .mn) (l .i) _ (c .loop-test .left) (l .inv .3 sh is)
 
 pub fill-spec : {M : Type 1} → statement M
 fill-spec =
@@ -58,6 +61,7 @@ fill-spec =
     Inv-loop
     μ-loop
     loop-holds
+    mul-loop
     move-at-requires
     element-write-mo
     element-write-mn

@@ -1,31 +1,36 @@
 -- `lay`: the indices before k are laid out.
 use borrow.Author.Needs.{needs}
-use Prim.Native.Nat.{_-_, _≤_}
-use mathlib.Core.Path.{_≡_}
+use Prim.Native.Nat.{_*_, _-_, _≤_}
+use mathlib.Core.Path.{_≡_, _∙_}
 use native.Mathlib.Omega.{arith}
 use lib.ListN.{length, length-set}
+use Rattle.engine.specs.Machine.{statesOf}
 use Rattle.mutation.specs.Survive.{Laid}
-use Rattle.mutation.proofs.SurviveLaw.{laid-none, laid-more, laid-all}
+use Rattle.mutation.proofs.SurviveLaw.{laid-none, laid-more, laid-fewer}
 use Rattle.mutation.proofs.survive.lay.Statement.{statement}
 use Rattle.mutation.proofs.survive.lay.Tie as tie
-use Rattle.mutation.proofs.survive.lay.Reads as reads
-use Rattle.mutation.proofs.survive.lay.Lts as lts
-use Rattle.engine.proofs.rule_output.Reads as rule-output-reads
-use Rattle.engine.proofs.rule_target.Reads as rule-target-reads
-use Rattle.mutation.proofs.survive.act.Reads as act-reads
 
 abbrev Inv-loop : tie.InvT-loop
-Inv-loop block p so₀ sn₀ mo₀ mn₀ k₀ so sn mo mn k =
-    (k ≤ 256) × (length so ≡ 256) × (length sn ≡ 256) × (length mo ≡ 256) × (length mn ≡ 256) × Laid block p so sn mo mn k
+Inv-loop block p so₀ sn₀ mo₀ mn₀ n k₀ so sn mo mn k =
+    (n ≡ statesOf block) × (length so ≡ 256) × (length sn ≡ 256) × (length mo ≡ 256) × (length mn ≡ 256) × Laid block p so sn mo mn k
 
 abbrev μ-loop : tie.MeasureT-loop
-μ-loop block p so₀ sn₀ mo₀ mn₀ k₀ so sn mo mn k = 256 - k
+μ-loop block p so₀ sn₀ mo₀ mn₀ n k₀ so sn mo mn k = 16 * n - k
+
+states-requires : tie.Need-states-requires Inv-loop μ-loop
+states-requires c κs = search needs
+
+wide-requires : tie.Need-wide-requires Inv-loop μ-loop
+wide-requires c κs = search needs
 
 loop-holds : tie.Need-loop-holds Inv-loop μ-loop
-loop-holds c = (omega arith, c .pre .1 .0, c .pre .1 .1, c .pre .1 .2, c .pre .1 .3, laid-none _ _ _ _ _ _)
+loop-holds c = let l = c .before .before .pre .1 in (c .wide .ensures ∙ c .before .states .ensures, l .0, l .1, l .2, l .3, laid-none _ _ _ _ _ _)
+
+mul-loop : tie.Need-mul-loop Inv-loop μ-loop
+mul-loop c = omega arith
 
 act-requires : tie.Need-act-requires Inv-loop μ-loop
-act-requires c κs = (c .before .before .pre .0 .0, c .before .before .pre .0 .1, omega arith)
+act-requires c κs = (c .before .before .before .before .pre .0 .0, c .before .before .before .before .pre .0 .1, omega arith)
 
 rule-output-requires : tie.Need-rule-output-requires Inv-loop μ-loop
 rule-output-requires c κs = omega arith
@@ -54,7 +59,7 @@ loop-less c = omega arith
 loop-again : tie.Need-loop-again Inv-loop μ-loop
 loop-again c =
     let i = c .before .before .before .before .loop .inv in (
-      omega arith,
+      i .0,
       simp length-set (i .1),
       simp length-set (i .2),
       simp length-set (i .3),
@@ -63,7 +68,7 @@ loop-again c =
     )
 
 returns : tie.Need-returns Inv-loop μ-loop
-returns c = laid-all _ _ _ _ _ _ _ (c .before .loop .inv .5) (c .loop-test .left)
+returns c = let l = c .before .loop in laid-fewer _ _ _ _ _ _ _ _ (l .inv .5) (omega arith)
 
 pub lay-spec : {M : Type 1} → statement M
 lay-spec =
@@ -71,7 +76,10 @@ lay-spec =
     (tie.spec
     Inv-loop
     μ-loop
+    states-requires
+    wide-requires
     loop-holds
+    mul-loop
     act-requires
     rule-output-requires
     element-write-so
