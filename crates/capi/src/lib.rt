@@ -119,6 +119,23 @@ pub extern "C" fn ranthelo_compare(
     }
 }
 
+// The answer of judge as numbers.
+fn tell(judged: Judged, answer: &mut [usize; 4])
+    ensures { λ r. ⌜ now (answer .exit) ≡ judgedNumbers judged ⌝ }
+{
+    match judged {
+        Judged::Complete => {
+            *answer = [0, 0, 0, 0];
+        }
+        Judged::Survivor(d) => {
+            *answer = [0, 0, 1, d];
+        }
+        Judged::Refused(number, place) => {
+            *answer = [number as usize, place, 0, 0];
+        }
+    }
+}
+
 // Judge.
 #[no_mangle]
 pub extern "C" fn ranthelo_judge(
@@ -131,15 +148,24 @@ pub extern "C" fn ranthelo_judge(
     ensures { λ r. ⌜ now (board .exit) ≡ overlay (boardWrites (judging (now (sheet .entry)) (length (now (board .entry))) (length (now (sequence .entry))))) (now (board .entry)) ⌝ }
     ensures { λ r. ⌜ now (sequence .exit) ≡ overlay (sequenceWrites (judging (now (sheet .entry)) (length (now (board .entry))) (length (now (sequence .entry))))) (now (sequence .entry)) ⌝ }
 {
-    match mutation::judge(sheet, board, sequence) {
-        Judged::Complete => {
-            *answer = [0, 0, 0, 0];
-        }
-        Judged::Survivor(d) => {
-            *answer = [0, 0, 1, d];
-        }
-        Judged::Refused(number, place) => {
-            *answer = [number as usize, place, 0, 0];
-        }
-    }
+    tell(mutation::judge(sheet, board, sequence), answer);
+}
+
+// Judge, with the number of nodes that the engine looked at: a measurement, of which nothing is promised.
+#[no_mangle]
+pub extern "C" fn ranthelo_judge_counting(
+    sheet: &[u8],
+    board: &mut [u8],
+    sequence: &mut [u8],
+    answer: &mut [usize; 4],
+    nodes: &mut u32,
+)
+    ensures { λ r. ⌜ now (answer .exit) ≡ judgedNumbers (judgedAnswer (judging (now (sheet .entry)) (length (now (board .entry))) (length (now (sequence .entry))))) ⌝ }
+    ensures { λ r. ⌜ now (board .exit) ≡ overlay (boardWrites (judging (now (sheet .entry)) (length (now (board .entry))) (length (now (sequence .entry))))) (now (board .entry)) ⌝ }
+    ensures { λ r. ⌜ now (sequence .exit) ≡ overlay (sequenceWrites (judging (now (sheet .entry)) (length (now (board .entry))) (length (now (sequence .entry))))) (now (sequence .entry)) ⌝ }
+{
+    tell(
+        mutation::judge_counting(sheet, board, sequence, nodes),
+        answer,
+    );
 }

@@ -1,4 +1,10 @@
 // Is there no survivor that agrees with a settled part?
+use crate::notes::Notes;
+use crate::notes::keep;
+use crate::notes::settled_before;
+use crate::notes::tick;
+use crate::notes::trail;
+use crate::notes::witnessed;
 use crate::product::Seen;
 use crate::product::meet;
 use crate::product::over;
@@ -9,6 +15,8 @@ use crate::sets::join;
 use crate::sets::with;
 use crate::sets::without;
 use crate::store::Known;
+use crate::store::StoreSets;
+use crate::store::StoreValues;
 use crate::store::hit;
 use crate::store::learn;
 use crate::tables::choices;
@@ -185,9 +193,9 @@ pub fn settle(tables: &[u8; 1603], bytes: &[u8], p: &[u16; 32], i: u8) -> Looked
 pub fn look(
     tables: &[u8; 1603],
     bytes: &[u8],
-    sets: &[u32; 1024],
-    values: &[u16; 32768],
-    notes: &mut [u32; 80],
+    sets: &StoreSets,
+    values: &StoreValues,
+    notes: &mut Notes,
     left: u8,
     p: &[u16; 32],
     wanted: &mut [u32; 512],
@@ -220,9 +228,9 @@ pub fn look(
 pub fn explore(
     tables: &[u8; 1603],
     bytes: &[u8],
-    sets: &mut [u32; 1024],
-    values: &mut [u16; 32768],
-    notes: &mut [u32; 80],
+    sets: &mut StoreSets,
+    values: &mut StoreValues,
+    notes: &mut Notes,
     p: [u16; 32],
     dead: Outcome,
     left: u8,
@@ -239,6 +247,7 @@ pub fn explore(
         return Outcome::Refuted(used);
     }
     let Looked::Split(i, k) = seen else {
+        keep(notes, &p);
         return Outcome::Open;
     };
     if left == 0 {
@@ -276,56 +285,23 @@ pub fn explore(
     Outcome::Refuted(rest)
 }
 
-// Keeps which suspect is settled at this depth.
-pub fn trail(notes: &mut [u32; 80], left: u8, i: u8) {
-    let at = 8 + wide(left);
-    if at < 80 {
-        notes[at] = i as u32;
-    }
-}
-
-// Keeps the suspects settled beforehand, the last first.
-pub fn settled_before(p: &[u16; 32], notes: &mut [u32; 80], left: u8) {
-    let mut at = 9 + wide(left);
-    let mut j: u8 = 32;
-    while j > 0 {
-        j -= 1;
-        if p[wide(j)] != 256 {
-            if at < 80 {
-                notes[at] = j as u32;
-                at += 1;
-            }
-        }
-    }
-    if at < 80 {
-        notes[at] = 255;
-    }
-}
-
-// Counts a node.
-pub fn tick(notes: &mut [u32; 80]) {
-    let n = notes[0];
-    if n < 4294967295 {
-        notes[0] = n + 1;
-    }
-}
-
-// Refuted(u): no mutant that agrees with the settled members of u in the prefix is a survivor. At most `left` more suspects are
-// settled on the way.
-pub fn refute(
+// Whether no mutant with all the choices of the prefix is a survivor; false promises nothing.
+pub fn no_survivor(
     tables: &[u8; 1603],
     bytes: &[u8],
-    sets: &mut [u32; 1024],
-    values: &mut [u16; 32768],
-    notes: &mut [u32; 80],
+    sets: &mut StoreSets,
+    values: &mut StoreValues,
+    notes: &mut Notes,
     prefix: [u16; 32],
-    left: u8,
-) -> Outcome
+) -> bool
     requires { ⌜ Wf (now tables) × SuiteOk (now tables) (now bytes) × Partial (now tables) prefix × (length prefix ≡ 32) × StoreOk (now tables) (now bytes) (now sets) (now values) ⌝ }
-    ensures { λ r. ⌜ OutcomeOk (now (tables .entry)) (now (bytes .entry)) prefix r × StoreOk (now (tables .entry)) (now (bytes .entry)) (now (sets .exit)) (now (values .exit)) ⌝ }
+    ensures { λ r. ⌜ NoneIf (now (tables .entry)) (now (bytes .entry)) prefix r × StoreOk (now (tables .entry)) (now (bytes .entry)) (now (sets .exit)) (now (values .exit)) ⌝ }
 {
-    settled_before(&prefix, notes, left);
-    explore(
+    if witnessed(notes, &prefix) {
+        return false;
+    }
+    settled_before(notes, 32, &prefix);
+    let Outcome::Refuted(_) = explore(
         tables,
         bytes,
         sets,
@@ -333,23 +309,8 @@ pub fn refute(
         notes,
         prefix,
         Outcome::Open,
-        left,
-    )
-}
-
-// Whether no mutant with all the choices of the prefix is a survivor; false promises nothing.
-pub fn no_survivor(
-    tables: &[u8; 1603],
-    bytes: &[u8],
-    sets: &mut [u32; 1024],
-    values: &mut [u16; 32768],
-    notes: &mut [u32; 80],
-    prefix: [u16; 32],
-) -> bool
-    requires { ⌜ Wf (now tables) × SuiteOk (now tables) (now bytes) × Partial (now tables) prefix × (length prefix ≡ 32) × StoreOk (now tables) (now bytes) (now sets) (now values) ⌝ }
-    ensures { λ r. ⌜ NoneIf (now (tables .entry)) (now (bytes .entry)) prefix r × StoreOk (now (tables .entry)) (now (bytes .entry)) (now (sets .exit)) (now (values .exit)) ⌝ }
-{
-    let Outcome::Refuted(_) = refute(tables, bytes, sets, values, notes, prefix, 32) else {
+        32,
+    ) else {
         return false;
     };
     true

@@ -1,16 +1,21 @@
 // Refuting survivors: no mutant that agrees with a partly settled mutant passes the test suite and is nonconforming. For the
 // crate `mutation` alone.
 mod branch;
+mod notes;
 mod product;
 mod sets;
 mod store;
 mod tables;
 mod walk;
 
-pub use branch::Outcome;
 pub use branch::no_survivor;
-pub use branch::refute;
-pub use store::clear;
+pub use notes::Notes;
+pub use notes::fresh_notes;
+pub use notes::nodes;
+pub use store::StoreSets;
+pub use store::StoreValues;
+pub use store::fresh_sets;
+pub use store::fresh_values;
 pub use tables::Step;
 pub use tables::choices;
 pub use tables::inputs;

@@ -1,4 +1,6 @@
 // The pairs of states that the specification and a settled part reach in step, an unsettled suspect taking any of its choices.
+use crate::notes::Notes;
+use crate::notes::latest;
 use crate::sets::empty;
 use crate::sets::has;
 use crate::tables::choices;
@@ -423,20 +425,8 @@ pub fn cut_all(tables: &[u8; 1603], base: &[u16; 32], kept: Kept) -> Kept
     rest
 }
 
-// The suspect that was settled latest but d, or 255.
-pub fn latest(notes: &[u32; 80], left: u8, d: u8) -> u8 {
-    let at = 9 + wide(left) + wide(d);
-    if at < 80 {
-        let j = notes[at];
-        if j < 32 {
-            return j as u8;
-        }
-    }
-    255
-}
-
 // A smaller set, from one on which all that agree conform.
-pub fn shrink(tables: &[u8; 1603], base: &[u16; 32], notes: &[u32; 80], left: u8, used: u32) -> u32
+pub fn shrink(tables: &[u8; 1603], base: &[u16; 32], notes: &Notes, left: u8, used: u32) -> u32
     requires { ⌜ Wf (now tables) × Partial (now tables) (now base) × (length (now base) ≡ 32) × Conforms (now tables) (now base) used ⌝ }
     ensures { λ r. ⌜ Conforms (now (tables .entry)) (now (base .entry)) r ⌝ }
 {

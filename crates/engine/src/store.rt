@@ -1,40 +1,50 @@
 // Refutations found before: sets of suspects with their choices.
+use crate::notes::Notes;
+use crate::notes::entry;
+use crate::notes::filled;
 use crate::sets::has;
 use crate::tables::wide;
 ghost use mathlib.Core.Path.{_≡_};
 ghost use mathlib.Core.Bool.{true};
 ghost use Prim.Native.Nat.{ℕ, _+_, _*_, _<_, _≤_};
+ghost use mathlib.Core.List.{List};
 ghost use lib.ListN.{length, getD};
 ghost use Rattle.engine.specs.Machine.{Wf};
 ghost use Rattle.engine.specs.Refute.{NoSurvivor};
 ghost use Rattle.engine.specs.Sets.{Has};
-ghost use Rattle.engine.specs.Store.{StoreOk, Matches, Written, HitOk};
+ghost use Rattle.engine.specs.Store.{entries, freshSets, StoreOk, Matches, Written, HitOk};
+
+// How many refutations are kept.
+pub const ENTRIES: usize = 512;
+
+// The set of each entry, and its choices, one for each suspect.
+pub type StoreSets = [u32; ENTRIES];
+
+pub type StoreValues = [u16; ENTRIES * 32];
 
 pub enum Known {
     By(u32),
     Fresh,
 }
 
-// An empty store. An entry that is not used names a choice that no mutant has.
-pub fn clear(
-    tables: &[u8; 1603],
-    bytes: &[u8],
-    sets: &mut [u32; 1024],
-    values: &mut [u16; 32768],
-    notes: &mut [u32; 80],
-)
-    requires { ⌜ Wf (now tables) ⌝ }
-    ensures { λ r. ⌜ StoreOk (now (tables .entry)) (now (bytes .entry)) (now (sets .exit)) (now (values .exit)) ⌝ }
+// A set for each entry of an empty store.
+pub fn fresh_sets() -> StoreSets
+    ensures { λ r. ⌜ r ≡ freshSets ⌝ }
 {
-    *sets = [1u32; 1024];
-    *values = [256u16; 32768];
-    *notes = [0u32; 80];
+    [1u32; ENTRIES]
+}
+
+// The choices for each: one that no mutant has.
+pub fn fresh_values() -> StoreValues
+    ensures { λ r. ⌜ ((m bytes : List ℕ) → Wf m → StoreOk m bytes freshSets r) ⌝ }
+{
+    [65535u16; ENTRIES * 32]
 }
 
 // Where a choice of an entry is kept.
 pub fn value_at(e: usize, j: u8) -> usize
-    requires { ⌜ (e < 1024) × (j < 32) ⌝ }
-    ensures { λ r. ⌜ (r ≡ e * 32 + j) × (r < 32768) ⌝ }
+    requires { ⌜ (e < entries) × (j < 32) ⌝ }
+    ensures { λ r. ⌜ (r ≡ e * 32 + j) × (r < entries * 32) ⌝ }
 {
     e * 32 + (j as usize)
 }
@@ -57,8 +67,8 @@ pub fn agrees(set: u32, j: u8, choice: u16, value: u16) -> bool
 }
 
 // Whether the choices of an entry are all settled, and the same.
-pub fn matches(p: &[u16; 32], values: &[u16; 32768], set: u32, e: usize) -> bool
-    requires { ⌜ e < 1024 ⌝ }
+pub fn matches(p: &[u16; 32], values: &StoreValues, set: u32, e: usize) -> bool
+    requires { ⌜ e < entries ⌝ }
     ensures { λ r. ⌜ (r ≡ true → Matches (now (p .entry)) (now (values .entry)) set e) ⌝ }
 {
     let mut j: u8 = 0;
@@ -89,24 +99,13 @@ pub fn bit(value: u16) -> u32 {
     1
 }
 
-// How many entries are worth a look.
-pub fn filled(notes: &[u32; 80]) -> usize
-    ensures { λ r. ⌜ r ≤ 1024 ⌝ }
-{
-    let n = notes[2];
-    if n > 1024 {
-        return 1024;
-    }
-    n as usize
-}
-
 // An entry that refutes.
 pub fn hit(
     tables: &[u8; 1603],
     bytes: &[u8],
-    sets: &[u32; 1024],
-    values: &[u16; 32768],
-    notes: &[u32; 80],
+    sets: &StoreSets,
+    values: &StoreValues,
+    notes: &Notes,
     p: &[u16; 32],
 ) -> Known
     requires { ⌜ StoreOk (now tables) (now bytes) (now sets) (now values) ⌝ }
@@ -128,8 +127,8 @@ pub fn hit(
 }
 
 // Writes the choices of an entry.
-pub fn write(values: &mut [u16; 32768], e: usize, p: &[u16; 32])
-    requires { ⌜ (e < 1024) × (length (now values) ≡ 32768) ⌝ }
+pub fn write(values: &mut StoreValues, e: usize, p: &[u16; 32])
+    requires { ⌜ (e < entries) × (length (now values) ≡ entries * 32) ⌝ }
     ensures { λ r. ⌜ Written (now (values .entry)) (now (values .exit)) e (now (p .entry)) 32 ⌝ }
 {
     let mut j: u8 = 0;
@@ -140,30 +139,13 @@ pub fn write(values: &mut [u16; 32768], e: usize, p: &[u16; 32])
     }
 }
 
-// The entry to overwrite.
-pub fn entry(notes: &mut [u32; 80]) -> usize
-    ensures { λ r. ⌜ r < 1024 ⌝ }
-{
-    let next = notes[1];
-    let n = notes[2];
-    if n < 1024 {
-        notes[2] = n + 1;
-    }
-    if next >= 1023 {
-        notes[1] = 0;
-        return 1023;
-    }
-    notes[1] = next + 1;
-    next as usize
-}
-
 // Keeps a refutation.
 pub fn learn(
     tables: &[u8; 1603],
     bytes: &[u8],
-    sets: &mut [u32; 1024],
-    values: &mut [u16; 32768],
-    notes: &mut [u32; 80],
+    sets: &mut StoreSets,
+    values: &mut StoreValues,
+    notes: &mut Notes,
     p: &[u16; 32],
     set: u32,
 )

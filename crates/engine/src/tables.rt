@@ -18,6 +18,12 @@ pub fn wide16(x: u16) -> usize
     x as usize
 }
 
+pub fn wide32(x: u32) -> usize
+    ensures { λ r. ⌜ r ≡ x ⌝ }
+{
+    x as usize
+}
+
 // The place of a state and an input, or of two states.
 pub fn place(s: u8, x: u8) -> usize
     requires { ⌜ (s < 16) × (x < 16) ⌝ }

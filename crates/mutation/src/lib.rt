@@ -20,6 +20,7 @@ mod verdict;
 use sheet::Reading;
 pub use verdict::Judged;
 pub use verdict::judge;
+pub use verdict::judge_counting;
 
 // What Run answers.
 pub enum Ran {

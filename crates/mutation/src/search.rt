@@ -1,5 +1,8 @@
 // The first survivor in dictionary order: the suspects are settled one after another.
 use crate::survive::survives;
+use engine::Notes;
+use engine::StoreSets;
+use engine::StoreValues;
 use engine::choices;
 use engine::no_survivor;
 ghost use mathlib.Core.Path.{_≡_};
@@ -18,9 +21,9 @@ pub(crate) struct Found {
 pub(crate) fn search(
     block: &[u8; 1603],
     bytes: &[u8],
-    sets: &mut [u32; 1024],
-    values: &mut [u16; 32768],
-    notes: &mut [u32; 80],
+    sets: &mut StoreSets,
+    values: &mut StoreValues,
+    notes: &mut Notes,
     p: [u16; 32],
     i: usize,
     n: usize,

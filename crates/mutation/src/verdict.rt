@@ -7,7 +7,9 @@ use crate::search::search;
 use crate::sites::number;
 use crate::survive::lay;
 use crate::survive::no_table;
-use engine::clear;
+use engine::fresh_notes;
+use engine::fresh_sets;
+use engine::fresh_values;
 use engine::inputs;
 use engine::pack;
 use engine::states;
@@ -58,29 +60,18 @@ fn no_block() -> [u8; 1603]
     [0u8; 1603]
 }
 
-fn no_sets() -> [u32; 1024] {
-    [0u32; 1024]
-}
-
-fn no_values() -> [u16; 32768] {
-    [0u16; 32768]
-}
-
-fn no_notes() -> [u32; 80] {
-    [0u32; 80]
-}
-
-// The first survivor of all.
-fn find(block: &[u8; 1603], bytes: &[u8], n: usize) -> Found
+// The first survivor of all, and how many nodes the engine looked at.
+fn find(block: &[u8; 1603], bytes: &[u8], n: usize, nodes: &mut u32) -> Found
     requires { ⌜ ((sh : Sheet) × Searching sh (now block) (now bytes) (replicate 32 256) 0 n) ⌝ }
     ensures { λ r. ⌜ ((sh : Sheet) → Searching sh (now (block .entry)) (now (bytes .entry)) (replicate 32 256) 0 n → byFound sh (replicate 32 256) 0 (r .found) (r .p)) ⌝ }
 {
-    let mut sets = no_sets();
-    let mut values = no_values();
-    let mut notes = no_notes();
-    clear(block, bytes, &mut sets, &mut values, &mut notes);
+    let mut sets = fresh_sets();
+    let mut values = fresh_values();
+    let mut notes = fresh_notes();
     let p = unsettled();
-    search(block, bytes, &mut sets, &mut values, &mut notes, p, 0, n)
+    let answer = search(block, bytes, &mut sets, &mut values, &mut notes, p, 0, n);
+    *nodes = engine::nodes(&notes);
+    answer
 }
 
 // Writes the first n choices at the buffer's front.
@@ -123,6 +114,7 @@ fn judge_read(
     sheet: &[u8],
     board: &mut [u8],
     sequence: &mut [u8],
+    nodes: &mut u32,
 ) -> Judged
     requires { ⌜ ((sh : Sheet) × ReadFrom sh size tables (now sheet)) ⌝ }
     ensures { λ r. ⌜ ((sh : Sheet) → ReadFrom sh size tables (now (sheet .entry)) → Judges (judgingOf sh (length (now (board .entry))) (length (now (sequence .entry)))) r (now (board .entry)) (now (board .exit)) (now (sequence .entry)) (now (sequence .exit))) ⌝ }
@@ -160,13 +152,35 @@ fn judge_read(
     );
     let place = 4 + 5 * size.rules + 5 * size.faults;
     let bytes = &sheet[place..];
-    let answer = find(&block, bytes, count);
+    let answer = find(&block, bytes, count, nodes);
     if !answer.found {
         return Judged::Complete;
     }
     let p = answer.p;
     write_choices(&p, count, board);
     show(&block, &p, count, sequence)
+}
+
+// Judge, with the number of nodes that the engine looked at: a measurement, of which nothing is promised.
+pub fn judge_counting(
+    sheet: &[u8],
+    board: &mut [u8],
+    sequence: &mut [u8],
+    nodes: &mut u32,
+) -> Judged
+    ensures answer { λ r. ⌜ r ≡ judgedAnswer (judging (now (sheet .entry)) (length (now (board .entry))) (length (now (sequence .entry)))) ⌝ }
+    ensures board { λ r. ⌜ now (board .exit) ≡ overlay (boardWrites (judging (now (sheet .entry)) (length (now (board .entry))) (length (now (sequence .entry))))) (now (board .entry)) ⌝ }
+    ensures sequence { λ r. ⌜ now (sequence .exit) ≡ overlay (sequenceWrites (judging (now (sheet .entry)) (length (now (board .entry))) (length (now (sequence .entry))))) (now (sequence .entry)) ⌝ }
+    ensures told { λ r. ⌜ ToldJudged (now (sheet .entry)) (length (now (board .entry))) (length (now (sequence .entry))) r (now (board .exit)) (now (sequence .exit)) ⌝ }
+{
+    *nodes = 0;
+    let loaded = load(sheet);
+    let reading = loaded.reading;
+    let tables = loaded.tables;
+    let Reading::Accepted(size) = reading else {
+        return refusal(reading);
+    };
+    judge_read(size, tables, sheet, board, sequence, nodes)
 }
 
 // Complete with nothing written, or the first nonconforming mutant that passes the tests, at the board buffer's front, and its
@@ -177,11 +191,6 @@ pub fn judge(sheet: &[u8], board: &mut [u8], sequence: &mut [u8]) -> Judged
     ensures sequence { λ r. ⌜ now (sequence .exit) ≡ overlay (sequenceWrites (judging (now (sheet .entry)) (length (now (board .entry))) (length (now (sequence .entry))))) (now (sequence .entry)) ⌝ }
     ensures told { λ r. ⌜ ToldJudged (now (sheet .entry)) (length (now (board .entry))) (length (now (sequence .entry))) r (now (board .exit)) (now (sequence .exit)) ⌝ }
 {
-    let loaded = load(sheet);
-    let reading = loaded.reading;
-    let tables = loaded.tables;
-    let Reading::Accepted(size) = reading else {
-        return refusal(reading);
-    };
-    judge_read(size, tables, sheet, board, sequence)
+    let mut nodes: u32 = 0;
+    judge_counting(sheet, board, sequence, &mut nodes)
 }

@@ -15,6 +15,16 @@ mod c {
             sequence_length: usize,
             answer: *mut usize,
         );
+        pub fn ranthelo_judge_counting(
+            sheet: *const u8,
+            sheet_length: usize,
+            board: *mut u8,
+            board_length: usize,
+            sequence: *mut u8,
+            sequence_length: usize,
+            answer: *mut usize,
+            nodes: *mut u32,
+        );
     }
 }
 
@@ -31,6 +41,29 @@ pub fn judge(sheet: &[u8], board: &mut [u8], sequence: &mut [u8], answer: &mut [
             sequence.as_mut_ptr(),
             sequence.len(),
             answer.as_mut_ptr(),
+        )
+    }
+}
+
+/// Judge, and how many nodes its search looked at.
+pub fn judge_counting(
+    sheet: &[u8],
+    board: &mut [u8],
+    sequence: &mut [u8],
+    answer: &mut [usize; 4],
+    nodes: &mut u32,
+) {
+    // SAFETY: all slices, the answer and the count are valid for their lengths throughout the call.
+    unsafe {
+        c::ranthelo_judge_counting(
+            sheet.as_ptr(),
+            sheet.len(),
+            board.as_mut_ptr(),
+            board.len(),
+            sequence.as_mut_ptr(),
+            sequence.len(),
+            answer.as_mut_ptr(),
+            nodes,
         )
     }
 }

@@ -13,7 +13,8 @@ use Rattle.engine.proofs.branch.explore.Kinds as explore-kinds
 use Rattle.engine.proofs.branch.+explore.Lts-explore as explore-lts
 use Rattle.engine.proofs.branch.kill.Reads as kill-reads
 use Rattle.engine.proofs.branch.look.Reads as look-reads
-use Rattle.engine.proofs.branch.trail.Reads as trail-reads
+use Rattle.engine.proofs.notes.keep.Reads as keep-reads
+use Rattle.engine.proofs.notes.trail.Reads as trail-reads
 use Rattle.engine.proofs.sets.empty.Reads as empty-reads
 use Rattle.engine.proofs.sets.has.Reads as has-reads
 use Rattle.engine.proofs.sets.join.Reads as join-reads
@@ -34,7 +35,7 @@ abbrev explore-below : ℕ → In 5 explore-kinds.ps
 explore-below t = and 5 explore-kinds.ps (falls 5 explore-kinds.ps _<_ μ-explore t) explore.Pre
 
 abbrev cs : ℕ → explore-lts.Claims
-cs t = (look-reads.Asked, look-reads.Learnt, trail-reads.Asked, trail-reads.Learnt, wide-reads.Asked, wide-reads.Learnt, choices-reads.Asked, choices-reads.Learnt, empty-reads.Asked, empty-reads.Learnt, kill-reads.Asked, kill-reads.Learnt, explore-below t, explore.Post, has-reads.Asked, has-reads.Learnt, join-reads.Asked, join-reads.Learnt, without-reads.Asked, without-reads.Learnt, learn-reads.Asked, learn-reads.Learnt)
+cs t = (look-reads.Asked, look-reads.Learnt, keep-reads.Asked, keep-reads.Learnt, trail-reads.Asked, trail-reads.Learnt, wide-reads.Asked, wide-reads.Learnt, choices-reads.Asked, choices-reads.Learnt, empty-reads.Asked, empty-reads.Learnt, kill-reads.Asked, kill-reads.Learnt, explore-below t, explore.Post, has-reads.Asked, has-reads.Learnt, join-reads.Asked, join-reads.Learnt, without-reads.Asked, without-reads.Learnt, learn-reads.Asked, learn-reads.Learnt)
 
 abbrev explore-Inv-loop : explore-lts.InvT-loop
 explore-Inv-loop tables bytes sets₀ values₀ notes₀ left p wanted i k j n all₀ c₀ sets values notes all c =
@@ -64,8 +65,11 @@ explore-returns-2 t c = (rw (c .before .seen .given .1) at (c .before .before .b
 explore-enum-known-seen-2 : (t : ℕ) → explore-lts.Need-enum-known-seen-2 (cs t) (explore-at t) explore.Post explore-Inv-loop explore-μ-loop
 explore-enum-known-seen-2 t c = search needs
 
+explore-keep-requires : (t : ℕ) → explore-lts.Need-keep-requires (cs t) (explore-at t) explore.Post explore-Inv-loop explore-μ-loop
+explore-keep-requires t c κs = search needs
+
 explore-returns-3 : (t : ℕ) → explore-lts.Need-returns-3 (cs t) (explore-at t) explore.Post explore-Inv-loop explore-μ-loop
-explore-returns-3 t c = (tt, c .before .before .before .before .before .before .before .before .before .before .before .pre .1 .5)
+explore-returns-3 t c = (tt, c .before .before .before .before .before .before .before .before .before .before .before .before .before .before .pre .1 .5)
 
 explore-returns-4 : (t : ℕ) → explore-lts.Need-returns-4 (cs t) (explore-at t) explore.Post explore-Inv-loop explore-μ-loop
 explore-returns-4 t c = (tt, c .before .before .before .before .before .before .before .before .before .before .before .before .before .before .pre .1 .5)
@@ -173,6 +177,7 @@ pub +explore-spec : {M : Type 1} → statement M
     (explore-enum-known-seen t)
     (explore-returns-2 t)
     (explore-enum-known-seen-2 t)
+    (explore-keep-requires t)
     (explore-returns-3 t)
     (explore-returns-4 t)
     (explore-trail-requires t)

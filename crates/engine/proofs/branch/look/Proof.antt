@@ -11,7 +11,7 @@ use Rattle.engine.proofs.product.over.Reads as over-reads
 use Rattle.engine.proofs.product.shrink.Reads as shrink-reads
 use Rattle.engine.proofs.branch.fewest.Reads as fewest-reads
 use Rattle.engine.proofs.branch.settle.Reads as settle-reads
-use Rattle.engine.proofs.branch.tick.Reads as tick-reads
+use Rattle.engine.proofs.notes.tick.Reads as tick-reads
 use Rattle.engine.proofs.store.hit.Reads as hit-reads
 use Rattle.engine.proofs.walk.run.Reads as run-reads
 

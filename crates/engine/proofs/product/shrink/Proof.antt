@@ -11,7 +11,7 @@ use Rattle.engine.proofs.product.shrink.Tie as tie
 use Rattle.engine.proofs.product.shrink.Reads as reads
 use Rattle.engine.proofs.product.shrink.Lts as lts
 use Rattle.engine.proofs.product.cut_all.Reads as cut-all-reads
-use Rattle.engine.proofs.product.latest.Reads as latest-reads
+use Rattle.engine.proofs.notes.latest.Reads as latest-reads
 use Rattle.engine.proofs.product.spare.Reads as spare-reads
 
 abbrev Inv-loop : tie.InvT-loop

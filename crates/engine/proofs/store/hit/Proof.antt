@@ -2,20 +2,21 @@ use borrow.Author.Needs.{needs}
 use Prim.Native.Nat.{ℕ, _+_, _-_, _*_, _<_, _≤_}
 use native.Mathlib.Omega.{arith}
 use mathlib.Core.Path.{_≡_, refl, sym, ap, _∙_}
+use Rattle.engine.specs.Store.{entries}
 use Rattle.engine.proofs.Stores.{matched}
 use Rattle.engine.proofs.store.hit.Statement.{statement}
 use Rattle.engine.proofs.store.hit.Tie as tie
 use Rattle.engine.proofs.store.hit.Reads as reads
 use Rattle.engine.proofs.store.hit.Lts as lts
-use Rattle.engine.proofs.store.filled.Reads as filled-reads
+use Rattle.engine.proofs.notes.filled.Reads as filled-reads
 use Rattle.engine.proofs.store.matches.Reads as matches-reads
 use Rattle.engine.proofs.store.settled_set.Reads as settled-set-reads
 
 abbrev Inv-loop : tie.InvT-loop
-Inv-loop tables bytes sets values notes p settled n e₀ e = e ≤ 1024
+Inv-loop tables bytes sets values notes p settled n e₀ e = e ≤ entries
 
 abbrev μ-loop : tie.MeasureT-loop
-μ-loop tables bytes sets values notes p settled n e₀ e = 1024 - e
+μ-loop tables bytes sets values notes p settled n e₀ e = entries - e
 
 settled-set-requires : tie.Need-settled-set-requires Inv-loop μ-loop
 settled-set-requires c κs = search needs

@@ -4,7 +4,7 @@ use Rattle.engine.proofs.store.learn.Statement.{statement}
 use Rattle.engine.proofs.store.learn.Tie as tie
 use Rattle.engine.proofs.store.learn.Reads as reads
 use Rattle.engine.proofs.store.learn.Lts as lts
-use Rattle.engine.proofs.store.entry.Reads as entry-reads
+use Rattle.engine.proofs.notes.entry.Reads as entry-reads
 use Rattle.engine.proofs.store.write.Reads as write-reads
 
 entry-requires : tie.Need-entry-requires

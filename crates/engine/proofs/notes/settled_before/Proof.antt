@@ -1,22 +1,25 @@
 use borrow.Author.Needs.{needs}
-use Prim.Native.Nat.{ℕ, _+_, _-_, _*_, _<_, _≤_}
-use Rattle.engine.proofs.branch.settled_before.Statement.{statement}
-use Rattle.engine.proofs.branch.settled_before.Tie as tie
-use Rattle.engine.proofs.branch.settled_before.Reads as reads
-use Rattle.engine.proofs.branch.settled_before.Lts as lts
+use Prim.Native.Nat.{_≤_}
+use Rattle.engine.proofs.notes.settled_before.Statement.{statement}
+use Rattle.engine.proofs.notes.settled_before.Tie as tie
+use Rattle.engine.proofs.notes.settled_before.Reads as reads
+use Rattle.engine.proofs.notes.settled_before.Lts as lts
 use Rattle.engine.proofs.tables.wide.Reads as wide-reads
 
 abbrev Inv-loop : tie.InvT-loop
-Inv-loop p notes₀ left at₀ j₀ notes at j = j ≤ 32
+Inv-loop notes₀ left p at₀ j₀ notes at j = j ≤ 32
 
 abbrev μ-loop : tie.MeasureT-loop
-μ-loop p notes₀ left at₀ j₀ notes at j = j
+μ-loop notes₀ left p at₀ j₀ notes at j = j
+
+add-at : tie.Need-add-at Inv-loop μ-loop
+add-at c = search needs
 
 wide-requires : tie.Need-wide-requires Inv-loop μ-loop
 wide-requires c κs = search needs
 
-add-at : tie.Need-add-at Inv-loop μ-loop
-add-at c = search needs
+add-at-2 : tie.Need-add-at-2 Inv-loop μ-loop
+add-at-2 c = search needs
 
 loop-holds : tie.Need-loop-holds Inv-loop μ-loop
 loop-holds c = search needs
@@ -42,8 +45,8 @@ mul-notes c = search needs
 element-write-notes : tie.Need-element-write-notes Inv-loop μ-loop
 element-write-notes c = search needs
 
-add-at-2 : tie.Need-add-at-2 Inv-loop μ-loop
-add-at-2 c = search needs
+add-at-3 : tie.Need-add-at-3 Inv-loop μ-loop
+add-at-3 c = search needs
 
 loop-less : tie.Need-loop-less Inv-loop μ-loop
 loop-less c = search needs
@@ -81,8 +84,9 @@ settled-before-spec =
     (tie.spec
     Inv-loop
     μ-loop
-    wide-requires
     add-at
+    wide-requires
+    add-at-2
     loop-holds
     sub-j
     wide-requires-2
@@ -91,7 +95,7 @@ settled-before-spec =
     cast-notes
     mul-notes
     element-write-notes
-    add-at-2
+    add-at-3
     loop-less
     loop-again
     loop-less-2

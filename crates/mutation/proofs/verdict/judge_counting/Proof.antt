@@ -1,13 +1,8 @@
--- `judge`: refused as reading refuses, or the judgement of the sheet that was read.
+-- `judge_counting`: refused as reading refuses, or the judgement of the sheet that was read.
 use borrow.Author.Needs.{needs}
 use Rattle.mutation.proofs.JudgingLaw.{loaded-read, judge-refused, judge-accepted}
-use Rattle.mutation.proofs.verdict.judge.Statement.{statement}
-use Rattle.mutation.proofs.verdict.judge.Tie as tie
-use Rattle.mutation.proofs.verdict.judge.Reads as reads
-use Rattle.mutation.proofs.verdict.judge.Lts as lts
-use Rattle.mutation.proofs.verdict.judge_read.Reads as judge-read-reads
-use Rattle.mutation.proofs.verdict.refusal.Reads as refusal-reads
-use Rattle.sheet.proofs.load.Reads as load-reads
+use Rattle.mutation.proofs.verdict.judge_counting.Statement.{statement}
+use Rattle.mutation.proofs.verdict.judge_counting.Tie as tie
 
 load-requires : tie.Need-load-requires
 load-requires c κs = search needs
@@ -29,7 +24,7 @@ returns c =
 
 judge-read-requires : tie.Need-judge-read-requires
 judge-read-requires c κs =
-    let x = loaded-read (c .before .before .before .before .before .before .before .before .before .before .args .sheet .now) (c .before .before .before .before .before .before .load .result) _ (c .before .before .before .before .before .before .load .ensures) (c .before .before .before .reading .given .1) in
+    let x = loaded-read (c .before .before .before .before .before .before .before .before .before .before .before .args .sheet .now) (c .before .before .before .before .before .before .before .load .result) _ (c .before .before .before .before .before .before .before .load .ensures) (c .before .before .before .before .reading .given .1) in
     (x .0, x .1)
 
 same-length : tie.Need-same-length
@@ -40,13 +35,13 @@ same-length-2 c = search needs
 
 returns-2 : tie.Need-returns-2
 returns-2 c =
-    let a = c .before .before .before .before .before .before .before .before .before .before .before .before .before .before .before .args in
-    let x = loaded-read (a .sheet .now) (c .before .before .before .before .before .before .before .before .before .before .before .load .result) _ (c .before .before .before .before .before .before .before .before .before .before .before .load .ensures) (c .before .before .before .before .before .before .before .before .reading .given .1) in
+    let a = c .before .before .before .before .before .before .before .before .before .before .before .before .before .before .before .before .args in
+    let x = loaded-read (a .sheet .now) (c .before .before .before .before .before .before .before .before .before .before .before .before .load .result) _ (c .before .before .before .before .before .before .before .before .before .before .before .before .load .ensures) (c .before .before .before .before .before .before .before .before .before .reading .given .1) in
     let y = judge-accepted (a .sheet .now) (a .board .now) (a .sequence .now) (x .0) (x .2) _ _ _ (c .before .before .before .before .judge-read .ensures (x .0) (x .1)) in
     (y .0 .answer, (y .0 .board, (y .0 .sequence, y .1)))
 
-pub judge-spec : {M : Type 1} → statement M
-judge-spec =
+pub judge-counting-spec : {M : Type 1} → statement M
+judge-counting-spec =
     tie.close
     (tie.spec
     load-requires

@@ -1,0 +1,27 @@
+-- The answer's numbers are those of the operation's answer, and the buffers hold what it writes.
+use borrow.Author.Needs.{needs}
+use mathlib.Core.Path.{ap, _∙_}
+use Rattle.capi.specs.Numbers.{judgedNumbers}
+use Rattle.capi.proofs.ranthelo_judge_counting.Statement.{statement}
+use Rattle.capi.proofs.ranthelo_judge_counting.Tie as tie
+
+judge-counting-requires : tie.Need-judge-counting-requires
+judge-counting-requires c κs = search needs
+
+tell-requires : tie.Need-tell-requires
+tell-requires c κs = search needs
+
+same-length : tie.Need-same-length
+same-length c = search needs
+
+same-length-2 : tie.Need-same-length-2
+same-length-2 c = search needs
+
+returns : tie.Need-returns
+returns c =
+    let e = c .before .before .before .before .before .before .judge-counting .ensures in
+    (c .tell .ensures ∙ ap judgedNumbers (e .0), (e .1 .0, e .1 .1 .0))
+
+pub ranthelo-judge-counting-spec : {M : Type 1} → statement M
+ranthelo-judge-counting-spec =
+    tie.close (tie.spec judge-counting-requires tell-requires same-length same-length-2 returns)
