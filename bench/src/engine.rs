@@ -4,146 +4,14 @@
 //! test or conforms, and which of the settled suspects that rests on. The search asks
 //! it for one prefix after another, in dictionary order.
 
-use crate::plain::{self, pair, Move, Tables, NONE};
-use ranthelo_tests::enumeration::Survivor;
-use ranthelo_tests::reference::{Refusal, TEST};
+use crate::machine::{members, Judgement, Machine, Outcome, Partial, Set, Step, UNSETTLED};
+use crate::plain::{self, pair};
+use ranthelo_tests::reference::Refusal;
 
-/// A suspect that has no choice yet.
-const UNSETTLED: u16 = 256;
-/// No suspect at a pair.
-const FIXED: u8 = 255;
 /// No test waits for this output.
 const UNWANTED: u32 = u32::MAX;
 /// How many learned refutations are kept.
-const STORE: usize = 1024;
-
-/// The choices of the suspects, as far as they are settled.
-type Partial = [u16; 32];
-
-/// A set of suspects.
-type Set = u32;
-
-/// A sheet as the engine wants it, indexed by pair.
-struct Machine {
-    inputs: u8,
-    rules: [Move; 256],
-    suspect: [u8; 256],
-    /// All choices of all pairs, and where those of a pair begin.
-    moves: Vec<Move>,
-    first: [u32; 256],
-    /// For each suspect its number of choices, and how many of them have each output.
-    counts: Vec<u16>,
-    by_output: Vec<[u16; 16]>,
-    /// For each suspect the place of its first choice.
-    start: Vec<u32>,
-    suite: Vec<Vec<u8>>,
-}
-
-impl Machine {
-    fn new(tables: &Tables<'_>) -> Self {
-        let mut machine = Machine {
-            inputs: tables.inputs,
-            rules: tables.rules,
-            suspect: [FIXED; 256],
-            moves: Vec::new(),
-            first: [0; 256],
-            counts: Vec::new(),
-            by_output: Vec::new(),
-            start: Vec::new(),
-            suite: suite_of(tables.suite),
-        };
-        for s in 0..tables.states {
-            for x in 0..tables.inputs {
-                machine.add_pair(tables, pair(s, x));
-            }
-        }
-        machine
-    }
-
-    fn add_pair(&mut self, tables: &Tables<'_>, p: usize) {
-        let begin = self.moves.len();
-        let count = tables.choices(p);
-        self.first[p] = begin as u32;
-        self.moves
-            .extend((0..count).map(|c| tables.choice(p, c as u8)));
-        if count > 1 {
-            self.suspect[p] = self.counts.len() as u8;
-            self.counts.push(count as u16);
-            self.start.push(begin as u32);
-            let mut by_output = [0; 16];
-            for &(output, _) in &self.moves[begin..] {
-                by_output[usize::from(output)] += 1;
-            }
-            self.by_output.push(by_output);
-        }
-    }
-
-    /// The choice of a suspect.
-    fn choice(&self, suspect: usize, choice: u16) -> Move {
-        self.moves[self.start[suspect] as usize + usize::from(choice)]
-    }
-
-    /// What a partly settled mutant does at a pair.
-    fn step(&self, partial: &Partial, p: usize) -> Step {
-        let suspect = self.suspect[p];
-        let first = self.first[p] as usize;
-        if suspect == FIXED {
-            return Step::Takes(self.moves[first], 0);
-        }
-        match partial[usize::from(suspect)] {
-            UNSETTLED => Step::Waits(suspect.into()),
-            choice => Step::Takes(self.moves[first + usize::from(choice)], 1 << suspect),
-        }
-    }
-}
-
-/// A move with the suspect it rests on, if any, or the unsettled suspect that is met.
-enum Step {
-    Takes(Move, Set),
-    Waits(usize),
-}
-
-/// The inputs of each test.
-fn suite_of(commands: &[u8]) -> Vec<Vec<u8>> {
-    let mut suite: Vec<Vec<u8>> = Vec::new();
-    let mut commands = commands.iter();
-    while let Some(&command) = commands.next() {
-        if command == TEST {
-            suite.push(Vec::new());
-        } else if let (Some(test), Some(&x)) = (suite.last_mut(), commands.next()) {
-            test.push(x);
-        }
-    }
-    suite
-}
-
-/// Pairs of states, each listed once in the order in which they are met.
-struct Met {
-    seen: [u16; 16],
-    list: [u8; 256],
-    length: usize,
-}
-
-impl Met {
-    fn start() -> Self {
-        let mut met = Met {
-            seen: [0; 16],
-            list: [0; 256],
-            length: 0,
-        };
-        met.add(0, 0);
-        met
-    }
-
-    fn add(&mut self, specified: u8, given: u8) {
-        let row = &mut self.seen[usize::from(specified)];
-        if *row >> given & 1 == 0 {
-            *row |= 1 << given;
-            self.list[self.length] = pair(specified, given) as u8;
-            self.length += 1;
-        }
-    }
-}
+const STORE: usize = 512;
 
 /// The tests that wait for an unsettled suspect: for each output that they want of it, a
 /// smallest set of suspects by which one of them came there.
@@ -192,17 +60,6 @@ impl Wants {
     }
 }
 
-fn members(mut set: Set) -> impl Iterator<Item = usize> {
-    std::iter::from_fn(move || {
-        if set == 0 {
-            return None;
-        }
-        let least = set.trailing_zeros() as usize;
-        set &= set - 1;
-        Some(least)
-    })
-}
-
 /// Refutations found before, each valid on its own; the oldest gives way.
 struct Store {
     sets: Vec<Set>,
@@ -246,13 +103,6 @@ fn settled(partial: &Partial) -> Set {
     partial.iter().enumerate().map(bit).sum()
 }
 
-enum Outcome {
-    /// Every mutant that agrees on this set fails a test or conforms.
-    Refuted(Set),
-    /// Every mutant that agrees with these choices is a survivor.
-    Survives(Partial),
-}
-
 struct Engine<'a> {
     machine: &'a Machine,
     store: Store,
@@ -286,43 +136,15 @@ impl Engine<'_> {
         None
     }
 
-    /// Walks the pairs of states met in step, an unsettled suspect taking any choice: the
-    /// suspects used, unless an output can be wrong.
+    /// The suspects used, if all that agree conform: an unsettled suspect takes any choice.
     fn conforms(&self, partial: &Partial) -> Option<Set> {
-        let machine = self.machine;
-        let mut met = Met::start();
-        let mut used = 0;
-        let mut head = 0;
-        while head < met.length {
-            let (specified, given) = (met.list[head] / 16, met.list[head] % 16);
-            head += 1;
-            for x in 0..machine.inputs {
-                let (wanted, next) = machine.rules[pair(specified, x)];
-                if next == NONE {
-                    continue;
-                }
-                match machine.step(partial, pair(given, x)) {
-                    Step::Takes((output, other), by) => {
-                        used |= by;
-                        if output != wanted {
-                            return None;
-                        }
-                        met.add(next, other);
-                    }
-                    Step::Waits(suspect) => {
-                        let begin = machine.start[suspect] as usize;
-                        let count = usize::from(machine.counts[suspect]);
-                        for &(output, other) in &machine.moves[begin..begin + count] {
-                            if output != wanted {
-                                return None;
-                            }
-                            met.add(next, other);
-                        }
-                    }
-                }
-            }
-        }
-        Some(used)
+        self.machine.walk(partial, |suspect, (wanted, next), met| {
+            let choices = self.machine.choices(suspect);
+            choices.iter().all(|&(output, other)| {
+                met.add(next, other);
+                output == wanted
+            })
+        })
     }
 
     /// Leaves suspects unsettled, the latest first, as long as all that agree conform.
@@ -347,25 +169,11 @@ impl Engine<'_> {
 
     /// The first unsettled suspect on the walk by settled ones; none if an output is wrong there.
     fn meet(&self, partial: &Partial) -> Option<usize> {
-        let machine = self.machine;
-        let mut met = Met::start();
         let mut first = None;
-        let mut head = 0;
-        while head < met.length {
-            let (specified, given) = (met.list[head] / 16, met.list[head] % 16);
-            head += 1;
-            for x in 0..machine.inputs {
-                let (wanted, next) = machine.rules[pair(specified, x)];
-                if next == NONE {
-                    continue;
-                }
-                match machine.step(partial, pair(given, x)) {
-                    Step::Waits(suspect) => first = first.or(Some(suspect)),
-                    Step::Takes((output, _), _) if output != wanted => return None,
-                    Step::Takes((_, other), _) => met.add(next, other),
-                }
-            }
-        }
+        self.machine.walk(partial, |suspect, _, _| {
+            first = first.or(Some(suspect));
+            true
+        })?;
         first
     }
 
@@ -420,31 +228,6 @@ impl Engine<'_> {
             Outcome::Survives(choices) => Some(choices),
         }
     }
-
-    /// The first survivor in dictionary order. Prefixes of a survivor that is known already
-    /// are not asked for again.
-    fn first_survivor(&mut self) -> Option<Vec<u8>> {
-        let mut prefix = [UNSETTLED; 32];
-        let mut known = self.survivor(&prefix)?;
-        let suspects = self.machine.counts.len();
-        for i in 0..suspects {
-            prefix[i] = 0;
-            while known[i] != UNSETTLED && prefix[i] < known[i] {
-                match self.survivor(&prefix) {
-                    Some(earlier) => known = earlier,
-                    None => prefix[i] += 1,
-                }
-            }
-        }
-        let board = prefix[..suspects].iter().map(|&choice| choice as u8);
-        Some(board.collect())
-    }
-}
-
-/// A verdict, and the number of nodes that it took.
-pub struct Judgement {
-    pub survivor: Option<Survivor>,
-    pub nodes: u64,
 }
 
 pub fn judge(sheet: &[u8]) -> Result<Judgement, Refusal> {
@@ -456,20 +239,6 @@ pub fn judge(sheet: &[u8]) -> Result<Judgement, Refusal> {
         trail: Vec::new(),
         nodes: 0,
     };
-    let survivor = match engine.first_survivor() {
-        Some(board) => Some(with_sequence(&tables, board)?),
-        None => None,
-    };
-    Ok(Judgement {
-        survivor,
-        nodes: engine.nodes,
-    })
-}
-
-fn with_sequence(tables: &Tables<'_>, board: Vec<u8>) -> Result<Survivor, Refusal> {
-    let moves = tables.mutant(&board)?;
-    let mut sequence = [0; 256];
-    let length = plain::distinguish(tables, &moves, &mut sequence).unwrap_or(0);
-    let sequence = sequence[..length].to_vec();
-    Ok(Survivor { board, sequence })
+    let board = machine.first_survivor(|prefix| engine.survivor(prefix));
+    Judgement::new(&tables, board, engine.nodes)
 }

@@ -2,7 +2,7 @@
 
 use crate::table::Table;
 use ranthelo_bench::families::{self, Family};
-use ranthelo_bench::{engine, plain};
+use ranthelo_bench::{engine, first_engine, plain, timing};
 use ranthelo_tests::library::judge;
 use ranthelo_tests::listed;
 use std::hint::black_box;
@@ -18,6 +18,9 @@ const LONG: [(&str, &[u8]); 2] = [
     ("h2, kept", include_bytes!("../machines/h2.sheet")),
     ("h5, kept", include_bytes!("../machines/h5.sheet")),
 ];
+
+/// A sheet is easy if the first engine judges it with at most so many nodes.
+const EASY: u64 = 1_000;
 
 pub fn measure(table: &mut Table, long: bool) {
     one(table, "P1", &listed::p1());
@@ -50,18 +53,43 @@ fn one(table: &mut Table, case: &str, sheet: &[u8]) {
     let open_pairs = plain::read(sheet).map_or(0, |summary| summary.open_pairs);
     let verdict = judge::checked_judge(sheet, 32, 256, open_pairs);
     assert_eq!(verdict, Ok(judgement.survivor));
+    let (mine, other) = (library(sheet), judgement.nodes);
+    let note = format!("{mine:>8} {other:>10}{}", beside_first(sheet));
     table.measure_with_note(
         "judge",
         case,
-        &judgement.nodes.to_string(),
+        &note,
         || {
-            let (mut board, mut sequence) = ([0; 32], [0; 256]);
-            let mut answer = [0; 4];
-            judge::judge(black_box(sheet), &mut board, &mut sequence, &mut answer);
-            black_box(answer);
+            black_box(library(black_box(sheet)));
         },
         || {
             black_box(engine::judge(black_box(sheet)).ok());
         },
     );
+}
+
+/// Judges with the library, and gives the number of nodes.
+fn library(sheet: &[u8]) -> u32 {
+    let (mut board, mut sequence) = ([0; 32], [0; 256]);
+    let (mut answer, mut nodes) = ([0; 4], 0);
+    judge::judge_counting(sheet, &mut board, &mut sequence, &mut answer, &mut nodes);
+    black_box(answer);
+    nodes
+}
+
+/// On a sheet that is easy for the first engine, its time and the library's ratio to it.
+fn beside_first(sheet: &[u8]) -> String {
+    let first = |sheet| first_engine::judge(sheet, EASY);
+    if first(sheet).is_none() {
+        return String::new();
+    }
+    let (mine, other) = timing::compare(
+        || {
+            black_box(library(black_box(sheet)));
+        },
+        || {
+            black_box(first(black_box(sheet)));
+        },
+    );
+    format!(" {:>12} {:>5.2}", timing::shown(other), mine / other)
 }

@@ -3,5 +3,7 @@
 
 pub mod engine;
 pub mod families;
+pub mod first_engine;
+mod machine;
 pub mod plain;
 pub mod timing;

@@ -16,7 +16,8 @@ pub struct Table {
 impl Table {
     pub fn new() -> Self {
         let head = ["operation", "case", "library", "plain Rust", "ratio"];
-        print_row(head.map(str::to_string), "nodes of plain Rust");
+        let note = "   nodes plain Rust first engine ratio";
+        print_row(head.map(str::to_string), note);
         Table { growths: vec![] }
     }
 

@@ -1,6 +1,6 @@
 //! The plain Rust versions against the reference code. Needs no library.
 
-use ranthelo_bench::{engine, families, plain};
+use ranthelo_bench::{engine, families, first_engine, plain};
 use ranthelo_tests::enumeration::{self, Machine};
 use ranthelo_tests::generator::{self, Random, Shape, LARGE, SMALL};
 use ranthelo_tests::listed::{self, spelled};
@@ -60,6 +60,8 @@ fn judging() {
             let bytes = sheet.encode();
             let judgement = engine::judge(&bytes).unwrap();
             assert_eq!(judgement.survivor, expected, "{}", spelled(&bytes));
+            let first = first_engine::judge(&bytes, u64::MAX).unwrap();
+            assert_eq!(first.survivor, expected, "{}", spelled(&bytes));
             match expected {
                 Some(survivor) if random.chance(60) => sheet.tests.push(survivor.sequence),
                 _ => break,
