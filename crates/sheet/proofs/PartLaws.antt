@@ -16,7 +16,7 @@ use Rattle.sheet.specs.declared.Parting.the-variants as part
 use Rattle.sheet.specs.Sheet.{Sheet}
 use Rattle.sheet.specs.Reading.{Result, Reading, accepted, refused, reading, summaryOf}
 use Rattle.sheet.specs.Encode.{testBytes, machineBytes, body, encode}
-use Rattle.sheet.specs.Part.{spanOf, spanIn, parting, partOf}
+use Rattle.sheet.specs.Part.{spanOf, spanIn, parting, partOf, LiesIn}
 use Rattle.sheet.specs.Tables.{readAnswer, partAnswer}
 use Rattle.sheet.specs.Places.{spanFrom, TestFrom, handedOn}
 use Rattle.sheet.specs.laws.Encoded.{encoded}
@@ -127,6 +127,14 @@ module _ (s : List ℕ) (i : ℕ) (r : PartAnswer) where
       go (accepted span) k = let z : _≡_ {A = ℕ} 0 1 = cc in absurd (omega arith)
       go (refused n p) k = refl
 
+  pub lies-anywhere : (sheet at : ℕ × ℕ) (number place : ℕ) → r ≡ partAnswer (parting s i) → r ≡ part.Refused number place →
+      LiesIn (parting s i) sheet at
+  lies-anywhere sheet at number place e a = go (parting s i) e
+    where
+      go : (d : Result Span) → r ≡ partAnswer d → LiesIn d sheet at
+      go (accepted span) k = let z : _≡_ {A = ℕ} 0 1 = cc in absurd (omega arith)
+      go (refused n p) k = tt
+
   module _ (span : Span) (e : r ≡ partAnswer (parting s i)) (a : r ≡ part.At span) where
     pub part-room : span .start + span .length ≤ length s
     part-room = span-room s i span (spanned s i span (at-span (parting s i) span (sym a ∙ e)))
@@ -135,3 +143,6 @@ module _ (s : List ℕ) (i : ℕ) (r : PartAnswer) where
     part-is =
         let k : span .start + span .length - span .start ≡ span .length = omega arith in
         rw (at-span (parting s i) span (sym a ∙ e), k)
+
+    pub part-lies : (sheet : ℕ × ℕ) → LiesIn (parting s i) sheet (sheet .0, span .start + sheet .1)
+    part-lies sheet = rw (at-span (parting s i) span (sym a ∙ e)) (refl, omega arith)

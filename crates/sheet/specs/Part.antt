@@ -1,5 +1,6 @@
 -- One test's part: the PRESS commands of a test as a part of the sheet.
 use Prim.Native.Nat.{ℕ, suc, _+_, _*_}
+use mathlib.Core.Path.{_≡_}
 use mathlib.Core.Bool.{Bool, cond}
 use mathlib.Core.List.{List, [], _∷_, _++_}
 use lib.Dec.{leb}
@@ -29,3 +30,9 @@ parting s i = spanIn (reading s) i
 abbrev pub partOf : List ℕ → Result Span → List ℕ
 partOf s (accepted span) = take (span .length) (drop (span .start) s)
 partOf s (refused number place) = []
+
+-- the part begins where the span says, in the sheet itself (each given as a block of memory and an offset); where the empty
+-- part of a refusal lies is free
+abbrev pub LiesIn : Result Span → ℕ × ℕ → ℕ × ℕ → Type 0
+LiesIn (accepted span) sheet part = (part .0 ≡ sheet .0) × (part .1 ≡ sheet .1 + span .start)
+LiesIn (refused number place) sheet part = Unit {0}

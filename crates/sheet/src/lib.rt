@@ -1,7 +1,8 @@
 // Reading sheets: the layer below, which knows nothing of mutants.
+ghost use denote.Ref.{ptr};
 ghost use mathlib.Core.Path.{_≡_};
 ghost use Rattle.sheet.specs.Reading as reading;
-ghost use Rattle.sheet.specs.Part.{parting, partOf};
+ghost use Rattle.sheet.specs.Part.{parting, partOf, LiesIn};
 ghost use Rattle.sheet.specs.Tables.{readAnswer, partAnswer, loadedOf};
 ghost use Rattle.sheet.specs.Places.{handedOn};
 
@@ -113,10 +114,11 @@ pub fn test_span(sheet: &[u8], i: usize) -> Parting
     }
 }
 
-// The part itself: the very bytes of the sheet, none on any refusal. Where in memory the empty part of a refusal lies is free
-// (here it is at the sheet's front).
+// The part itself: the very part of the sheet, not only the same bytes; none on any refusal. Where in memory the empty part of a
+// refusal lies is free (here it is at the sheet's front).
 pub fn test_part(sheet: &[u8], i: usize) -> &[u8]
-    ensures { λ r. ⌜ now r ≡ partOf (now (sheet .entry)) (parting (now (sheet .entry)) i) ⌝ }
+    ensures bytes { λ r. ⌜ now r ≡ partOf (now (sheet .entry)) (parting (now (sheet .entry)) i) ⌝ }
+    ensures place { λ r. ⌜ LiesIn (parting (now (sheet .entry)) i) (ptr (sheet .entry)) (ptr r) ⌝ }
 {
     let parting = test_span(sheet, i);
     let Parting::At(span) = parting else {

@@ -1,5 +1,5 @@
 use native.Mathlib.Omega.{arith}
-use denote.Ref.{now}
+use denote.Ref.{ptr, now}
 use Rattle.sheet.proofs.PartLaws as laws
 use borrow.Author.Needs.{needs}
 use Rattle.sheet.proofs.test_part.Statement.{statement}
@@ -22,7 +22,10 @@ returns c =
     let a = c .before .before .before .before .before .args in
     let s = now (a .sheet) in
     let t = c .before .before .before .test-span in
-    laws.part-refused s (a .i) (t .result) _ _ (t .ensures) (c .before .enum-told .given .1)
+    let told = c .before .enum-told .given .1 in (
+      laws.part-refused s (a .i) (t .result) _ _ (t .ensures) told,
+      laws.lies-anywhere s (a .i) (t .result) (ptr (a .sheet)) _ _ _ (t .ensures) told,
+    )
 
 add-end : tie.Need-add-end
 add-end c =
@@ -51,7 +54,8 @@ returns-2 c =
     let a = c .before .before .before .before .before .before .before .args in
     let s = now (a .sheet) in
     let t = c .before .before .before .before .before .test-span in
-    laws.part-is s (a .i) (t .result) _ (t .ensures) (c .before .before .before .parting .given .1)
+    let told = c .before .before .before .parting .given .1 in
+    (laws.part-is s (a .i) (t .result) _ (t .ensures) told, laws.part-lies s (a .i) (t .result) _ (t .ensures) told (ptr (a .sheet)))
 
 pub test-part-spec : {M : Type 1} → statement M
 test-part-spec =
