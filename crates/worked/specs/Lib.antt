@@ -1,2 +1,3 @@
 pub mod Sheets
 pub mod Rows
+pub mod Refusals

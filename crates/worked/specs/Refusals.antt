@@ -1,0 +1,69 @@
+-- What Read refuses: sheets for the numbers 2 to 11 and for the order in which they are tried, each with its number and place
+-- (`Rows` has 01's own sheets, with 1 and 12).
+use Prim.Native.Nat.{ℕ}
+use mathlib.Core.Path.{_≡_, refl}
+use mathlib.Core.List.{List, [], _∷_, _++_, map}
+use lib.ListN.{replicate}
+use Rattle.sheet.specs.Lists.{last, precedes, count, any, all}
+use Rattle.sheet.specs.Sheet.{rowsAt, ruleAt, after, leads, within, allReached, unruledChoices, choicesAt, isOpen, openBelow, openPairs}
+use Rattle.sheet.specs.Reading.{refused, firstBroken, ascends, lastTest, ruleAfter, refusal, addPress, advance, finishing, doing, step, from, blank, reading}
+use Rattle.sheet.specs.Encode.{pressBytes}
+
+-- a sheet, and the number and place that it is refused with
+pub record Refusal : Type 0 where
+  pub sheet : List ℕ
+  pub number : ℕ
+  pub place : ℕ
+
+abbrev row : List ℕ → ℕ → ℕ → Refusal
+row sheet number place = record { sheet = sheet; number = number; place = place }
+
+-- one state, one press, one sound, and a test of so many PRESSes
+unfoldable pub presses : ℕ → List ℕ
+presses n = (0x01 ∷ 1 ∷ 1 ∷ 1 ∷ 0x02 ∷ 0 ∷ 0 ∷ 0 ∷ 0 ∷ 0x04 ∷ []) ++ (pressBytes (replicate n 0) ++ 0x06 ∷ [])
+
+unfoldable pub refusals : List Refusal
+refusals =
+    -- 2: no command byte is there, told at the sheet's length; operands are missing, told at the command
+    row (0x01 ∷ 1 ∷ 1 ∷ 1 ∷ []) 2 4
+    ∷ row (0x01 ∷ 1 ∷ 1 ∷ 1 ∷ 0x02 ∷ 0 ∷ []) 2 4
+    -- 3: an unknown byte; no SIZE, a second one, PRESS before TEST, RULE after FAULT, FAULT after TEST; before missing operands
+    ∷ row (0x01 ∷ 1 ∷ 1 ∷ 1 ∷ 0x07 ∷ []) 3 4
+    ∷ row (0x02 ∷ 0 ∷ 0 ∷ 0 ∷ 0 ∷ []) 3 0
+    ∷ row (0x01 ∷ 1 ∷ 1 ∷ 1 ∷ 0x01 ∷ []) 3 4
+    ∷ row (0x01 ∷ 1 ∷ 1 ∷ 1 ∷ 0x05 ∷ 0 ∷ 0x06 ∷ []) 3 4
+    ∷ row (0x01 ∷ 1 ∷ 1 ∷ 2 ∷ 0x02 ∷ 0 ∷ 0 ∷ 0 ∷ 0 ∷ 0x03 ∷ 0 ∷ 0 ∷ 1 ∷ 0 ∷ 0x02 ∷ 0 ∷ 0 ∷ 0 ∷ 0 ∷ []) 3 14
+    ∷ row (0x01 ∷ 1 ∷ 1 ∷ 1 ∷ 0x02 ∷ 0 ∷ 0 ∷ 0 ∷ 0 ∷ 0x04 ∷ 0x03 ∷ 0 ∷ 0 ∷ 1 ∷ 0 ∷ []) 3 10
+    -- 4: a size of 0 or 17
+    ∷ row (0x01 ∷ 1 ∷ 0 ∷ 1 ∷ 0x06 ∷ []) 4 0
+    ∷ row (0x01 ∷ 1 ∷ 1 ∷ 17 ∷ 0x06 ∷ []) 4 0
+    -- 5: each operand of a row and of a PRESS; before 6, 7 and 9
+    ∷ row (0x01 ∷ 1 ∷ 1 ∷ 1 ∷ 0x02 ∷ 1 ∷ 0 ∷ 0 ∷ 0 ∷ []) 5 4
+    ∷ row (0x01 ∷ 1 ∷ 1 ∷ 1 ∷ 0x02 ∷ 0 ∷ 1 ∷ 0 ∷ 0 ∷ []) 5 4
+    ∷ row (0x01 ∷ 1 ∷ 1 ∷ 1 ∷ 0x02 ∷ 0 ∷ 0 ∷ 1 ∷ 0 ∷ []) 5 4
+    ∷ row (0x01 ∷ 1 ∷ 1 ∷ 1 ∷ 0x02 ∷ 0 ∷ 0 ∷ 0 ∷ 1 ∷ []) 5 4
+    ∷ row (0x01 ∷ 1 ∷ 1 ∷ 1 ∷ 0x02 ∷ 0 ∷ 0 ∷ 0 ∷ 0 ∷ 0x02 ∷ 0 ∷ 0 ∷ 0 ∷ 1 ∷ []) 5 9
+    ∷ row (0x01 ∷ 1 ∷ 1 ∷ 1 ∷ 0x03 ∷ 0 ∷ 0 ∷ 1 ∷ 0 ∷ []) 5 4
+    ∷ row (0x01 ∷ 1 ∷ 1 ∷ 1 ∷ 0x04 ∷ 0x05 ∷ 1 ∷ []) 5 5
+    -- 6: the same pair again, a smaller press, the same FAULT again; before 7
+    ∷ row (0x01 ∷ 1 ∷ 1 ∷ 1 ∷ 0x02 ∷ 0 ∷ 0 ∷ 0 ∷ 0 ∷ 0x02 ∷ 0 ∷ 0 ∷ 0 ∷ 0 ∷ []) 6 9
+    ∷ row (0x01 ∷ 1 ∷ 2 ∷ 1 ∷ 0x02 ∷ 0 ∷ 1 ∷ 0 ∷ 0 ∷ 0x02 ∷ 0 ∷ 0 ∷ 0 ∷ 0 ∷ []) 6 9
+    ∷ row (0x01 ∷ 1 ∷ 1 ∷ 2 ∷ 0x02 ∷ 0 ∷ 0 ∷ 0 ∷ 0 ∷ 0x03 ∷ 0 ∷ 0 ∷ 1 ∷ 0 ∷ 0x03 ∷ 0 ∷ 0 ∷ 1 ∷ 0 ∷ []) 6 14
+    ∷ row (0x01 ∷ 1 ∷ 1 ∷ 2 ∷ 0x02 ∷ 0 ∷ 0 ∷ 0 ∷ 0 ∷ 0x03 ∷ 0 ∷ 0 ∷ 1 ∷ 0 ∷ 0x03 ∷ 0 ∷ 0 ∷ 0 ∷ 0 ∷ []) 6 14
+    -- 7: a FAULT with no RULE at its pair; one that equals it
+    ∷ row (0x01 ∷ 1 ∷ 1 ∷ 2 ∷ 0x03 ∷ 0 ∷ 0 ∷ 1 ∷ 0 ∷ []) 7 4
+    ∷ row (0x01 ∷ 1 ∷ 1 ∷ 1 ∷ 0x02 ∷ 0 ∷ 0 ∷ 0 ∷ 0 ∷ 0x03 ∷ 0 ∷ 0 ∷ 0 ∷ 0 ∷ []) 7 9
+    -- 8: the 257th PRESS of a test
+    ∷ row (presses 257) 8 522
+    -- 9: no RULE at state 0; none at the state that the test has reached
+    ∷ row (0x01 ∷ 1 ∷ 1 ∷ 1 ∷ 0x04 ∷ 0x05 ∷ 0 ∷ []) 9 5
+    ∷ row (0x01 ∷ 2 ∷ 1 ∷ 1 ∷ 0x02 ∷ 0 ∷ 0 ∷ 0 ∷ 1 ∷ 0x04 ∷ 0x05 ∷ 0 ∷ 0x05 ∷ 0 ∷ []) 9 12
+    -- 10: a byte after END, before 11; 11 before 12: three states, eleven presses, no RULE
+    ∷ row (0x01 ∷ 1 ∷ 1 ∷ 1 ∷ 0x06 ∷ 0 ∷ []) 10 5
+    ∷ row (0x01 ∷ 2 ∷ 1 ∷ 1 ∷ 0x06 ∷ 0x06 ∷ []) 10 5
+    ∷ row (0x01 ∷ 3 ∷ 11 ∷ 1 ∷ 0x06 ∷ []) 11 4
+    ∷ []
+
+pub refusals-told : map (λ (r : Refusal). reading (r .sheet)) refusals ≡ map (λ (r : Refusal). refused (r .number) (r .place)) refusals
+unfolding refusals presses last precedes count any all rowsAt ruleAt after leads within allReached unruledChoices choicesAt isOpen openBelow openPairs firstBroken ascends lastTest ruleAfter refusal addPress advance finishing doing step from blank reading pressBytes
+refusals-told = refl
