@@ -1,16 +1,15 @@
--- Writing the sequence: what holds after i inputs are written and `left` are still to come.
+-- Looking for a distance round by round; writing the sequence: what holds after i inputs are written and `left` are still to come.
 use Prim.Native.Nat.{ℕ, zero, suc, _+_, _-_, _*_, _≤_, _<_}
 use native.Mathlib.Numerals.{add-one}
-use native.Mathlib.Nat.{zero-add, add-zero}
+use native.Mathlib.Nat.{zero-add}
 use native.Mathlib.Omega.{arith}
 use mathlib.Core.Path.{_≡_, refl, sym, _∙_, ap, ap₂, subst}
-use mathlib.Core.Logic.{_⊎_, inl, inr, ⊎-elim}
-use mathlib.Core.Bool.{Bool, true, false}
-use mathlib.Core.Option.{Option, none, some}
-use mathlib.Core.List.{List, [], _∷_, _++_, append-nil}
+use mathlib.Core.Logic.{_⊎_, inr}
+use mathlib.Core.Bool.{true, false}
+use mathlib.Core.Option.{none, some}
+use mathlib.Core.List.{List, _∷_, _++_, append-nil}
 use lib.ListN.{length, getD, set, take, drop, length-set, take-append-drop, replicate, length-replicate, getD-replicate}
-use borrow.Author.Tests.{le-leb, lt-leb}
-use lib.Dec.{leb}
+use borrow.Author.Tests.{lt-ltb, le-ltb}
 use lib.Seq.{take-suc-set, append-snoc, drop-set-lt, drop-drop}
 use Rattle.model.specs.Machine.{Move, Pair}
 use Rattle.model.specs.Compare.{compareFrom, comparePair, distance, least, target, shows, within, best, shortest}
@@ -18,8 +17,11 @@ use Rattle.model.specs.laws.Closed.{Closed}
 use Rattle.model.specs.laws.LeastLaw.{least-unique}
 use Rattle.model.specs.laws.Basics.{clash, not-true-false}
 use Rattle.model.specs.laws.CompareLaw.{Shown, shows-shown, best-shows, best-below, exact-next, within-mono, shortest-length, best-agrees, Stable, stable-all}
-use Rattle.mutation.specs.Tables.{Exact, Marks, near}
-use Rattle.mutation.specs.Answers.{overlay}
+use Rattle.mutation.specs.declared.Compared.{Compared}
+use Rattle.mutation.specs.declared.Compared.the-variants.{Conforms, Differs}
+use Rattle.mutation.specs.Tables.{Exact, Marks, near, cellOf}
+use Rattle.mutation.specs.Answers.{overlay, comparedOf, found}
+use Rattle.mutation.proofs.MarksLaw.{marks-next, stable-round}
 
 pub record Following (m : Pair) (d : ℕ) (buf₀ buf : List ℕ) (p q i left : ℕ) : Type 0 where
   pub p-below : p < m .states
@@ -98,7 +100,7 @@ pub record Turn (m : Pair) (left p q x : ℕ) : Type 0 where
   pub is-best : x ≡ best m (left - 1) p q
   pub took : Taken m (left - 1) p q x
 
-pub turn : (m : Pair) (dist : List ℕ) (d : ℕ) (buf₀ buf : List ℕ) (p q i left x : ℕ) → Closed m → Marks m dist d → Following m d buf₀ buf p q i left →
+pub turn : (m : Pair) (dist : List ℕ) (d : ℕ) (buf₀ buf : List ℕ) (p q i left x : ℕ) → Closed m → Marks m dist (d - 1) → Following m d buf₀ buf p q i left →
     0 < left → x ≡ least (m .inputs) (shows m (near dist (left - 1)) p q) → Turn m left p q x
 turn m dist d buf₀ buf p q i left x cl marks f pos e =
     let one : left ≡ suc (left - 1) = omega arith in
@@ -129,36 +131,64 @@ search-start m buf₀ dist few e =
     first zero p q le lp lq = rw (e, getD-replicate {A = ℕ} 256 (p * 16 + q) 257 0 (omega arith)) refl
     first (suc i) p q le lp lq = absurd (omega arith)
 
--- after a round that tells them apart
-module _ (m : Pair) (dist : List ℕ) (j : ℕ) (cl : Closed m) (low : m .start < m .states) (apart : within m j 0 (m .start) ≡ false) (marks : Marks m dist (suc j)) where
-  at-start : near dist (suc j) 0 (m .start) ≡ leb (getD dist (m .start) 0) (suc j)
-  unfolding near
-  at-start = let e : 0 * 16 + m .start ≡ m .start = omega arith in rw e refl
-
-  pub found-exact : getD dist (m .start) 0 ≤ suc j → Exact m (suc j) 0 (m .start)
-  found-exact l =
-      record {
-        here = sym (marks .agrees (suc j) 0 (m .start) (omega arith) (omega arith) low) ∙ at-start ∙ le-leb (getD dist (m .start) 0) (suc j) l;
-        before = λ i lt. not-true-false (within m i 0 (m .start)) (λ h. clash (within m j 0 (m .start)) (within-mono m i j 0 (m .start) cl (omega arith) h) apart);
-      }
-
-  pub still-apart : suc j < getD dist (m .start) 0 → within m (suc j) 0 (m .start) ≡ false
-  still-apart l = sym (marks .agrees (suc j) 0 (m .start) (omega arith) (omega arith) low) ∙ at-start ∙ lt-leb (getD dist (m .start) 0) (suc j) l
-
-pub compare-found : (m : Pair) (d : ℕ) → Closed m → d ≤ m .states * m .states → Exact m d 0 (m .start) → comparePair m ≡ some (shortest m d 0 (m .start))
+compare-found : (m : Pair) (d : ℕ) → Closed m → d ≤ m .states * m .states → Exact m d 0 (m .start) → comparePair m ≡ some (shortest m d 0 (m .start))
 unfolding comparePair compareFrom distance
 compare-found m d cl le ex =
     let e : least (m .states * m .states) (λ i. within m i 0 (m .start)) ≡ d =
     least-unique (m .states * m .states) (λ i. within m i 0 (m .start)) d le (ex .before) (λ _. ex .here) in
     rw (within-mono m d (m .states * m .states) 0 (m .start) cl le (ex .here), e) refl
 
-pub compare-not : (m : Pair) → within m (m .states * m .states) 0 (m .start) ≡ false → comparePair m ≡ none
+compare-not : (m : Pair) → within m (m .states * m .states) 0 (m .start) ≡ false → comparePair m ≡ none
 unfolding comparePair compareFrom
 compare-not m h = rw h refl
 
--- where a round adds nothing, none will
-pub never-found : (m : Pair) (j : ℕ) → Closed m → m .start < m .states → within m j 0 (m .start) ≡ false → Stable m j →
-    within m (m .states * m .states) 0 (m .start) ≡ false
-never-found m j cl low apart st =
-    not-true-false (within m (m .states * m .states) 0 (m .start))
-    (λ h. clash (within m j 0 (m .start)) (stable-all m j cl st (m .states * m .states) 0 (m .start) (omega arith) low h) apart)
+-- what comparing answers and writes
+abbrev pub Tells : Pair → Compared → List ℕ → List ℕ → Type 0
+Tells m r buf₀ buf = (r ≡ comparedOf (comparePair m)) × (buf ≡ overlay (found (comparePair m)) buf₀)
+
+module _ {m : Pair} (cl : Closed m) (low : m .start < m .states) {buf₀ buf dist : List ℕ} {j : ℕ} (inv : Searching m buf₀ buf dist j) where
+  -- one input more: x is the first that shows a difference
+  module _ {x : ℕ} (e : x ≡ least (m .inputs) (shows m (near dist j) 0 (m .start))) where
+    is-best : x ≡ best m j 0 (m .start)
+    is-best = e ∙ best-agrees m (near dist j) j 0 (m .start) cl (omega arith) low (λ a b la lb. inv .marks .agrees j a b (omega arith) la lb)
+
+    pub found-exact : x < m .inputs → Exact m (j + 1) 0 (m .start)
+    unfolding within best
+    found-exact l =
+        rw add-one
+        (record {
+          here = lt-ltb (best m j 0 (m .start)) (m .inputs) (rw is-best at l);
+          before = λ i lt. not-true-false (within m i 0 (m .start)) (λ h. clash (within m j 0 (m .start)) (within-mono m i j 0 (m .start) cl (omega arith) h) (inv .apart));
+        })
+
+    still-apart : m .inputs ≤ x → within m (j + 1) 0 (m .start) ≡ false
+    unfolding within best
+    still-apart l = rw add-one (le-ltb (best m j 0 (m .start)) (m .inputs) (rw is-best at l))
+
+    -- the sequence is written
+    pub tells-found : {after : List ℕ} → x < m .inputs → j < m .states * m .states → after ≡ overlay (shortest m (j + 1) 0 (m .start)) buf → Tells m (Differs (j + 1)) buf₀ after
+    tells-found l fits w =
+        let c = compare-found m (j + 1) cl (omega arith) (found-exact l) in
+        (rw c (ap Differs (sym (shortest-length m (j + 1) 0 (m .start)))), rw c (w ∙ rw (inv .untouched) refl))
+
+  -- a round
+  module _ (after : List ℕ) (few : m .states ≤ 16) (turn-low : j < 256) (cells : (i : ℕ) → i < 256 → getD after i 0 ≡ cellOf m dist j i) where
+    next-marks : Marks m after (suc j)
+    next-marks = marks-next m dist after j cl few turn-low (inv .marks) cells
+
+    pub search-more : {x : ℕ} → x ≡ least (m .inputs) (shows m (near dist j) 0 (m .start)) → m .inputs ≤ x → length after ≡ 256 → Searching m buf₀ buf after (j + 1)
+    search-more e l full = record { untouched = inv .untouched; full = full; marks = rw add-one next-marks; apart = still-apart e l }
+
+    -- one that changed nothing: none will
+    pub tells-stable : ((i : ℕ) → getD after i 0 ≡ getD dist i 0) → Tells m Conforms buf₀ buf
+    tells-stable same =
+        let st : Stable m j = stable-round m dist after j cl few turn-low (inv .marks) next-marks same in
+        let most = m .states * m .states in
+        let c = compare-not m (not-true-false (within m most 0 (m .start)) (λ h. clash (within m j 0 (m .start)) (stable-all m j cl st most 0 (m .start) (omega arith) low h) (inv .apart))) in
+        (rw c refl, rw c (inv .untouched))
+
+  -- after the last round
+  pub tells-last : j ≡ m .states * m .states → Tells m Conforms buf₀ buf
+  tells-last e =
+      let c = compare-not m (subst (λ (i : ℕ). within m i 0 (m .start) ≡ false) e (inv .apart)) in
+      (rw c refl, rw c (inv .untouched))

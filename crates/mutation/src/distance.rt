@@ -2,7 +2,7 @@
 // state * 16 + input, mo and mn the mutant's.
 ghost use mathlib.Core.Path.{_≡_};
 ghost use mathlib.Core.Bool.{false};
-ghost use Prim.Native.Nat.{ℕ, _+_, _*_, _/_, _≤_, _<_};
+ghost use Prim.Native.Nat.{ℕ, _+_, _-_, _*_, _/_, _≤_, _<_};
 ghost use lib.ListN.{length, getD, replicate};
 ghost use Rattle.model.specs.Compare.{least, shortest, comparePair};
 ghost use Rattle.model.specs.Compare.{shows as showsOf};
@@ -180,7 +180,7 @@ fn follow(
 )
     requires { ⌜ Valid n k (now so) (now sn) (now mo) (now mn) ⌝ }
     requires { ⌜ start < n ⌝ }
-    requires { ⌜ Marks (tables n k start (now so) (now sn) (now mo) (now mn)) (now dist) d ⌝ }
+    requires { ⌜ Marks (tables n k start (now so) (now sn) (now mo) (now mn)) (now dist) (d - 1) ⌝ }
     requires { ⌜ Exact (tables n k start (now so) (now sn) (now mo) (now mn)) d 0 start ⌝ }
     requires { ⌜ d ≤ length (now buf) ⌝ }
     ensures { λ r. ⌜ now (buf .exit) ≡ overlay (shortest (tables n k start (now (so .entry)) (now (sn .entry)) (now (mo .entry)) (now (mn .entry))) d 0 start) (now (buf .entry)) ⌝ }
@@ -206,7 +206,8 @@ fn unmarked() -> [u16; 256]
     [257u16; 256]
 }
 
-// Conforming, or the shortest, then smallest, distinguishing sequence, written at the front of buf.
+// Conforming, or the shortest, then smallest, distinguishing sequence, written at the front of buf. Each turn asks whether the
+// states to start from are j + 1 apart before it finds out which others are.
 pub(crate) fn distinguish<'a, 'b>(
     so: &'a [u8; 256],
     sn: &'a [u8; 256],
@@ -227,14 +228,15 @@ pub(crate) fn distinguish<'a, 'b>(
     let top = bound(n);
     let mut j: u16 = 0;
     while j < top {
+        if first_showing(so, sn, mo, mn, &dist, n, k, 0, start, j) < k {
+            let d = j + 1;
+            follow(so, sn, mo, mn, &dist, n, k, start, d, buf);
+            return Compared::Differs(d as usize);
+        }
         if !round(so, sn, mo, mn, &mut dist, n, k, j) {
             return Compared::Conforms;
         }
         j += 1;
-        if dist[start] <= j {
-            follow(so, sn, mo, mn, &dist, n, k, start, j, buf);
-            return Compared::Differs(j as usize);
-        }
     }
     Compared::Conforms
 }
