@@ -1,16 +1,15 @@
 -- Tables that hold what a well-formed sheet and a mutant of it say are that specification and that mutant: outside its states
 -- and inputs both say nothing.
-use Prim.Native.Nat.{ℕ, _+_, _*_, _/_, _%_, _≤_, _<_}
+use Prim.Native.Nat.{ℕ, _+_, _*_, _/_, _%_, _<_}
 use native.Mathlib.Omega.{arith}
-use mathlib.Core.Path.{_≡_, refl, sym, _∙_, ap, subst, fun-ext}
+use mathlib.Core.Path.{_≡_, refl, sym, _∙_, fun-ext}
 use mathlib.Core.Bool.{Bool, true, false, cond, _&&_}
 use mathlib.Core.Option.{Option, none, some}
 use mathlib.Core.List.{List}
 use borrow.Author.Tests.{ltb-true, ltb-false}
 use lib.Dec.{ltb}
-use lib.ListN.{getD}
 use Rattle.sheet.specs.Sheet.{Sheet}
-use Rattle.model.specs.Machine.{Move, Pair}
+use Rattle.model.specs.Machine.{Move}
 use Rattle.model.specs.Mutant.{rule, idle, step, initial, against}
 use Rattle.model.specs.laws.Closed.{Closed, rule-in, closed}
 use Rattle.model.specs.laws.StepLaw.{step-outside}

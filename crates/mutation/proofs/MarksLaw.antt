@@ -1,21 +1,19 @@
 -- Laws of the rounds: what a cell becomes, and that after j rounds the table holds every distance up to j.
-use Prim.Native.Nat.{ℕ, zero, suc, _+_, _*_, _/_, _%_, _≤_, _<_}
+use Prim.Native.Nat.{ℕ, suc, _+_, _*_, _/_, _%_, _≤_, _<_}
 use native.Mathlib.Nat.{eq-or-lt-of-le}
 use native.Mathlib.Decide.{decLe, decLt, ℕ-discrete}
 use native.Mathlib.Omega.{arith}
 use mathlib.Core.Path.{_≡_, refl, sym, _∙_, ap, ap₂, subst, fun-ext}
 use mathlib.Core.Logic.{_⊎_, inl, inr, ⊎-elim, by-cases}
 use mathlib.Core.Bool.{Bool, true, false, cond, _&&_}
-use mathlib.Core.List.{List, [], _∷_}
-use borrow.Author.Tests.{eq-eqb, ne-eqb, lt-ltb, le-ltb, le-leb, lt-leb, leb-true, leb-false, ltb-true, ltb-false}
-use lib.Dec.{eqb, ltb, leb}
+use mathlib.Core.List.{List}
+use borrow.Author.Tests.{lt-ltb, le-ltb, le-leb, lt-leb, leb-true}
+use lib.Dec.{ltb, leb}
 use lib.ListN.{length, getD, set}
 use lib.Seq.{getD-set-same, getD-set-other, set-getD}
-use Rattle.model.specs.Machine.{Move, Pair}
-use Rattle.sheet.specs.Lists.{maybe}
+use Rattle.model.specs.Machine.{Pair}
 use Rattle.model.specs.Compare.{least, shows, within, best}
 use Rattle.model.specs.laws.Closed.{Closed}
-use Rattle.model.specs.laws.Basics.{clash}
 use Rattle.model.specs.laws.CompareLaw.{within-mono, best-agrees, Stable}
 use Rattle.mutation.specs.Tables.{near, cellWith, cellOf, Marks}
 

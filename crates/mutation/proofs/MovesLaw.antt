@@ -2,30 +2,27 @@
 use Prim.Native.Nat.{ℕ, zero, suc, _+_, _-_, _*_, _/_, _%_, _≤_, _<_}
 use native.Mathlib.Decide.{ℕ-discrete, decLt}
 use native.Mathlib.Omega.{arith}
-use mathlib.Core.Path.{_≡_, refl, sym, _∙_, ap, ap₂, subst, fun-ext}
-use mathlib.Core.Logic.{by-cases, ⊎-elim}
-use mathlib.Core.Bool.{Bool, true, false, cond, _&&_}
+use mathlib.Core.Path.{_≡_, refl, sym, _∙_, ap}
+use mathlib.Core.Logic.{by-cases}
 use mathlib.Core.Option.{Option, none, some}
-use mathlib.Core.List.{List, [], _∷_}
-use borrow.Author.Tests.{lt-ltb, le-ltb, ltb-true, ltb-false, eq-eqb, ne-eqb}
-use lib.Dec.{eqb, ltb}
-use lib.ListN.{length, getD, set, take, length-take, length-set}
+use mathlib.Core.List.{List}
+use borrow.Author.Tests.{ne-eqb}
+use lib.ListN.{length, getD, set, take}
 use lib.Seq.{getD-take, length-take-le, getD-set-same, getD-set-other}
 use Rattle.sheet.specs.declared.Row.{Row}
 use Rattle.sheet.specs.Lists.{maybe}
 use Rattle.sheet.specs.Sheet.{Sheet, rowsAt, ruleAt, unruledChoices, choicesAt}
 use Rattle.sheet.specs.Tables.{firstFault, noRow, tablesOf}
-use Rattle.sheet.specs.WellFormed.{WellFormed}
 use Rattle.sheet.specs.laws.TablesLaw.{table-at}
 use Rattle.model.specs.Machine.{Move}
-use Rattle.model.specs.Mutant.{moveOf, rule, transitions, siteOf, idle, step, IsMutant}
+use Rattle.model.specs.Mutant.{moveOf, rule, transitions, siteOf, idle, step}
 use Rattle.model.specs.Operations.{firstHigh}
-use Rattle.model.specs.laws.Closed.{MoveIn, rule-row}
+use Rattle.model.specs.laws.Closed.{rule-row}
 use Rattle.model.specs.laws.TransitionLaw.{rule-choice, fault-choice, unruled-choice, transition-in}
 use Rattle.model.specs.laws.FaultLaw.{FaultAt, fault-at}
 use Rattle.model.specs.laws.SuspectLaw.{slot-count, site-is}
 use Rattle.model.specs.laws.StepLaw.{choiceOf, step-at, step-outside, choice-below}
-use Rattle.model.specs.laws.OperationLaw.{in-range, FirstHigh, first-high, none-high, mutant-length}
+use Rattle.model.specs.laws.OperationLaw.{in-range, first-high, none-high, mutant-length}
 use Rattle.mutation.specs.Answers.{indexOr}
 use Rattle.mutation.specs.Tables.{ruleIn}
 use Rattle.mutation.specs.Mutants.{Placed, Ruled, Ready, choiceIn, Moves}

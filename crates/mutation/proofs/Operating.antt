@@ -1,10 +1,9 @@
 -- The operations on an accepted sheet: each way out is a case of what they come to.
-use Prim.Native.Nat.{ℕ, suc, _+_, _*_, _≤_, _<_}
+use Prim.Native.Nat.{ℕ, _*_, _≤_, _<_}
 use native.Mathlib.Omega.{arith}
 use mathlib.Core.Path.{_≡_, refl, sym, _∙_, ap, subst}
-use mathlib.Core.Bool.{Bool, true, false, cond}
 use mathlib.Core.Option.{Option, none, some}
-use mathlib.Core.List.{List, [], _∷_}
+use mathlib.Core.List.{List}
 use borrow.Author.Tests.{lt-ltb, le-ltb}
 use lib.Dec.{ltb}
 use lib.ListN.{length, getD}
@@ -12,10 +11,10 @@ use Rattle.sheet.specs.declared.Summary.{Summary}
 use Rattle.sheet.specs.declared.Tables.{Tables}
 use Rattle.sheet.specs.Sheet.{Sheet}
 use Rattle.sheet.specs.Reading.{Result, accepted, refused}
-use Rattle.model.specs.Machine.{Move, outputsFrom}
+use Rattle.model.specs.Machine.{outputsFrom}
 use Rattle.model.specs.Mutant.{outputs, step, initial, against, IsMutant}
 use Rattle.model.specs.Compare.{comparePair}
-use Rattle.model.specs.Suite.{Place, firstFailedIn, firstFailedOf, compareOf, wrongIn}
+use Rattle.model.specs.Suite.{firstFailedOf, compareOf}
 use Rattle.model.specs.Operations.{refuseIf, refuseAt, firstOver, withMutant}
 use Rattle.model.specs.laws.Closed.{start-below}
 use Rattle.model.specs.laws.OperationLaw.{mutant-goes-on, over-first, over-none}
@@ -24,8 +23,8 @@ use Rattle.mutation.specs.declared.moves.Machine.{Machine}
 use Rattle.mutation.specs.Answers.{indexOr}
 use Rattle.mutation.specs.Tables.{tables, movesIn, Valid}
 use Rattle.mutation.specs.Tests.{Total}
-use Rattle.mutation.specs.Mutants.{Ruled, Moves}
-use Rattle.mutation.specs.Fits.{Read, fitOf, Machined}
+use Rattle.mutation.specs.Mutants.{Moves}
+use Rattle.mutation.specs.Fits.{Read, Machined}
 use Rattle.mutation.specs.Operate.{runOn, compareOn}
 use Rattle.mutation.proofs.Against.{moves-step, tables-against, tables-valid, tables-total}
 use Rattle.mutation.proofs.FitsLaw.{fit-refused, fit-mutant, read-states, read-inputs, read-ruled}

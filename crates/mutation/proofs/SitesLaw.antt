@@ -3,17 +3,16 @@ use Prim.Native.Nat.{ℕ, zero, suc, _+_, _-_, _*_, _/_, _%_, _≤_, _<_}
 use native.Mathlib.Numerals.{add-one}
 use native.Mathlib.Decide.{ℕ-discrete, decLt}
 use native.Mathlib.Omega.{arith}
-use mathlib.Core.Path.{_≡_, refl, sym, _∙_, ap, ap₂, subst}
+use mathlib.Core.Path.{_≡_, refl, sym, _∙_, ap}
 use mathlib.Core.Logic.{by-cases}
 use mathlib.Core.Bool.{Bool, true, false, cond, _&&_}
 use mathlib.Core.List.{List, [], _∷_, _++_, append-nil}
 use borrow.Author.Tests.{lt-ltb, le-ltb}
 use lib.Dec.{ltb}
 use lib.ListN.{length, getD, set, drop, replicate, length-append, length-set, length-replicate, getD-replicate}
-use lib.Seq.{getD-set-same, getD-set-other, set-at, drop-cons, append-snoc, getD-drop, getD-append-add}
+use lib.Seq.{getD-set-same, getD-set-other, set-at, drop-cons, append-snoc}
 use Rattle.mutation.specs.Answers.{overlay}
 use Rattle.mutation.specs.Sites.{openAt, openChoices, Numbered}
-use Rattle.mutation.specs.declared.sites.Sites.{Sites}
 
 module _ (n k : ℕ) (choices : List ℕ) (i : ℕ) where
   open-no-state : n ≤ i / 16 → openAt n k choices i ≡ false

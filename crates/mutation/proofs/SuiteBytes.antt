@@ -2,9 +2,8 @@
 use Prim.Native.Nat.{ℕ, zero, suc, _+_, _*_, _≤_, _<_}
 use native.Mathlib.Nat.{le-of-suc-le-suc}
 use native.Mathlib.Omega.{arith}
-use mathlib.Core.Path.{_≡_, refl, sym, _∙_, ap, ap₂, subst}
-use mathlib.Core.Bool.{Bool, true, false, cond}
-use mathlib.Core.Option.{Option, none, some}
+use mathlib.Core.Path.{_≡_, refl, sym, _∙_, ap}
+use mathlib.Core.Bool.{cond}
 use mathlib.Core.List.{List, [], _∷_, _++_, append-assoc}
 use borrow.Author.Tests.{lt-ltb}
 use lib.Dec.{ltb}
@@ -12,18 +11,16 @@ use lib.ListN.{length, getD, take, drop, length-append}
 use lib.Seq.{getD-append-add, split-at}
 use Rattle.sheet.specs.declared.Summary.{Summary}
 use Rattle.sheet.specs.declared.Tables.{Tables}
-use Rattle.sheet.specs.Lists.{maybe, All}
 use Rattle.sheet.specs.Sheet.{Sheet}
 use Rattle.sheet.specs.Encode.{pressBytes, testBytes, machineBytes, body, encode}
 use Rattle.sheet.specs.Reading.{summaryOf}
 use Rattle.sheet.specs.Part.{spanOf}
 use Rattle.sheet.specs.Tables.{tablesOf}
-use Rattle.sheet.specs.WellFormed.{WellFormed}
 use Rattle.sheet.specs.laws.TablesLaw.{table-at}
 use Rattle.sheet.specs.laws.Parts.{before, presses, after, layout, presses-length}
 use Rattle.model.specs.Machine.{Pair}
-use Rattle.model.specs.Mutant.{rule, specified, outputs, against}
-use Rattle.model.specs.Suite.{Place, laterTest, wrongIn, firstFailedIn, firstFailedOf}
+use Rattle.model.specs.Mutant.{specified, outputs, against}
+use Rattle.model.specs.Suite.{wrongIn, firstFailedIn, firstFailedOf}
 use Rattle.model.specs.laws.ListLaw.{all-at-index}
 use Rattle.model.specs.laws.SuiteLaw.{Specified, test-specified}
 use Rattle.mutation.specs.Tests.{wrongFrom, failedFrom, Test, Tests}

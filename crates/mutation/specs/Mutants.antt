@@ -1,13 +1,12 @@
 -- What the code's tables hold of a sheet and of a mutant of it.
-use Prim.Native.Nat.{ℕ, _+_, _*_, _/_, _%_, _<_, _≤_}
+use Prim.Native.Nat.{ℕ, _/_, _%_, _<_}
 use mathlib.Core.Path.{_≡_}
 use mathlib.Core.Bool.{cond}
-use mathlib.Core.Option.{Option, none, some}
-use mathlib.Core.List.{List, [], _∷_}
+use mathlib.Core.List.{List}
 use lib.Dec.{eqb}
 use lib.ListN.{length, getD, replicate}
 use Rattle.sheet.specs.Lists.{maybe}
-use Rattle.sheet.specs.Sheet.{Sheet, choicesAt}
+use Rattle.sheet.specs.Sheet.{Sheet}
 use Rattle.sheet.specs.Tables.{tablesOf}
 use Rattle.sheet.specs.WellFormed.{WellFormed}
 use Rattle.model.specs.Machine.{Move}

@@ -1,11 +1,10 @@
 // A machine on the tests of a sheet, both the specification and the machine as tables.
-ghost use Prim.Native.Nat.{ℕ, _+_, _*_, _≤_, _<_};
+ghost use Prim.Native.Nat.{ℕ, _+_, _*_, _<_};
 ghost use mathlib.Core.Path.{_≡_};
 ghost use mathlib.Core.List.{List};
 ghost use Rattle.mutation.specs.Answers.{indexOr, failedOf};
 ghost use Rattle.mutation.specs.Tables.{tables, Valid};
 ghost use Rattle.mutation.specs.Tests.{wrongFrom, failedFrom, Test, Tests};
-ghost use lib.ListN.{length};
 ghost use Rattle.sheet.specs.Sheet.{Sheet};
 ghost use Rattle.sheet.specs.Encode.{encode};
 ghost use Rattle.sheet.specs.Reading.{accepted};

@@ -1,6 +1,5 @@
 -- `compare_accepted`: each way out is a case of what comparing comes to.
-use Prim.Native.Nat.{ℕ}
-use mathlib.Core.Path.{_≡_, sym, _∙_, ap}
+use mathlib.Core.Path.{sym, _∙_, ap}
 use native.Mathlib.Omega.{arith}
 use lib.ListN.{length}
 use Rattle.mutation.specs.Answers.{overlay, found, comparedOf, comparedAnswer, comparedWrites}

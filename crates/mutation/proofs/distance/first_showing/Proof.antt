@@ -1,11 +1,9 @@
 -- `first_showing`: no input below x shows it; so the first that does is the least, and k is where none does.
 use Prim.Native.Nat.{ℕ, _≤_, _<_, _-_}
 use mathlib.Core.Path.{_≡_, sym, _∙_}
-use mathlib.Core.Bool.{true, false}
-use native.Mathlib.Nat.{le-antisymm}
+use mathlib.Core.Bool.{false}
 use native.Mathlib.Omega.{arith}
-use borrow.Author.Count.{below-none, below-more}
-use borrow.Author.Needs.{needs}
+use borrow.Author.Count.{below-more}
 use Rattle.model.specs.Compare.{shows}
 use Rattle.mutation.specs.Tables.{tables, near}
 use Rattle.model.specs.laws.LeastLaw.{least-unique}

@@ -1,15 +1,12 @@
 -- `follow`: what `Following` says holds at each turn.
-use Prim.Native.Nat.{ℕ, suc, _≤_, _<_, _-_, _+_}
-use mathlib.Core.Path.{_≡_, refl, sym, _∙_, ap}
+use Prim.Native.Nat.{ℕ, suc, _<_, _-_}
+use mathlib.Core.Path.{_≡_, sym, _∙_, ap}
 use native.Mathlib.Omega.{arith}
-use borrow.Author.Needs.{needs}
-use lib.ListN.{length, length-set}
 use Rattle.mutation.specs.Tables.{tables}
-use Rattle.mutation.proofs.FollowLaw.{Following, follow-start, follow-more, follow-end, Taken, Turn, turn}
+use Rattle.mutation.proofs.FollowLaw.{Following, follow-start, follow-more, follow-end, Turn, turn}
 use Rattle.mutation.proofs.TablesLaw.{rule-target, the-move}
 use mathlib.Core.Path.{subst}
-use lib.ListN.{set}
-use Rattle.model.specs.Machine.{Pair, Move}
+use Rattle.model.specs.Machine.{Move}
 use Rattle.model.specs.Compare.{target}
 use Rattle.mutation.specs.Tables.{moveIn}
 use Rattle.mutation.proofs.distance.follow.Statement.{statement}

@@ -1,6 +1,5 @@
 -- `choice`: 0 where the pair uses no byte, its byte where it does.
-use mathlib.Core.Path.{_≡_, sym, _∙_, ap}
-use native.Mathlib.Omega.{arith}
+use mathlib.Core.Path.{sym, _∙_, ap}
 use lib.ListN.{getD}
 use Rattle.mutation.proofs.MovesLaw.{choice-none, choice-some}
 use borrow.Author.Needs.{needs}

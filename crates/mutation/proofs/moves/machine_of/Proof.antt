@@ -1,5 +1,5 @@
 -- `machine_of`: the bytes are no mutant, or both tables are filled.
-use mathlib.Core.Path.{_≡_, sym, _∙_, ap}
+use mathlib.Core.Path.{sym, _∙_, ap}
 use Prim.Native.Nat.{ℕ}
 use lib.ListN.{length, length-replicate}
 use Rattle.mutation.proofs.FitsLaw.{fit-mutant, machined-refused, read-few, read-room, read-ready, read-fit, read-machined}

@@ -1,8 +1,8 @@
 -- `respond`: the outputs of the inputs before i are written.
 use Prim.Native.Nat.{ℕ, _-_, _<_}
-use mathlib.Core.Path.{_≡_, sym, _∙_, ap}
+use mathlib.Core.Path.{_∙_, ap}
 use native.Mathlib.Omega.{arith}
-use lib.ListN.{length, getD}
+use lib.ListN.{length}
 use Rattle.model.specs.Machine.{Move}
 use Rattle.mutation.specs.Tables.{movesIn}
 use Rattle.mutation.proofs.RespondLaw.{Responding, respond-start, respond-more, respond-end, stepped}

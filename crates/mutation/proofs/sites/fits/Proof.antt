@@ -1,8 +1,6 @@
 -- `fits`: each way out is a case of the two refusals.
-use mathlib.Core.Path.{_≡_, sym}
 use native.Mathlib.Omega.{arith}
 use Rattle.mutation.proofs.FitsLaw.{fit-length, fit-high, fit-low}
-use borrow.Author.Needs.{needs}
 use Rattle.mutation.proofs.sites.fits.Statement.{statement}
 use Rattle.mutation.proofs.sites.fits.Tie as tie
 use Rattle.mutation.proofs.sites.fits.Reads as reads

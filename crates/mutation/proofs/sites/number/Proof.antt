@@ -1,6 +1,6 @@
 -- `number`: what holds after the pairs before an index.
 use Prim.Native.Nat.{_*_, _-_, _<_}
-use mathlib.Core.Path.{_≡_, sym, _∙_}
+use mathlib.Core.Path.{sym, _∙_}
 use mathlib.Core.Logic.{⊎-elim}
 use native.Mathlib.Omega.{arith}
 use Rattle.mutation.proofs.SitesLaw.{Numbering, number-start, number-open, number-shut, number-end, room}

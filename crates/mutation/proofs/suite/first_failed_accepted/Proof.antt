@@ -1,5 +1,5 @@
 -- `first_failed_accepted`: each way out is a case of what the first failed test comes to.
-use mathlib.Core.Path.{_≡_, sym, _∙_, ap}
+use mathlib.Core.Path.{sym, _∙_, ap}
 use Rattle.sheet.specs.Reading.{accepted}
 use Rattle.model.specs.Suite.{firstFailedOf}
 use Rattle.mutation.specs.Answers.{failedOf, failedAnswer}

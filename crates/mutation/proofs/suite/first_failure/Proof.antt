@@ -1,9 +1,9 @@
 -- `first_failure`: the tests before t are right, for every suite that these are the tables of.
-use Prim.Native.Nat.{ℕ, _≤_, _<_, _-_}
-use mathlib.Core.Path.{_≡_, sym, _∙_, ap, subst}
+use Prim.Native.Nat.{ℕ, _≤_, _-_}
+use mathlib.Core.Path.{_≡_, sym, ap}
 use mathlib.Core.List.{List, []}
 use native.Mathlib.Omega.{arith}
-use lib.ListN.{length, getD, drop}
+use lib.ListN.{getD, drop}
 use Rattle.mutation.specs.Answers.{failedOf}
 use Rattle.mutation.specs.Tables.{tables}
 use Rattle.mutation.specs.Tests.{failedFrom, Tests}

@@ -1,9 +1,8 @@
 -- `first_wrong`: the outputs before i are right, for every test that these are the commands of.
 use Prim.Native.Nat.{ℕ, _≤_, _<_, _-_}
-use mathlib.Core.Path.{_≡_, sym, _∙_, subst}
+use mathlib.Core.Path.{_∙_}
 use mathlib.Core.List.{List}
 use native.Mathlib.Omega.{arith}
-use lib.ListN.{length, getD}
 use Rattle.mutation.specs.Tables.{tables}
 use Rattle.mutation.specs.Tests.{Test}
 use Rattle.mutation.proofs.SuiteTables.{Trying, try-start, try-end, index, rule-below, move-below, turn-more, turn-wrong}
