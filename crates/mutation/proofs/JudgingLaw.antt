@@ -39,7 +39,7 @@ use Rattle.mutation.specs.Fits.{Read}
 use Rattle.mutation.specs.Mutants.{Placed}
 use Rattle.mutation.specs.Sites.{openChoices, Numbered}
 use Rattle.mutation.specs.Search.{Prefix, NoneFrom, FirstFrom, byFound, Searching}
-use Rattle.mutation.specs.Judging.{judgementAnswer, judgedAnswer, boardWrites, sequenceWrites, refusalOf, judgingOf, Judges, ReadFrom, shownOf, JudgedSays, SaysOf, ToldJudged}
+use Rattle.mutation.specs.Judging.{judgementAnswer, judgedAnswer, boardWrites, sequenceWrites, judgingOf, Judges, ReadFrom, shownOf, JudgedSays, SaysOf, ToldJudged}
 use Rattle.mutation.proofs.FitsLaw.{read-states, read-inputs, read-few, read-sited, read-ruled}
 use Rattle.mutation.proofs.BlockLaw.{getD-default, slot-few}
 use Rattle.mutation.proofs.PackedLaw.{block-for}
@@ -132,8 +132,8 @@ module _ {sh : Sheet} {size : Summary} {tables : Tables} {s : List ℕ} (rd : Re
     pub few-open : (n ≤ 16) × (length (openChoices n k (tables .choices) 256) ≤ 32)
     few-open = read-few sh size tables (rd .read) n k en ek
 
-    pub square-small : n * n ≤ 256
-    square-small = let h : n * n ≤ 16 * 16 = mul-le-mul (few-open .0) (few-open .0) in omega arith
+    pub some-state : 0 < n
+    some-state = rw (en ∙ read-states sh size tables (rd .read)) (rd .read .formed .size .states .some)
 
     module _ (r : Sites) (num : Numbered n k (tables .choices) r) where
       pub counted : r .count ≡ length (slots sh)
@@ -157,6 +157,10 @@ module _ {sh : Sheet} {size : Summary} {tables : Tables} {s : List ℕ} (rd : Re
             count = sited .count-is;
           }
 
+    -- the packed states are the sheet's
+    pub packed-square : {m bytes p : List ℕ} {i count : ℕ} → Searching sh m bytes p i count → statesOf m * statesOf m ≡ n * n
+    packed-square w = rw (w .block .states, en ∙ read-states sh size tables (rd .read)) refl
+
   -- ---- the answers
 
   module _ (board sequence : List ℕ) where
@@ -178,36 +182,39 @@ module _ {sh : Sheet} {size : Summary} {tables : Tables} {s : List ℕ} (rd : Re
         let g = lt-ltb (length sequence) (sh .size .states * sh .size .states) (rw es at l) in
         record { answer = rw (h, g) refl; board = rw (h, g) refl; sequence = rw (h, g) refl }
 
-    module _ (count n : ℕ) (e : count ≡ length (slots sh)) (en : n ≡ size .states) (lb : count ≤ length board) (l : n * n ≤ length sequence) where
-      room : judgingOf sh (length board) (length sequence) ≡ accepted (judgeOf sh)
-      unfolding judgingOf
-      room =
-          let es : n ≡ sh .size .states = en ∙ read-states sh size tables (rd .read) in
-          let h = le-ltb (length board) (length (slots sh)) (omega arith) in
-          let g = le-ltb (length sequence) (sh .size .states * sh .size .states) (rw es at l) in
-          rw (h, g) refl
+    -- room for both
+    pub room : (count n : ℕ) → count ≡ length (slots sh) → n ≡ size .states → count ≤ length board → n * n ≤ length sequence →
+        judgingOf sh (length board) (length sequence) ≡ accepted (judgeOf sh)
+    unfolding judgingOf
+    room count n e en lb l =
+        let es : n ≡ sh .size .states = en ∙ read-states sh size tables (rd .read) in
+        let h = le-ltb (length board) (length (slots sh)) (omega arith) in
+        let g = le-ltb (length sequence) (sh .size .states * sh .size .states) (rw es at l) in
+        rw (h, g) refl
 
-      -- no survivor
-      pub judges-complete : (p a : List ℕ) (f : Bool) → f ≡ false → byFound sh p 0 f a →
-          Judges (judgingOf sh (length board) (length sequence)) judged.Complete board board sequence sequence
-      judges-complete p a f ef by =
-          let h = room ∙ ap (λ (j : Judgement). accepted j) (none-judged sh p (missed sh p 0 a f ef by)) in
-          record { answer = rw h refl; board = rw h refl; sequence = rw h refl }
+-- ---- what the search found
 
-      -- the first survivor, with what compare shows
-      pub judges-survivor : (p a : List ℕ) (f : Bool) → f ≡ true → byFound sh p 0 f a → (r : Judged) (board′ sequence′ : List ℕ) →
-          r ≡ shownOf (compareOf sh (take count a)) → board′ ≡ overlay (take count a) board → sequence′ ≡ overlay (found (compareOf sh (take count a))) sequence →
-          Judges (judgingOf sh (length board) (length sequence)) r board board′ sequence sequence′
-      judges-survivor p a true ef by r board′ sequence′ er eb es =
-          let fi = by .0 in
-          let h = room ∙ ap (λ (j : Judgement). accepted j) (first-judged sh p (take (length (slots sh)) a) (fi .inputs) fi (fi .shows)) in
-          let shows : compareOf sh (take count a) ≡ some (fi .inputs) = rw e (fi .shows) in
-          record {
-            answer = rw h (er ∙ rw shows refl);
-            board = rw h (eb ∙ rw e refl);
-            sequence = rw h (es ∙ rw shows refl);
-          }
-      judges-survivor p a false ef by r board′ sequence′ er eb es = absurd (let z : _≡_ {A = ℕ} 0 1 = cc in omega arith)
+module _ (sh : Sheet) (board sequence p a : List ℕ) where
+  -- no survivor
+  pub judges-complete : (f : Bool) → f ≡ false → byFound sh p 0 f a → Judges (accepted (judgeOf sh)) judged.Complete board board sequence sequence
+  judges-complete f ef by =
+      let h = none-judged sh p (missed sh p 0 a f ef by) in
+      record { answer = rw h refl; board = rw h refl; sequence = rw h refl }
+
+  -- the first survivor, with what compare shows
+  pub judges-survivor : (count : ℕ) → count ≡ length (slots sh) → (f : Bool) → f ≡ true → byFound sh p 0 f a → (r : Judged) (board′ sequence′ : List ℕ) →
+      r ≡ shownOf (compareOf sh (take count a)) → board′ ≡ overlay (take count a) board → sequence′ ≡ overlay (found (compareOf sh (take count a))) sequence →
+      Judges (accepted (judgeOf sh)) r board board′ sequence sequence′
+  judges-survivor count e true ef by r board′ sequence′ er eb es =
+      let fi = by .0 in
+      let h = first-judged sh p (take (length (slots sh)) a) (fi .inputs) fi (fi .shows) in
+      let shows : compareOf sh (take count a) ≡ some (fi .inputs) = rw e (fi .shows) in
+      record {
+        answer = rw h (er ∙ rw shows refl);
+        board = rw h (eb ∙ rw e refl);
+        sequence = rw h (es ∙ rw shows refl);
+      }
+  judges-survivor count e false ef by r board′ sequence′ er eb es = absurd (let z : _≡_ {A = ℕ} 0 1 = cc in omega arith)
 
 -- ---- a survivor that was found
 
@@ -232,10 +239,6 @@ module _ {sh : Sheet} {m bytes : List ℕ} {n : ℕ} (p a : List ℕ) (f : Bool)
         let h : getD (slots sh) j 0 ≤ 256 = rw (getD-default (slots sh) j 0 1 (omega (arith, w .count))) (slot-few sh (w .formed) j) in
         omega (arith, all-settled .low j l),
   )
-
-  -- there is room for its sequence
-  pub found-square : (size : Summary) (tables : Tables) (k room : ℕ) → Read sh size tables → k ≡ size .states → k * k ≤ room → statesOf m * statesOf m ≤ room
-  found-square size tables k room rd e l = rw (w .block .states) (rw (e ∙ read-states sh size tables rd) at l)
 
 -- ---- the sheet as it was loaded
 
@@ -268,12 +271,12 @@ loaded-refused s l number place e er = go (reading s) refl e
 
 module _ (s board sequence : List ℕ) where
   -- a sheet refused on reading: the same number and place, and nothing is written
-  pub judge-refused : (l : Loaded) (number place : ℕ) (r : Judged) → l ≡ loadedOf (reading s) → l .reading ≡ read.Refused number place → r ≡ refusalOf (l .reading) →
+  pub judge-refused : (l : Loaded) (number place : ℕ) (r : Judged) → l ≡ loadedOf (reading s) → l .reading ≡ read.Refused number place → r ≡ judged.Refused number place →
       Judges (judging s (length board) (length sequence)) r board board sequence sequence × ToldJudged s (length board) (length sequence) r board sequence
   unfolding judging ToldJudged
   judge-refused l number place r e er ea =
       let h = loaded-refused s l number place e er in (
-        record { answer = rw h (ea ∙ rw er refl); board = rw h refl; sequence = rw h refl },
+        record { answer = rw h ea; board = rw h refl; sequence = rw h refl },
         λ sh es. let same : _≡_ {A = Reading} (accepted sh) (refused number place) = sym es ∙ h in absurd (let z : _≡_ {A = ℕ} 0 1 = cc in omega arith),
       )
 

@@ -49,11 +49,6 @@ abbrev pub sequenceWrites : Result Judgement → List ℕ
 sequenceWrites (accepted j) = sequenceIn j
 sequenceWrites (refused number place) = []
 
--- a refusal of Read handed on
-abbrev pub refusalOf : ReadAnswer → Judged
-refusalOf (read.Accepted summary) = judged.Refused 0 0
-refusalOf (read.Refused number place) = judged.Refused number place
-
 -- the judgement of an accepted sheet, with room in both buffers
 unfoldable pub judgingOf : Sheet → ℕ → ℕ → Result Judgement
 judgingOf sh boardRoom sequenceRoom =

@@ -71,7 +71,7 @@ const SQUARES: [u16; 16] = [
     256,
 ];
 
-fn bound(n: usize) -> u16
+pub(crate) fn bound(n: usize) -> u16
     requires { ⌜ (0 < n) × (n ≤ 16) ⌝ }
     ensures { λ r. ⌜ r ≡ n * n ⌝ }
 {

@@ -1,7 +1,9 @@
 // 01's Judge.
 use crate::Compared;
+use crate::distance::bound;
 use crate::distance::distinguish;
 use crate::moves::wide;
+use crate::refusal_of;
 use crate::search::Found;
 use crate::search::search;
 use crate::sites::number;
@@ -22,28 +24,19 @@ ghost use mathlib.Core.List.{List};
 ghost use Prim.Native.Nat.{ℕ, _+_, _*_, _≤_, _<_};
 ghost use lib.ListN.{length, getD, take, drop, replicate};
 ghost use Rattle.sheet.specs.Sheet.{Sheet};
-ghost use Rattle.model.specs.Suite.{compareOf};
+ghost use Rattle.sheet.specs.Reading.{accepted};
+ghost use Rattle.model.specs.Suite.{compareOf, judgeOf};
 ghost use Rattle.model.specs.Operations.{judging};
 ghost use Rattle.engine.specs.Machine.{statesOf, suiteBytes};
 ghost use Rattle.mutation.specs.Answers.{overlay, found};
 ghost use Rattle.mutation.specs.Search.{Searching, byFound};
-ghost use Rattle.mutation.specs.Judging.{judgedAnswer, boardWrites, sequenceWrites, refusalOf, judgingOf, Judges, ReadFrom, shownOf, ToldJudged};
+ghost use Rattle.mutation.specs.Judging.{judgedAnswer, boardWrites, sequenceWrites, judgingOf, Judges, ReadFrom, shownOf, ToldJudged};
 
 // What Judge answers: complete, or the length of the first survivor's shortest distinguishing sequence.
 pub enum Judged {
     Complete,
     Survivor(usize),
     Refused(u8, usize),
-}
-
-// A refusal of Read, handed on.
-fn refusal(reading: Reading) -> Judged
-    ensures { λ r. ⌜ r ≡ refusalOf reading ⌝ }
-{
-    match reading {
-        Reading::Accepted(_) => Judged::Refused(0, 0),
-        Reading::Refused(number, place) => Judged::Refused(number, place),
-    }
 }
 
 // No choice settled.
@@ -107,6 +100,28 @@ fn show(block: &[u8; 1603], p: &[u16; 32], n: usize, sequence: &mut [u8]) -> Jud
     }
 }
 
+// The judgement of a packed sheet with room in both buffers: what the search finds, and what it is shown by.
+fn conclude(
+    block: &[u8; 1603],
+    bytes: &[u8],
+    count: usize,
+    board: &mut [u8],
+    sequence: &mut [u8],
+    nodes: &mut u32,
+) -> Judged
+    requires { ⌜ ((sh : Sheet) × Searching sh (now block) (now bytes) (replicate 32 256) 0 count) ⌝ }
+    requires { ⌜ (count ≤ length (now board)) × (statesOf (now block) * statesOf (now block) ≤ length (now sequence)) ⌝ }
+    ensures { λ r. ⌜ ((sh : Sheet) → Searching sh (now (block .entry)) (now (bytes .entry)) (replicate 32 256) 0 count → Judges (accepted (judgeOf sh)) r (now (board .entry)) (now (board .exit)) (now (sequence .entry)) (now (sequence .exit))) ⌝ }
+{
+    let answer = find(block, bytes, count, nodes);
+    if !answer.found {
+        return Judged::Complete;
+    }
+    let p = answer.p;
+    write_choices(&p, count, board);
+    show(block, &p, count, sequence)
+}
+
 // The judgement of a sheet that was read.
 fn judge_read(
     size: Summary,
@@ -127,7 +142,7 @@ fn judge_read(
     if board.len() < count {
         return Judged::Refused(16, 0);
     }
-    if sequence.len() < n * n {
+    if sequence.len() < bound(n) as usize {
         return Judged::Refused(16, 1);
     }
     let output = tables.output;
@@ -152,13 +167,7 @@ fn judge_read(
     );
     let place = 4 + 5 * size.rules + 5 * size.faults;
     let bytes = &sheet[place..];
-    let answer = find(&block, bytes, count, nodes);
-    if !answer.found {
-        return Judged::Complete;
-    }
-    let p = answer.p;
-    write_choices(&p, count, board);
-    show(&block, &p, count, sequence)
+    conclude(&block, bytes, count, board, sequence, nodes)
 }
 
 // Judge, with the number of nodes that the engine looked at: a measurement, of which nothing is promised.
@@ -178,7 +187,8 @@ pub fn judge_counting(
     let reading = loaded.reading;
     let tables = loaded.tables;
     let Reading::Accepted(size) = reading else {
-        return refusal(reading);
+        let why = refusal_of(reading);
+        return Judged::Refused(why.number, why.place);
     };
     judge_read(size, tables, sheet, board, sequence, nodes)
 }

@@ -1,5 +1,7 @@
 -- `judge_counting`: refused as reading refuses, or the judgement of the sheet that was read.
+use mathlib.Core.Path.{ap₂}
 use borrow.Author.Needs.{needs}
+use Rattle.mutation.specs.declared.verdict.Judged.the-variants.{Refused}
 use Rattle.mutation.proofs.JudgingLaw.{loaded-read, judge-refused, judge-accepted}
 use Rattle.mutation.proofs.verdict.judge_counting.Statement.{statement}
 use Rattle.mutation.proofs.verdict.judge_counting.Tie as tie
@@ -13,13 +15,15 @@ enum-known-reading c = search needs
 enum-told : tie.Need-enum-told
 enum-told c = search needs
 
-refusal-requires : tie.Need-refusal-requires
-refusal-requires c κs = search needs
+refusal-of-requires : tie.Need-refusal-of-requires
+refusal-of-requires c κs = search needs
 
 returns : tie.Need-returns
 returns c =
     let a = c .before .before .before .before .before .before .before .before .args in
-    let x = judge-refused (a .sheet .now) (a .board .now) (a .sequence .now) (c .before .before .before .before .load .result) _ _ (c .refusal .result) (c .before .before .before .before .load .ensures) (c .before .enum-told .given .1) (c .refusal .ensures) in
+    let g = c .before .enum-told .given in
+    let z = c .refusal-of .ensures (g .0 .0) (g .0 .1 .0) (g .1) in
+    let x = judge-refused (a .sheet .now) (a .board .now) (a .sequence .now) (c .before .before .before .before .load .result) (g .0 .0) (g .0 .1 .0) _ (c .before .before .before .before .load .ensures) (g .1) (ap₂ Refused (z .0) (z .1)) in
     (x .0 .answer, (x .0 .board, (x .0 .sequence, x .1)))
 
 judge-read-requires : tie.Need-judge-read-requires
@@ -47,7 +51,7 @@ judge-counting-spec =
     load-requires
     enum-known-reading
     enum-told
-    refusal-requires
+    refusal-of-requires
     returns
     judge-read-requires
     same-length
