@@ -9,12 +9,10 @@ use std::hint::black_box;
 
 /// Machines that engines found hard, as sheets: completely specified, a combination lock,
 /// and partly specified ones.
-const KEPT: [(&str, &[u8]); 3] = [
+const KEPT: [(&str, &[u8]); 5] = [
     ("v1, kept", include_bytes!("../machines/v1.sheet")),
     ("c2, kept", include_bytes!("../machines/c2.sheet")),
     ("p3, kept", include_bytes!("../machines/p3.sheet")),
-];
-const LONG: [(&str, &[u8]); 2] = [
     ("h2, kept", include_bytes!("../machines/h2.sheet")),
     ("h5, kept", include_bytes!("../machines/h5.sheet")),
 ];
@@ -22,7 +20,7 @@ const LONG: [(&str, &[u8]); 2] = [
 /// A sheet is easy if the first engine judges it with at most so many nodes.
 const EASY: u64 = 1_000;
 
-pub fn measure(table: &mut Table, long: bool) {
+pub fn measure(table: &mut Table) {
     one(table, "P1", &listed::p1());
     one(table, "P10", &listed::p10());
     let wide = families::wide().encode();
@@ -31,8 +29,7 @@ pub fn measure(table: &mut Table, long: bool) {
     family(table, "combination lock", &families::LOCK, 1..4);
     family(table, "partial machine", &families::PARTIAL, 2..5);
     family(table, "partial, 10 faults", &families::TEN_FAULTS, 1..4);
-    let kept = KEPT.iter().chain(if long { &LONG[..] } else { &[] });
-    for (case, sheet) in kept {
+    for (case, sheet) in KEPT {
         one(table, case, sheet);
     }
 }

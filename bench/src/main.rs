@@ -1,6 +1,5 @@
-//! Prints how long the library's operations take, beside the same in plain Rust.
-//!
-//! `ranthelo-bench` measures; `ranthelo-bench long` adds the sheets that take seconds.
+//! Prints how long the library's operations take, beside the same in plain Rust, and how much
+//! stack they need.
 
 #[cfg(feature = "judge")]
 mod judge;
@@ -24,7 +23,7 @@ fn main() {
     #[cfg(feature = "mutation")]
     mutation::measure(&mut table);
     #[cfg(feature = "judge")]
-    judge::measure(&mut table, arguments.iter().any(|word| word == "long"));
+    judge::measure(&mut table);
     table.print_growth();
     stack::print();
 }
