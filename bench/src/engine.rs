@@ -4,12 +4,15 @@
 //! test or conforms, and which of the settled suspects that rests on. The search asks
 //! it for one prefix after another, in dictionary order.
 
+use crate::first_engine;
 use crate::machine::{members, Judgement, Machine, Outcome, Partial, Set, Step, UNSETTLED};
 use crate::plain::{self, pair};
 use ranthelo_tests::reference::Refusal;
 
 /// No test waits for this output.
 const UNWANTED: u32 = u32::MAX;
+/// With so many nodes the quick attempts end.
+pub const QUICK: u64 = 512;
 /// How many learned refutations are kept.
 const STORE: usize = 512;
 
@@ -136,17 +139,6 @@ impl Engine<'_> {
         None
     }
 
-    /// The suspects used, if all that agree conform: an unsettled suspect takes any choice.
-    fn conforms(&self, partial: &Partial) -> Option<Set> {
-        self.machine.walk(partial, |suspect, (wanted, next), met| {
-            let choices = self.machine.choices(suspect);
-            choices.iter().all(|&(output, other)| {
-                met.add(next, other);
-                output == wanted
-            })
-        })
-    }
-
     /// Leaves suspects unsettled, the latest first, as long as all that agree conform.
     fn minimise(&self, partial: &Partial, set: Set) -> Set {
         let mut kept = [UNSETTLED; 32];
@@ -158,23 +150,13 @@ impl Engine<'_> {
             if set >> i & 1 == 1 {
                 let choice = kept[i];
                 kept[i] = UNSETTLED;
-                match self.conforms(&kept) {
+                match self.machine.conforms(&kept) {
                     Some(smaller) => set = smaller,
                     None => kept[i] = choice,
                 }
             }
         }
         set
-    }
-
-    /// The first unsettled suspect on the walk by settled ones; none if an output is wrong there.
-    fn meet(&self, partial: &Partial) -> Option<usize> {
-        let mut first = None;
-        self.machine.walk(partial, |suspect, _, _| {
-            first = first.or(Some(suspect));
-            true
-        })?;
-        first
     }
 
     fn refute(&mut self, partial: &mut Partial) -> Outcome {
@@ -186,10 +168,12 @@ impl Engine<'_> {
         if let Some(set) = self.run(partial, &mut wants) {
             return Outcome::Refuted(set);
         }
-        if let Some(set) = self.conforms(partial) {
+        if let Some(set) = self.machine.conforms(partial) {
             return Outcome::Refuted(self.minimise(partial, set));
         }
-        let next = wants.fewest(self.machine).or_else(|| self.meet(partial));
+        let next = wants
+            .fewest(self.machine)
+            .or_else(|| self.machine.meet(partial));
         match next {
             Some(suspect) => self.branch(partial, &wants, suspect),
             None => Outcome::Survives(*partial),
@@ -220,13 +204,21 @@ impl Engine<'_> {
         Outcome::Refuted(all)
     }
 
-    /// Choices of some survivors with this prefix, if there are any.
+    /// Choices of some survivors with this prefix, if there are any. The first engine is
+    /// asked until it has had its share of nodes.
     fn survivor(&mut self, prefix: &Partial) -> Option<Partial> {
-        self.trail = members(settled(prefix)).collect();
-        match self.refute(&mut prefix.clone()) {
-            Outcome::Refuted(_) => None,
-            Outcome::Survives(choices) => Some(choices),
-        }
+        let mut quick = first_engine::Engine {
+            machine: self.machine,
+            nodes: self.nodes,
+            limit: QUICK,
+        };
+        let outcome = quick.attempt(prefix);
+        self.nodes = quick.nodes;
+        let outcome = outcome.unwrap_or_else(|| {
+            self.trail = members(settled(prefix)).collect();
+            self.refute(&mut prefix.clone())
+        });
+        outcome.survivor()
     }
 }
 

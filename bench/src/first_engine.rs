@@ -1,6 +1,6 @@
-//! Judge in plain Rust by the first engine, which has less to it than `engine`: it settles the
-//! first suspect that a test waits for, or that the walk over the pairs of states meets, and
-//! learns nothing from one branch to another.
+//! The first engine in plain Rust, which has less to it than `engine`: it settles the first
+//! suspect that the suite waits for, goes on from there, then walks the pairs of states, and
+//! keeps nothing from one branch for another.
 
 use crate::machine::{Judgement, Machine, Outcome, Partial, Set, Step, UNSETTLED};
 use crate::plain::{self, pair};
@@ -22,10 +22,11 @@ enum Ran {
     Passed(Place),
 }
 
-struct Engine<'a> {
-    machine: &'a Machine,
-    nodes: u64,
-    limit: u64,
+pub struct Engine<'a> {
+    pub machine: &'a Machine,
+    pub nodes: u64,
+    /// With so many nodes it gives up.
+    pub limit: u64,
 }
 
 impl Engine<'_> {
@@ -55,47 +56,49 @@ impl Engine<'_> {
         Ran::Passed(place)
     }
 
-    /// Past the limit it gives up, and the answer means nothing.
-    fn refute(&mut self, partial: &mut Partial, place: Place) -> Outcome {
-        self.nodes += 1;
-        if self.nodes > self.limit {
-            return Outcome::Refuted(0);
+    fn refute(&mut self, partial: &mut Partial, place: Place) -> Option<Outcome> {
+        if self.nodes >= self.limit {
+            return None;
         }
-        match self.run(partial, place) {
-            Ran::Failed(set) => Outcome::Refuted(set),
-            Ran::Waits(suspect, place) => self.branch(partial, place, suspect),
+        self.nodes += 1;
+        let (next, place) = match self.run(partial, place) {
+            Ran::Failed(set) => return Some(Outcome::Refuted(set)),
+            Ran::Waits(suspect, place) => (Some(suspect), place),
             Ran::Passed(place) => {
-                let mut met = None;
-                let used = self.machine.walk(partial, |suspect, _, _| {
-                    met = Some(suspect);
-                    false
-                });
-                match (used, met) {
-                    (Some(set), _) => Outcome::Refuted(set),
-                    (None, Some(suspect)) => self.branch(partial, place, suspect),
-                    (None, None) => Outcome::Survives(*partial),
+                if let Some(set) = self.machine.conforms(partial) {
+                    return Some(Outcome::Refuted(set));
                 }
+                (self.machine.meet(partial), place)
             }
+        };
+        match next {
+            Some(suspect) => self.branch(partial, place, suspect),
+            None => Some(Outcome::Survives(*partial)),
         }
     }
 
     /// Tries every choice of a suspect.
-    fn branch(&mut self, partial: &mut Partial, place: Place, suspect: usize) -> Outcome {
+    fn branch(&mut self, partial: &mut Partial, place: Place, suspect: usize) -> Option<Outcome> {
         let mut all = 0;
         for choice in 0..self.machine.counts[suspect] {
             partial[suspect] = choice;
             let outcome = self.refute(partial, place);
             partial[suspect] = UNSETTLED;
-            match outcome {
+            match outcome? {
                 Outcome::Refuted(set) if set >> suspect & 1 == 1 => all |= set,
-                other => return other,
+                other => return Some(other),
             }
         }
-        Outcome::Refuted(all & !(1 << suspect))
+        Some(Outcome::Refuted(all & !(1 << suspect)))
+    }
+
+    /// What is found from this prefix; none if it gives up.
+    pub fn attempt(&mut self, prefix: &Partial) -> Option<Outcome> {
+        self.refute(&mut prefix.clone(), Place::default())
     }
 }
 
-/// The judgement of an accepted sheet, if it takes at most so many nodes.
+/// The judgement of an accepted sheet, if it takes fewer nodes than the limit.
 pub fn judge(sheet: &[u8], limit: u64) -> Option<Judgement> {
     let tables = plain::load(sheet).ok()?;
     let machine = Machine::new(&tables);
@@ -104,13 +107,8 @@ pub fn judge(sheet: &[u8], limit: u64) -> Option<Judgement> {
         nodes: 0,
         limit,
     };
-    let board = machine.first_survivor(|prefix| {
-        match engine.refute(&mut prefix.clone(), Place::default()) {
-            Outcome::Refuted(_) => None,
-            Outcome::Survives(choices) => Some(choices),
-        }
-    });
-    if engine.nodes > limit {
+    let board = machine.first_survivor(|prefix| engine.attempt(prefix)?.survivor());
+    if engine.nodes >= limit {
         return None;
     }
     Judgement::new(&tables, board, engine.nodes).ok()

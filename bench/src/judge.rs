@@ -17,9 +17,6 @@ const KEPT: [(&str, &[u8]); 5] = [
     ("h5, kept", include_bytes!("../machines/h5.sheet")),
 ];
 
-/// A sheet is easy if the first engine judges it with at most so many nodes.
-const EASY: u64 = 1_000;
-
 pub fn measure(table: &mut Table) {
     one(table, "P1", &listed::p1());
     one(table, "P10", &listed::p10());
@@ -74,9 +71,10 @@ fn library(sheet: &[u8]) -> u32 {
     nodes
 }
 
-/// On a sheet that is easy for the first engine, its time and the library's ratio to it.
+/// On an easy sheet, for which the nodes of the quick attempts suffice, the time of the first
+/// engine and the library's ratio to it.
 fn beside_first(sheet: &[u8]) -> String {
-    let first = |sheet| first_engine::judge(sheet, EASY);
+    let first = |sheet| first_engine::judge(sheet, engine::QUICK);
     if first(sheet).is_none() {
         return String::new();
     }

@@ -89,14 +89,14 @@ impl Machine {
     }
 
     /// All choices of a suspect.
-    pub fn choices(&self, suspect: usize) -> &[Move] {
+    fn choices(&self, suspect: usize) -> &[Move] {
         let begin = self.start[suspect] as usize;
         &self.moves[begin..begin + usize::from(self.counts[suspect])]
     }
 
     /// Walks the pairs of states that are met in step: the suspects used. None as soon as
     /// an output is wrong, or `wait` says no to an unsettled suspect met at a rule.
-    pub fn walk(
+    fn walk(
         &self,
         partial: &Partial,
         mut wait: impl FnMut(usize, Move, &mut Met) -> bool,
@@ -123,6 +123,27 @@ impl Machine {
             }
         }
         Some(used)
+    }
+
+    /// The suspects used, if all that agree conform: an unsettled suspect takes any choice.
+    pub fn conforms(&self, partial: &Partial) -> Option<Set> {
+        self.walk(partial, |suspect, (wanted, next), met| {
+            let choices = self.choices(suspect);
+            choices.iter().all(|&(output, other)| {
+                met.add(next, other);
+                output == wanted
+            })
+        })
+    }
+
+    /// The first unsettled suspect on the walk by settled ones; none if an output is wrong there.
+    pub fn meet(&self, partial: &Partial) -> Option<usize> {
+        let mut first = None;
+        self.walk(partial, |suspect, _, _| {
+            first = first.or(Some(suspect));
+            true
+        })?;
+        first
     }
 
     /// The first survivor in dictionary order, from a function that gives the choices of some
@@ -169,7 +190,7 @@ fn suite_of(commands: &[u8]) -> Vec<Vec<u8>> {
 }
 
 /// Pairs of states, each listed once in the order in which they are met.
-pub struct Met {
+struct Met {
     seen: [u16; 16],
     list: [u8; 256],
     length: usize,
@@ -186,7 +207,7 @@ impl Met {
         met
     }
 
-    pub fn add(&mut self, specified: u8, given: u8) {
+    fn add(&mut self, specified: u8, given: u8) {
         let row = &mut self.seen[usize::from(specified)];
         if *row >> given & 1 == 0 {
             *row |= 1 << given;
@@ -212,6 +233,15 @@ pub enum Outcome {
     Refuted(Set),
     /// Every mutant that agrees with these choices is a survivor.
     Survives(Partial),
+}
+
+impl Outcome {
+    pub fn survivor(self) -> Option<Partial> {
+        match self {
+            Outcome::Refuted(_) => None,
+            Outcome::Survives(choices) => Some(choices),
+        }
+    }
 }
 
 /// A verdict, and the number of nodes that it took.

@@ -74,7 +74,8 @@ pub fn try_one(operation: &str, bytes: &str) {
     let bytes = bytes.parse().expect("a number of bytes");
     let operation = operation.to_string();
     let sheet = families::filled(families::sheet(&families::FULL, 1), MOST_BYTES, 1).encode();
-    let deep = families::sheet(&families::DEEP, 1).encode();
+    let deep = families::completed(families::sheet(&families::DEEP, 1)).expect("a suite that fits");
+    let deep = deep.encode();
     let thread = thread::Builder::new()
         .stack_size(bytes)
         .spawn(move || perform(&operation, &sheet, &deep))

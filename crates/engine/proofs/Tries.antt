@@ -9,7 +9,8 @@ use lib.Seq.{getD-set-same, getD-set-other}
 use Rattle.engine.specs.Sets.{Has, HasAll, With, Joined, Without}
 use Rattle.engine.specs.Machine.{Wf, Partial, Settled, Agree, Ranged, Survivor, SuiteOk, testsOf, choicesOf, choiceOf}
 use Rattle.engine.specs.declared.tables.Step.{Step}
-use Rattle.engine.specs.Answers.{Fails, Wanted, WantsOk, StepIs}
+use Rattle.engine.specs.declared.walk.Cursor.{Cursor}
+use Rattle.engine.specs.Answers.{Fails, Wanted, WantsOk, StepIs, CursorOk}
 use Rattle.engine.specs.Product.{Conforms}
 use Rattle.engine.specs.Refute.{NoSurvivor, SplitOk, Extends}
 use Rattle.engine.proofs.ChoiceLaws.{choice-at}
@@ -28,6 +29,23 @@ partial-settle {m} {p} i c l lc pa = record { at = λ j lj. go j lj (ℕ-discret
     go : (j : ℕ) → j < 32 → Dec (j ≡ i) → (getD (set p i c) j 0 ≡ 256 → ⊥) → getD (set p i c) j 0 < choicesOf m j
     go j lj (yes e) n = rw (e, getD-set-same p i c 0 l) lc
     go j lj (no d) n = rw (getD-set-other p i j c 0 d) (pa .at j lj (rw (getD-set-other p i j c 0 d) at n))
+
+-- a suspect that was not settled is none of those that the run has used
+pub cursor-settle : {m bytes p : List ℕ} {h : Cursor} (i c : ℕ) → getD p i 0 ≡ 256 → CursorOk m bytes p h → CursorOk m bytes (set p i c) h
+cursor-settle {m} {bytes} {p} {h} i c free ok =
+    let same : (j : ℕ) → Has (h .used) j → getD (set p i c) j 0 ≡ getD p j 0 = λ j hj. getD-set-other p i j c 0 (λ e. ok .settled .at j hj (rw e free)) in
+    record {
+      left = ok .left;
+      after = ok .after;
+      expected = ok .expected;
+      within = ok .within;
+      low = ok .low;
+      defined = ok .defined;
+      alldefined = ok .alldefined;
+      settled = record { at = λ j hj e. ok .settled .at j hj (sym (same j hj) ∙ e) };
+      rest = ok .rest;
+      here = λ b a. ok .here b (record { at = λ j hj n. a .at j hj (λ e. n (sym (same j hj) ∙ e)) ∙ same j hj });
+    }
 
 -- every choice below c is refuted, by what u has besides i
 pub record Tried (m bytes p : List ℕ) (i u c : ℕ) : Type 0 where

@@ -9,6 +9,12 @@ use Rattle.engine.specs.declared.branch.Looked.{Looked}
 use Rattle.engine.specs.declared.branch.Looked.the-variants.{No, Split, Unknown}
 use Rattle.engine.specs.declared.branch.Outcome.{Outcome}
 use Rattle.engine.specs.declared.branch.Outcome.the-variants.{Refuted, Open}
+use Rattle.engine.specs.declared.walk.Cursor.{Cursor}
+use Rattle.engine.specs.declared.quick.Halted.{Halted}
+use Rattle.engine.specs.declared.quick.Halted.the-variants.{Failed, Waits, Passed}
+use Rattle.engine.specs.declared.quick.Glanced.{Glanced}
+use Rattle.engine.specs.declared.quick.Glanced.the-variants as quick
+use Rattle.engine.specs.Answers.{Fails, CursorOk}
 
 -- no mutant that agrees with the settled members of u in p is a survivor
 pub record NoSurvivor (m bytes p : List ℕ) (u : ℕ) : Type 0 where
@@ -17,6 +23,22 @@ pub record NoSurvivor (m bytes p : List ℕ) (u : ℕ) : Type 0 where
 abbrev pub OutcomeOk : List ℕ → List ℕ → List ℕ → Outcome → Type 0
 OutcomeOk m bytes p (Refuted u) = NoSurvivor m bytes p u
 OutcomeOk m bytes p Open = Unit {0}
+
+abbrev pub HaltedOk : List ℕ → List ℕ → List ℕ → Halted → Type 0
+HaltedOk m bytes p (Failed u) = Fails m bytes p u
+HaltedOk m bytes p (Waits i h) = CursorOk m bytes p h
+HaltedOk m bytes p (Passed h) = CursorOk m bytes p h
+
+-- the suspect i is not settled, and the suite goes on at the cursor
+pub record AimOk (m bytes p : List ℕ) (i : ℕ) (h : Cursor) : Type 0 where
+  pub low : i < 32
+  pub unsettled : getD p i 0 ≡ 256
+  pub on : CursorOk m bytes p h
+
+abbrev pub GlancedOk : List ℕ → List ℕ → List ℕ → Glanced → Type 0
+GlancedOk m bytes p (quick.No u) = NoSurvivor m bytes p u
+GlancedOk m bytes p (quick.Split i h) = AimOk m bytes p i h
+GlancedOk m bytes p quick.Unknown = Unit {0}
 
 -- the suspect i, of the pair k, is not settled
 pub record SplitOk (m p : List ℕ) (i k : ℕ) : Type 0 where

@@ -9,6 +9,7 @@ use crate::product::Seen;
 use crate::product::meet;
 use crate::product::over;
 use crate::product::shrink;
+use crate::quick::probe;
 use crate::sets::empty;
 use crate::sets::has;
 use crate::sets::join;
@@ -30,6 +31,7 @@ use crate::walk::Ran;
 use crate::walk::better;
 use crate::walk::run;
 use crate::walk::slot;
+use crate::walk::start;
 ghost use mathlib.Core.Path.{_≡_};
 ghost use mathlib.Core.Bool.{true};
 ghost use Prim.Native.Nat.{ℕ, _+_, _*_, _<_, _≤_};
@@ -297,6 +299,12 @@ pub fn no_survivor(
     requires { ⌜ Wf (now tables) × SuiteOk (now tables) (now bytes) × Partial (now tables) prefix × (length prefix ≡ 32) × StoreOk (now tables) (now bytes) (now sets) (now values) ⌝ }
     ensures { λ r. ⌜ NoneIf (now (tables .entry)) (now (bytes .entry)) prefix r × StoreOk (now (tables .entry)) (now (bytes .entry)) (now (sets .exit)) (now (values .exit)) ⌝ }
 {
+    if witnessed(notes, &prefix) {
+        return false;
+    }
+    if let Outcome::Refuted(_) = probe(tables, bytes, notes, prefix, start(), 32) {
+        return true;
+    }
     if witnessed(notes, &prefix) {
         return false;
     }

@@ -3,6 +3,7 @@
 mod branch;
 mod notes;
 mod product;
+mod quick;
 mod sets;
 mod store;
 mod tables;

@@ -5,17 +5,23 @@ use crate::tables::wide32;
 ghost use Prim.Native.Nat.{_≤_, _<_};
 ghost use Rattle.engine.specs.Store.{entries};
 
-// How many nodes were looked at and how many refutations were learnt; 1 if there is a witness; from TRAIL on the settled
-// suspects, the latest first; from WITNESS on the choices of the witness.
+// How many nodes were looked at.
 const NODES: usize = 0;
 
+// How many refutations were learnt.
 const LEARNT: usize = 1;
 
+// 1 if there is a witness.
 const KEPT: usize = 2;
 
+// From here on the settled suspects, the latest first.
 const TRAIL: usize = 3;
 
+// From here on the choices of the witness.
 const WITNESS: usize = 69;
+
+// With so many nodes the quick attempts end.
+const QUICK: u32 = 512;
 
 pub type Notes = [u32; WITNESS + 32];
 
@@ -38,6 +44,11 @@ pub fn tick(notes: &mut Notes) {
 
 pub fn nodes(notes: &Notes) -> u32 {
     notes[NODES]
+}
+
+// Whether it is too late for a quick attempt.
+pub fn spent(notes: &Notes) -> bool {
+    notes[NODES] >= QUICK
 }
 
 // Keeps which suspect is settled with so many left.

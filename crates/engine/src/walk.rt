@@ -8,6 +8,7 @@ use crate::tables::site;
 use crate::tables::transition;
 use crate::tables::wide;
 ghost use mathlib.Core.Path.{_≡_};
+ghost use mathlib.Core.List.{List};
 ghost use Prim.Native.Nat.{ℕ, _+_, _*_, _<_, _≤_};
 ghost use lib.ListN.{length, getD};
 ghost use Rattle.engine.specs.Machine.{Wf, Partial, Settled, SuiteOk, statesOf, inputsOf};
@@ -46,6 +47,19 @@ pub struct Cursor {
     pub state: u8,
     pub used: u32,
     pub waits: u32,
+}
+
+// The start of the suite.
+pub fn start() -> Cursor
+    ensures { λ r. ⌜ ((m bytes p : List ℕ) → Wf m → SuiteOk m bytes → CursorOk m bytes p r) ⌝ }
+{
+    Cursor {
+        at: 0,
+        spec: 0,
+        state: 0,
+        used: empty(),
+        waits: empty(),
+    }
 }
 
 pub enum Moved {
@@ -183,13 +197,7 @@ pub fn run(tables: &[u8; 1603], bytes: &[u8], p: &[u16; 32], wanted: &mut [u32; 
     requires { ⌜ Wf (now tables) × Partial (now tables) (now p) × SuiteOk (now tables) (now bytes) × WantsOk (now tables) (now bytes) (now p) (now wanted) ⌝ }
     ensures { λ r. ⌜ RanOk (now (tables .entry)) (now (bytes .entry)) (now (p .entry)) r × WantsOk (now (tables .entry)) (now (bytes .entry)) (now (p .entry)) (now (wanted .exit)) ⌝ }
 {
-    let mut here = Cursor {
-        at: 0,
-        spec: 0,
-        state: 0,
-        used: empty(),
-        waits: empty(),
-    };
+    let mut here = start();
     loop {
         match stride(tables, bytes, p, wanted, here) {
             Strode::Fell(used) => {

@@ -1,15 +1,10 @@
 use borrow.Author.Needs.{needs}
-use Prim.Native.Nat.{ℕ, _+_, _-_, _*_, _<_, _≤_}
-use lib.ListN.{length, getD}
+use Prim.Native.Nat.{_-_}
 use native.Mathlib.Omega.{arith}
-use Rattle.engine.proofs.Cursors.{cursor-start}
+use lib.ListN.{length}
 use Rattle.engine.specs.Answers.{CursorOk, WantsOk}
 use Rattle.engine.proofs.walk.run.Statement.{statement}
 use Rattle.engine.proofs.walk.run.Tie as tie
-use Rattle.engine.proofs.walk.run.Reads as reads
-use Rattle.engine.proofs.walk.run.Lts as lts
-use Rattle.engine.proofs.sets.empty.Reads as empty-reads
-use Rattle.engine.proofs.walk.stride.Reads as stride-reads
 
 abbrev Inv-loop : tie.InvT-loop
 Inv-loop tables bytes p wanted₀ here₀ wanted here = CursorOk tables bytes p here × WantsOk tables bytes p wanted
@@ -17,17 +12,14 @@ Inv-loop tables bytes p wanted₀ here₀ wanted here = CursorOk tables bytes p 
 abbrev μ-loop : tie.MeasureT-loop
 μ-loop tables bytes p wanted₀ here₀ wanted here = length bytes - here .at
 
-empty-requires : tie.Need-empty-requires Inv-loop μ-loop
-empty-requires c κs = search needs
-
-empty-requires-2 : tie.Need-empty-requires-2 Inv-loop μ-loop
-empty-requires-2 c κs = search needs
+start-requires : tie.Need-start-requires Inv-loop μ-loop
+start-requires c κs = search needs
 
 loop-holds : tie.Need-loop-holds Inv-loop μ-loop
-loop-holds c = (cursor-start (c .before .empty .result) (c .empty2 .result) (c .before .before .before .pre .0) (c .before .empty .ensures) (c .before .before .before .pre .2), c .before .before .before .pre .3)
+loop-holds c = (c .start .ensures _ _ _ (c .before .before .pre .0) (c .before .before .pre .2), c .before .before .pre .3)
 
 stride-requires : tie.Need-stride-requires Inv-loop μ-loop
-stride-requires c κs = (c .before .before .before .before .before .pre .0, c .before .before .before .before .before .pre .1, c .before .loop .inv .0, c .before .loop .inv .1)
+stride-requires c κs = (c .before .before .before .before .pre .0, c .before .before .before .before .pre .1, c .before .loop .inv .0, c .before .loop .inv .1)
 
 enum-known-used : tie.Need-enum-known-used Inv-loop μ-loop
 enum-known-used c = search needs
@@ -45,14 +37,10 @@ enum-known-next : tie.Need-enum-known-next Inv-loop μ-loop
 enum-known-next c = search needs
 
 loop-less : tie.Need-loop-less Inv-loop μ-loop
-loop-less c =
-    let on = rw (c .before .next .given .1) at (c .before .before .before .stride .ensures .0) in
-    omega (arith, on .more, on .within)
+loop-less c = let on = rw (c .before .next .given .1) at (c .before .before .before .stride .ensures .0) in omega (arith, on .more, on .within)
 
 loop-again : tie.Need-loop-again Inv-loop μ-loop
-loop-again c =
-    let on = rw (c .before .next .given .1) at (c .before .before .before .stride .ensures .0) in
-    (on .ok, c .before .before .before .stride .ensures .1)
+loop-again c = let on = rw (c .before .next .given .1) at (c .before .before .before .stride .ensures .0) in (on .ok, c .before .before .before .stride .ensures .1)
 
 pub run-spec : {M : Type 1} → statement M
 run-spec =
@@ -60,8 +48,7 @@ run-spec =
     (tie.spec
     Inv-loop
     μ-loop
-    empty-requires
-    empty-requires-2
+    start-requires
     loop-holds
     stride-requires
     enum-known-used

@@ -1,0 +1,141 @@
+// A quick attempt: the suite up to the first unsettled suspect, which is settled in every way; then the pairs of states. It
+// keeps nothing from one branch for another, and gives up after some nodes.
+use crate::branch::Outcome;
+use crate::notes::Notes;
+use crate::notes::keep;
+use crate::notes::spent;
+use crate::notes::tick;
+use crate::product::Seen;
+use crate::product::meet;
+use crate::product::over;
+use crate::sets::empty;
+use crate::sets::has;
+use crate::sets::join;
+use crate::sets::without;
+use crate::tables::choices;
+use crate::tables::wide;
+use crate::walk::Cursor;
+use crate::walk::Moved;
+use crate::walk::advance;
+ghost use mathlib.Core.Path.{_≡_};
+ghost use Prim.Native.Nat.{_<_};
+ghost use lib.ListN.{length};
+ghost use Rattle.engine.specs.Machine.{Wf, Partial};
+ghost use Rattle.engine.specs.Answers.{CursorOk};
+ghost use Rattle.engine.specs.Refute.{OutcomeOk, HaltedOk, GlancedOk};
+
+// Where a run of the suite halts: at a wrong output, with the suspects that lead to it; before a command that meets an
+// unsettled suspect; at the suite's end.
+pub enum Halted {
+    Failed(u32),
+    Waits(u8, Cursor),
+    Passed(Cursor),
+}
+
+// No mutant that agrees on a set is a survivor; or the suspect to settle next, and where the suite goes on; or nothing.
+pub enum Glanced {
+    No(u32),
+    Split(u8, Cursor),
+    Unknown,
+}
+
+// The suite from a place on.
+pub fn halt(tables: &[u8; 1603], bytes: &[u8], p: &[u16; 32], from: Cursor) -> Halted
+    requires { ⌜ Wf (now tables) × Partial (now tables) (now p) × CursorOk (now tables) (now bytes) (now p) from ⌝ }
+    ensures { λ r. ⌜ HaltedOk (now (tables .entry)) (now (bytes .entry)) (now (p .entry)) r ⌝ }
+{
+    let mut here = from;
+    loop {
+        match advance(tables, bytes, p, here) {
+            Moved::Wrong(used) => {
+                return Halted::Failed(used);
+            }
+            Moved::Stuck(i, _) => {
+                return Halted::Waits(i, here);
+            }
+            Moved::End => {
+                return Halted::Passed(here);
+            }
+            Moved::On(next) => {
+                here = next;
+            }
+        }
+    }
+}
+
+// The suspect to settle next, if it is one that is not settled.
+pub fn aim(tables: &[u8; 1603], bytes: &[u8], p: &[u16; 32], i: u8, here: Cursor) -> Glanced
+    requires { ⌜ CursorOk (now tables) (now bytes) (now p) here ⌝ }
+    ensures { λ r. ⌜ GlancedOk (now (tables .entry)) (now (bytes .entry)) (now (p .entry)) r ⌝ }
+{
+    if i >= 32 {
+        return Glanced::Unknown;
+    }
+    if p[wide(i)] != 256 {
+        return Glanced::Unknown;
+    }
+    Glanced::Split(i, here)
+}
+
+// What the suite from a place on says, and then the reachable pairs of states; or the suspect to settle next.
+pub fn glance(tables: &[u8; 1603], bytes: &[u8], p: &[u16; 32], from: Cursor) -> Glanced
+    requires { ⌜ Wf (now tables) × Partial (now tables) (now p) × CursorOk (now tables) (now bytes) (now p) from ⌝ }
+    ensures { λ r. ⌜ GlancedOk (now (tables .entry)) (now (bytes .entry)) (now (p .entry)) r ⌝ }
+{
+    match halt(tables, bytes, p, from) {
+        Halted::Failed(used) => Glanced::No(used),
+        Halted::Waits(i, here) => aim(tables, bytes, p, i, here),
+        Halted::Passed(here) => {
+            if let Seen::Fine(used) = over(tables, p) {
+                return Glanced::No(used);
+            }
+            aim(tables, bytes, p, meet(tables, p), here)
+        }
+    }
+}
+
+// From a place of the suite, with `left` suspects at most still to be settled.
+pub fn probe(
+    tables: &[u8; 1603],
+    bytes: &[u8],
+    notes: &mut Notes,
+    p: [u16; 32],
+    from: Cursor,
+    left: u8,
+) -> Outcome
+    requires { ⌜ Wf (now tables) × Partial (now tables) p × CursorOk (now tables) (now bytes) p from × (length p ≡ 32) ⌝ }
+    ensures { λ r. ⌜ OutcomeOk (now (tables .entry)) (now (bytes .entry)) p r ⌝ }
+{
+    if spent(notes) {
+        return Outcome::Open;
+    }
+    tick(notes);
+    let seen = glance(tables, bytes, &p, from);
+    if let Glanced::No(used) = seen {
+        return Outcome::Refuted(used);
+    }
+    let Glanced::Split(i, here) = seen else {
+        keep(notes, &p);
+        return Outcome::Open;
+    };
+    if left == 0 {
+        return Outcome::Open;
+    }
+    let j = wide(i);
+    let n = choices(tables, i);
+    let mut all = empty();
+    let mut c: u16 = 0;
+    while c < n {
+        let mut q = p;
+        q[j] = c;
+        let Outcome::Refuted(used) = probe(tables, bytes, notes, q, here, left - 1) else {
+            return Outcome::Open;
+        };
+        if !has(used, i) {
+            return Outcome::Refuted(used);
+        }
+        all = join(all, used);
+        c += 1;
+    }
+    Outcome::Refuted(without(all, i))
+}
