@@ -36,7 +36,7 @@ void ranthelo_compare(const uint8_t *sheet, size_t sheet_len, const uint8_t *boa
 void ranthelo_judge(const uint8_t *sheet, size_t sheet_len, uint8_t *board, size_t board_len, uint8_t *sequence,
                     size_t sequence_len, size_t answer[4]);
 
-/* Judge, and in `nodes` how many nodes its search looked at: a measurement, of which nothing is promised. */
+/* Judge, and in `nodes` how many nodes its search looked at: a measurement, as it was on a refusal and otherwise free. */
 void ranthelo_judge_counting(const uint8_t *sheet, size_t sheet_len, uint8_t *board, size_t board_len, uint8_t *sequence,
                              size_t sequence_len, size_t answer[4], uint32_t *nodes);
 

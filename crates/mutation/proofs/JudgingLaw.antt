@@ -39,7 +39,7 @@ use Rattle.mutation.specs.Fits.{Read}
 use Rattle.mutation.specs.Mutants.{Placed}
 use Rattle.mutation.specs.Sites.{openChoices, Numbered}
 use Rattle.mutation.specs.Search.{Prefix, NoneFrom, FirstFrom, byFound, Searching}
-use Rattle.mutation.specs.Judging.{judgementAnswer, judgedAnswer, boardWrites, sequenceWrites, judgingOf, Judges, ReadFrom, shownOf, JudgedSays, SaysOf, ToldJudged}
+use Rattle.mutation.specs.Judging.{judgementAnswer, judgedAnswer, boardWrites, sequenceWrites, judgingOf, Judges, Measured, ReadFrom, shownOf, JudgedSays, SaysOf, ToldJudged}
 use Rattle.mutation.proofs.FitsLaw.{read-states, read-inputs, read-few, read-sited, read-ruled}
 use Rattle.mutation.proofs.BlockLaw.{getD-default, slot-few}
 use Rattle.mutation.proofs.PackedLaw.{block-for}
@@ -316,3 +316,8 @@ module _ (s board sequence : List ℕ) where
           let h = le-ltb (length board) (length (slots sh′)) lb in
           let g = le-ltb (length sequence) (sh′ .size .states * sh′ .size .states) ls in
           says sh′ (well-formed s sh′ e′) (judgeOf sh′) (judged-told s sh′ e′) (complete-told s sh′ e′) refl r board′ sequence′ (rw (h, g) at js′)
+
+-- what is shown of a survivor is no refusal
+pub measured-shown : (o : Option (List ℕ)) (r : Judged) (old new : ℕ) → r ≡ shownOf o → Measured r old new
+measured-shown none r old new e = rw e tt
+measured-shown (some xs) r old new e = rw e tt

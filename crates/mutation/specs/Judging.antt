@@ -61,6 +61,12 @@ pub record Judges (result : Result Judgement) (r : Judged) (oldBoard newBoard ol
   pub board : newBoard ≡ overlay (boardWrites result) oldBoard
   pub sequence : newSequence ≡ overlay (sequenceWrites result) oldSequence
 
+-- a number lent for a measurement: as it was on a refusal; otherwise free
+abbrev pub Measured : Judged → ℕ → ℕ → Type 0
+Measured judged.Complete old new = Unit {0}
+Measured (judged.Survivor d) old new = Unit {0}
+Measured (judged.Refused number place) old new = new ≡ old
+
 -- the sheet that was read, with what reading it told
 pub record ReadFrom (sh : Sheet) (size : Summary) (tables : Tables) (s : List ℕ) : Type 0 where
   pub read : Read sh size tables

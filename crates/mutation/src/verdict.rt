@@ -30,7 +30,7 @@ ghost use Rattle.model.specs.Operations.{judging};
 ghost use Rattle.engine.specs.Machine.{statesOf, suiteBytes};
 ghost use Rattle.mutation.specs.Answers.{overlay, found};
 ghost use Rattle.mutation.specs.Search.{Searching, byFound};
-ghost use Rattle.mutation.specs.Judging.{judgedAnswer, boardWrites, sequenceWrites, judgingOf, Judges, ReadFrom, shownOf, ToldJudged};
+ghost use Rattle.mutation.specs.Judging.{judgedAnswer, boardWrites, sequenceWrites, judgingOf, Judges, Measured, ReadFrom, shownOf, ToldJudged};
 
 // What Judge answers: complete, or the length of the first survivor's shortest distinguishing sequence.
 pub enum Judged {
@@ -112,6 +112,7 @@ fn conclude(
     requires { ⌜ ((sh : Sheet) × Searching sh (now block) (now bytes) (replicate 32 256) 0 count) ⌝ }
     requires { ⌜ (count ≤ length (now board)) × (statesOf (now block) * statesOf (now block) ≤ length (now sequence)) ⌝ }
     ensures { λ r. ⌜ ((sh : Sheet) → Searching sh (now (block .entry)) (now (bytes .entry)) (replicate 32 256) 0 count → Judges (accepted (judgeOf sh)) r (now (board .entry)) (now (board .exit)) (now (sequence .entry)) (now (sequence .exit))) ⌝ }
+    ensures { λ r. ⌜ Measured r (now (nodes .entry)) (now (nodes .exit)) ⌝ }
 {
     let answer = find(block, bytes, count, nodes);
     if !answer.found {
@@ -133,6 +134,7 @@ fn judge_read(
 ) -> Judged
     requires { ⌜ ((sh : Sheet) × ReadFrom sh size tables (now sheet)) ⌝ }
     ensures { λ r. ⌜ ((sh : Sheet) → ReadFrom sh size tables (now (sheet .entry)) → Judges (judgingOf sh (length (now (board .entry))) (length (now (sequence .entry)))) r (now (board .entry)) (now (board .exit)) (now (sequence .entry)) (now (sequence .exit))) ⌝ }
+    ensures { λ r. ⌜ Measured r (now (nodes .entry)) (now (nodes .exit)) ⌝ }
 {
     let n = wide(size.states);
     let k = wide(size.inputs);
@@ -170,7 +172,8 @@ fn judge_read(
     conclude(&block, bytes, count, board, sequence, nodes)
 }
 
-// Judge, with the number of nodes that the engine looked at: a measurement, of which nothing is promised.
+// Judge, with the number of nodes that the engine looked at: a measurement. It is as it was on a refusal; which number it is
+// otherwise is free.
 pub fn judge_counting(
     sheet: &[u8],
     board: &mut [u8],
@@ -181,8 +184,8 @@ pub fn judge_counting(
     ensures board { λ r. ⌜ now (board .exit) ≡ overlay (boardWrites (judging (now (sheet .entry)) (length (now (board .entry))) (length (now (sequence .entry))))) (now (board .entry)) ⌝ }
     ensures sequence { λ r. ⌜ now (sequence .exit) ≡ overlay (sequenceWrites (judging (now (sheet .entry)) (length (now (board .entry))) (length (now (sequence .entry))))) (now (sequence .entry)) ⌝ }
     ensures told { λ r. ⌜ ToldJudged (now (sheet .entry)) (length (now (board .entry))) (length (now (sequence .entry))) r (now (board .exit)) (now (sequence .exit)) ⌝ }
+    ensures nodes { λ r. ⌜ Measured r (now (nodes .entry)) (now (nodes .exit)) ⌝ }
 {
-    *nodes = 0;
     let loaded = load(sheet);
     let reading = loaded.reading;
     let tables = loaded.tables;

@@ -1,5 +1,5 @@
 -- `judge_counting`: refused as reading refuses, or the judgement of the sheet that was read.
-use mathlib.Core.Path.{ap₂}
+use mathlib.Core.Path.{refl, ap₂}
 use borrow.Author.Needs.{needs}
 use Rattle.mutation.specs.declared.verdict.Judged.the-variants.{Refused}
 use Rattle.mutation.proofs.JudgingLaw.{loaded-read, judge-refused, judge-accepted}
@@ -24,7 +24,7 @@ returns c =
     let g = c .before .enum-told .given in
     let z = c .refusal-of .ensures (g .0 .0) (g .0 .1 .0) (g .1) in
     let x = judge-refused (a .sheet .now) (a .board .now) (a .sequence .now) (c .before .before .before .before .load .result) (g .0 .0) (g .0 .1 .0) _ (c .before .before .before .before .load .ensures) (g .1) (ap₂ Refused (z .0) (z .1)) in
-    (x .0 .answer, (x .0 .board, (x .0 .sequence, x .1)))
+    (x .0 .answer, (x .0 .board, (x .0 .sequence, (x .1, refl))))
 
 judge-read-requires : tie.Need-judge-read-requires
 judge-read-requires c κs =
@@ -41,8 +41,8 @@ returns-2 : tie.Need-returns-2
 returns-2 c =
     let a = c .before .before .before .before .before .before .before .before .before .before .before .before .before .before .before .before .args in
     let x = loaded-read (a .sheet .now) (c .before .before .before .before .before .before .before .before .before .before .before .before .load .result) _ (c .before .before .before .before .before .before .before .before .before .before .before .before .load .ensures) (c .before .before .before .before .before .before .before .before .before .reading .given .1) in
-    let y = judge-accepted (a .sheet .now) (a .board .now) (a .sequence .now) (x .0) (x .2) _ _ _ (c .before .before .before .before .judge-read .ensures (x .0) (x .1)) in
-    (y .0 .answer, (y .0 .board, (y .0 .sequence, y .1)))
+    let y = judge-accepted (a .sheet .now) (a .board .now) (a .sequence .now) (x .0) (x .2) _ _ _ (c .before .before .before .before .judge-read .ensures .0 (x .0) (x .1)) in
+    (y .0 .answer, (y .0 .board, (y .0 .sequence, (y .1, c .before .before .before .before .judge-read .ensures .1))))
 
 pub judge-counting-spec : {M : Type 1} → statement M
 judge-counting-spec =
