@@ -1,7 +1,6 @@
 -- The answer's numbers are those of the operation's answer, and the buffers hold what it writes.
 use borrow.Author.Needs.{needs}
-use mathlib.Core.Path.{ap, subst, _∙_}
-use Rattle.mutation.specs.Judging.{Measured}
+use mathlib.Core.Path.{ap, _∙_}
 use Rattle.capi.specs.Numbers.{judgedNumbers}
 use Rattle.capi.proofs.ranthelo_judge_counting.Statement.{statement}
 use Rattle.capi.proofs.ranthelo_judge_counting.Tie as tie
@@ -21,7 +20,7 @@ same-length-2 c = search needs
 returns : tie.Need-returns
 returns c =
     let e = c .before .before .before .before .before .before .judge-counting .ensures in
-    (c .tell .ensures ∙ ap judgedNumbers (e .0), (e .1 .0, (e .1 .1 .0, subst (λ t. Measured t _ _) (e .0) (e .1 .1 .1 .1))))
+    (c .tell .ensures ∙ ap judgedNumbers (e .0), (e .1 .0, (e .1 .1 .0, rw (e .0) at (e .1 .1 .1 .1))))
 
 pub ranthelo-judge-counting-spec : {M : Type 1} → statement M
 ranthelo-judge-counting-spec =
