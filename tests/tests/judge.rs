@@ -2,7 +2,7 @@
 
 use ranthelo_tests::enumeration::{self, Machine, Survivor};
 use ranthelo_tests::generator::{self, Random, Shape, SMALL};
-use ranthelo_tests::library::judge::checked_judge;
+use ranthelo_tests::library::judge::{self, checked_judge};
 use ranthelo_tests::listed::{self, spelled};
 use ranthelo_tests::reference::{read, Refusal, Sheet};
 
@@ -34,6 +34,24 @@ fn listed_sheets() {
         if !name.starts_with("32") {
             agree(&bytes, 32, 256);
         }
+    }
+}
+
+#[test]
+fn counting_changes_no_answer() {
+    for (name, bytes) in listed::all() {
+        let (mut board, mut sequence, mut answer) = ([9; 32], [9; 256], [9; 4]);
+        let (mut same_board, mut same_sequence, mut same_answer) = (board, sequence, answer);
+        judge::judge(&bytes, &mut board, &mut sequence, &mut answer);
+        judge::judge_counting(
+            &bytes,
+            &mut same_board,
+            &mut same_sequence,
+            &mut same_answer,
+            &mut 0,
+        );
+        assert_eq!(same_answer, answer, "{name}");
+        assert_eq!((same_board, same_sequence), (board, sequence), "{name}");
     }
 }
 
