@@ -41,6 +41,7 @@ fn listed_sheets() {
 fn counting_changes_no_answer() {
     for (name, bytes) in listed::all() {
         let (mut board, mut sequence, mut answer) = ([9; 32], [9; 256], [9; 4]);
+        let mut nodes = 9;
         let (mut same_board, mut same_sequence, mut same_answer) = (board, sequence, answer);
         judge::judge(&bytes, &mut board, &mut sequence, &mut answer);
         judge::judge_counting(
@@ -48,9 +49,12 @@ fn counting_changes_no_answer() {
             &mut same_board,
             &mut same_sequence,
             &mut same_answer,
-            &mut 0,
+            &mut nodes,
         );
         assert_eq!(same_answer, answer, "{name}");
+        if answer[0] != 0 {
+            assert_eq!(nodes, 9, "{name}: a refusal leaves the count as lent");
+        }
         assert_eq!((same_board, same_sequence), (board, sequence), "{name}");
     }
 }
