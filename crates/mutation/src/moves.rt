@@ -147,7 +147,8 @@ fn fill<'a>(
     }
 }
 
-fn blank() -> [u8; 256]
+// A table of noughts.
+pub(crate) fn blank() -> [u8; 256]
     ensures { λ r. ⌜ r ≡ replicate 256 0 ⌝ }
 {
     [0u8; 256]

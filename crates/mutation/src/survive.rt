@@ -1,6 +1,7 @@
 // Whether a mutant with all its choices is a survivor.
 use crate::Compared;
 use crate::distance::distinguish;
+use crate::moves::blank;
 use crate::moves::wide;
 use engine::Step;
 use engine::inputs;
@@ -11,7 +12,7 @@ use engine::states;
 use engine::transition;
 ghost use mathlib.Core.Path.{_≡_};
 ghost use Prim.Native.Nat.{_+_, _*_, _/_, _%_, _<_};
-ghost use lib.ListN.{length, take, replicate};
+ghost use lib.ListN.{length, take};
 ghost use Rattle.sheet.specs.Sheet.{Sheet};
 ghost use Rattle.engine.specs.Machine.{Wf, statesOf, chosen};
 ghost use Rattle.mutation.specs.Search.{isSurvivor, Searching};
@@ -103,28 +104,22 @@ fn passes(bytes: &[u8], so: &[u8; 256], sn: &[u8; 256], mo: &[u8; 256], mn: &[u8
     true
 }
 
-pub(crate) fn no_table() -> [u8; 256]
-    ensures { λ r. ⌜ r ≡ replicate 256 0 ⌝ }
-{
-    [0u8; 256]
-}
-
 // Whether the mutant with the choices p passes the tests and is nonconforming.
 pub(crate) fn survives(block: &[u8; 1603], bytes: &[u8], p: &[u16; 32], n: usize) -> bool
     requires { ⌜ ((sh : Sheet) × Searching sh (now block) (now bytes) (now p) n n) ⌝ }
     ensures { λ r. ⌜ ((sh : Sheet) → Searching sh (now (block .entry)) (now (bytes .entry)) (now (p .entry)) n n → r ≡ isSurvivor sh (take n (now (p .entry)))) ⌝ }
 {
-    let mut so = no_table();
-    let mut sn = no_table();
-    let mut mo = no_table();
-    let mut mn = no_table();
+    let mut so = blank();
+    let mut sn = blank();
+    let mut mo = blank();
+    let mut mn = blank();
     lay(block, p, &mut so, &mut sn, &mut mo, &mut mn);
     if !passes(bytes, &so, &sn, &mo, &mn) {
         return false;
     }
     let states = wide(states(block));
     let inputs = wide(inputs(block));
-    let mut found = no_table();
+    let mut found = blank();
     match distinguish(&so, &sn, &mo, &mn, states, inputs, 0, &mut found) {
         Compared::Differs(_) => true,
         Compared::Conforms => false,

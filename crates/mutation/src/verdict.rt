@@ -2,13 +2,13 @@
 use crate::Compared;
 use crate::distance::bound;
 use crate::distance::distinguish;
+use crate::moves::blank;
 use crate::moves::wide;
 use crate::refusal_of;
 use crate::search::Found;
 use crate::search::search;
 use crate::sites::number;
 use crate::survive::lay;
-use crate::survive::no_table;
 use engine::fresh_notes;
 use engine::fresh_sets;
 use engine::fresh_values;
@@ -86,10 +86,10 @@ fn show(block: &[u8; 1603], p: &[u16; 32], n: usize, sequence: &mut [u8]) -> Jud
     ensures { λ r. ⌜ ((sh : Sheet) → Searching sh (now (block .entry)) (suiteBytes (sh .tests)) (now (p .entry)) n n → r ≡ shownOf (compareOf sh (take n (now (p .entry))))) ⌝ }
     ensures { λ r. ⌜ ((sh : Sheet) → Searching sh (now (block .entry)) (suiteBytes (sh .tests)) (now (p .entry)) n n → now (sequence .exit) ≡ overlay (found (compareOf sh (take n (now (p .entry))))) (now (sequence .entry))) ⌝ }
 {
-    let mut so = no_table();
-    let mut sn = no_table();
-    let mut mo = no_table();
-    let mut mn = no_table();
+    let mut so = blank();
+    let mut sn = blank();
+    let mut mo = blank();
+    let mut mn = blank();
     lay(block, p, &mut so, &mut sn, &mut mo, &mut mn);
     let states = wide(states(block));
     let inputs = wide(inputs(block));

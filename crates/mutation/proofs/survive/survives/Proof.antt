@@ -14,25 +14,25 @@ use Rattle.engine.proofs.states.Reads as states-reads
 use Rattle.mutation.proofs.distance.distinguish.Reads as distinguish-reads
 use Rattle.mutation.proofs.moves.wide.Reads as wide-reads
 use Rattle.mutation.proofs.survive.lay.Reads as lay-reads
-use Rattle.mutation.proofs.survive.no_table.Reads as no-table-reads
+use Rattle.mutation.proofs.moves.blank.Reads as blank-reads
 use Rattle.mutation.proofs.survive.passes.Reads as passes-reads
 
-no-table-requires : tie.Need-no-table-requires
-no-table-requires c κs = search needs
+blank-requires : tie.Need-blank-requires
+blank-requires c κs = search needs
 
-no-table-requires-2 : tie.Need-no-table-requires-2
-no-table-requires-2 c κs = search needs
+blank-requires-2 : tie.Need-blank-requires-2
+blank-requires-2 c κs = search needs
 
-no-table-requires-3 : tie.Need-no-table-requires-3
-no-table-requires-3 c κs = search needs
+blank-requires-3 : tie.Need-blank-requires-3
+blank-requires-3 c κs = search needs
 
-no-table-requires-4 : tie.Need-no-table-requires-4
-no-table-requires-4 c κs = search needs
+blank-requires-4 : tie.Need-blank-requires-4
+blank-requires-4 c κs = search needs
 
 lay-requires : tie.Need-lay-requires
 lay-requires c κs =
     let w = c .before .before .before .before .before .before .before .before .before .pre .1 in
-    ((formed-tables w, chosen-ok w), (rw (c .before .before .before .before .before .before .before .no-table .ensures) (length-replicate {A = ℕ} 256 0), rw (c .before .before .before .before .before .before .no-table2 .ensures) (length-replicate {A = ℕ} 256 0), rw (c .before .before .before .before .before .no-table3 .ensures) (length-replicate {A = ℕ} 256 0), rw (c .before .before .before .before .no-table4 .ensures) (length-replicate {A = ℕ} 256 0)))
+    ((formed-tables w, chosen-ok w), (rw (c .before .before .before .before .before .before .before .blank .ensures) (length-replicate {A = ℕ} 256 0), rw (c .before .before .before .before .before .before .blank2 .ensures) (length-replicate {A = ℕ} 256 0), rw (c .before .before .before .before .before .blank3 .ensures) (length-replicate {A = ℕ} 256 0), rw (c .before .before .before .before .blank4 .ensures) (length-replicate {A = ℕ} 256 0)))
 
 passes-requires : tie.Need-passes-requires
 passes-requires c κs = search needs
@@ -52,8 +52,8 @@ inputs-requires c κs = search needs
 wide-requires-2 : tie.Need-wide-requires-2
 wide-requires-2 c κs = search needs
 
-no-table-requires-5 : tie.Need-no-table-requires-5
-no-table-requires-5 c κs = search needs
+blank-requires-5 : tie.Need-blank-requires-5
+blank-requires-5 c κs = search needs
 
 slice-aggregate-distinguish : tie.Need-slice-aggregate-distinguish
 slice-aggregate-distinguish c = search needs
@@ -65,7 +65,7 @@ distinguish-requires c κs =
     let es = c .before .before .before .before .before .before .before .before .wide .ensures ∙ c .before .before .before .before .before .before .before .before .before .states .ensures in
     let ei = c .before .before .before .before .before .before .wide2 .ensures ∙ c .before .before .before .before .before .before .before .inputs .ensures in
     let few = square-fits w l (c .before .before .before .before .before .before .before .before .wide .result) (c .before .before .before .before .before .before .wide2 .result) es ei in
-    (valid w l (c .before .before .before .before .before .before .before .before .wide .result) (c .before .before .before .before .before .before .wide2 .result) es ei, (start-in w l (c .before .before .before .before .before .before .before .before .wide .result) (c .before .before .before .before .before .before .wide2 .result) es ei, rw (c .before .before .before .before .before .no-table5 .ensures) (rw (length-replicate {A = ℕ} 256 0) few)))
+    (valid w l (c .before .before .before .before .before .before .before .before .wide .result) (c .before .before .before .before .before .before .wide2 .result) es ei, (start-in w l (c .before .before .before .before .before .before .before .before .wide .result) (c .before .before .before .before .before .before .wide2 .result) es ei, rw (c .before .before .before .before .before .blank5 .ensures) (rw (length-replicate {A = ℕ} 256 0) few)))
 
 enum-told : tie.Need-enum-told
 enum-told c = search needs
@@ -95,10 +95,10 @@ pub survives-spec : {M : Type 1} → statement M
 survives-spec =
     tie.close
     (tie.spec
-    no-table-requires
-    no-table-requires-2
-    no-table-requires-3
-    no-table-requires-4
+    blank-requires
+    blank-requires-2
+    blank-requires-3
+    blank-requires-4
     lay-requires
     passes-requires
     returns
@@ -106,7 +106,7 @@ survives-spec =
     wide-requires
     inputs-requires
     wide-requires-2
-    no-table-requires-5
+    blank-requires-5
     slice-aggregate-distinguish
     distinguish-requires
     enum-told

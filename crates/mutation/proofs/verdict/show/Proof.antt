@@ -13,24 +13,24 @@ use Rattle.engine.proofs.states.Reads as states-reads
 use Rattle.mutation.proofs.distance.distinguish.Reads as distinguish-reads
 use Rattle.mutation.proofs.moves.wide.Reads as wide-reads
 use Rattle.mutation.proofs.survive.lay.Reads as lay-reads
-use Rattle.mutation.proofs.survive.no_table.Reads as no-table-reads
+use Rattle.mutation.proofs.moves.blank.Reads as blank-reads
 
-no-table-requires : tie.Need-no-table-requires
-no-table-requires c κs = search needs
+blank-requires : tie.Need-blank-requires
+blank-requires c κs = search needs
 
-no-table-requires-2 : tie.Need-no-table-requires-2
-no-table-requires-2 c κs = search needs
+blank-requires-2 : tie.Need-blank-requires-2
+blank-requires-2 c κs = search needs
 
-no-table-requires-3 : tie.Need-no-table-requires-3
-no-table-requires-3 c κs = search needs
+blank-requires-3 : tie.Need-blank-requires-3
+blank-requires-3 c κs = search needs
 
-no-table-requires-4 : tie.Need-no-table-requires-4
-no-table-requires-4 c κs = search needs
+blank-requires-4 : tie.Need-blank-requires-4
+blank-requires-4 c κs = search needs
 
 lay-requires : tie.Need-lay-requires
 lay-requires c κs =
     let w = c .before .before .before .before .before .before .before .before .before .pre .0 .1 in
-    ((formed-tables w, chosen-ok w), (rw (c .before .before .before .before .before .before .before .no-table .ensures) (length-replicate {A = ℕ} 256 0), rw (c .before .before .before .before .before .before .no-table2 .ensures) (length-replicate {A = ℕ} 256 0), rw (c .before .before .before .before .before .no-table3 .ensures) (length-replicate {A = ℕ} 256 0), rw (c .before .before .before .before .no-table4 .ensures) (length-replicate {A = ℕ} 256 0)))
+    ((formed-tables w, chosen-ok w), (rw (c .before .before .before .before .before .before .before .blank .ensures) (length-replicate {A = ℕ} 256 0), rw (c .before .before .before .before .before .before .blank2 .ensures) (length-replicate {A = ℕ} 256 0), rw (c .before .before .before .before .before .blank3 .ensures) (length-replicate {A = ℕ} 256 0), rw (c .before .before .before .before .blank4 .ensures) (length-replicate {A = ℕ} 256 0)))
 
 states-requires : tie.Need-states-requires
 states-requires c κs = search needs
@@ -98,10 +98,10 @@ pub show-spec : {M : Type 1} → statement M
 show-spec =
     tie.close
     (tie.spec
-    no-table-requires
-    no-table-requires-2
-    no-table-requires-3
-    no-table-requires-4
+    blank-requires
+    blank-requires-2
+    blank-requires-3
+    blank-requires-4
     lay-requires
     states-requires
     wide-requires
