@@ -2,28 +2,26 @@
 use Prim.Native.Nat.{ℕ, zero, suc, _+_, _-_, _*_, _/_, _%_, _<_, _≤_}
 use native.Mathlib.Decide.{decLt, ℕ-discrete}
 use native.Mathlib.Omega.{arith}
-use mathlib.Core.Path.{_≡_, refl, sym, _∙_, ap, ap₂, subst, fun-ext}
+use mathlib.Core.Path.{_≡_, refl, sym, _∙_, ap, fun-ext}
 use mathlib.Core.Logic.{by-cases}
 use mathlib.Core.Bool.{Bool, true, false, cond, _&&_}
 use mathlib.Core.Option.{Option, none, some}
-use mathlib.Core.List.{List, [], _∷_, _++_, append-assoc}
+use mathlib.Core.List.{List, [], _∷_}
 use borrow.Author.Tests.{lt-ltb, ltb-true, eq-eqb, ne-eqb}
 use lib.Dec.{eqb, ltb}
-use lib.ListN.{length, getD, length-append, List·getD-eq-default}
+use lib.ListN.{length, getD, List·getD-eq-default}
 use Rattle.sheet.specs.declared.Row.{Row}
-use Rattle.sheet.specs.Lists.{maybe, isNone, first, All}
+use Rattle.sheet.specs.Lists.{maybe, isNone, first}
 use Rattle.sheet.specs.Sheet.{Sheet, rowsAt, ruleAt, unruledChoices}
 use Rattle.sheet.specs.Sheet.{choicesAt as choicesIn}
-use Rattle.sheet.specs.Encode.{pressBytes, testBytes}
 use Rattle.sheet.specs.Tables.{firstAt, firstFault, noRow}
 use Rattle.sheet.specs.WellFormed.{RowIn, WellFormed}
-use Rattle.model.specs.Machine.{Move, Pair, outputsFrom, specifiedFrom, ConformingFrom}
-use Rattle.model.specs.Mutant.{moveOf, rule, transitions, Suspect, suspects, slots, siteOf, IsMutant, idle, step, initial, outputs, specified, against, Conforming}
+use Rattle.model.specs.Machine.{Move}
+use Rattle.model.specs.Mutant.{moveOf, rule, transitions, Suspect, suspects, slots, siteOf, IsMutant, idle, step, initial, outputs, specified, against}
 use Rattle.model.specs.Suite.{Passes, compareOf}
-use Rattle.model.specs.Verdict.{RightOn}
 use Rattle.model.specs.laws.Basics.{all-every, all-imp, all-map, all-getD}
 use Rattle.model.specs.laws.ListLaw.{index-all}
-use Rattle.model.specs.laws.Closed.{rule-row, rule-in, some-state}
+use Rattle.model.specs.laws.Closed.{rule-row, rule-in}
 use Rattle.model.specs.laws.JudgeLaw.{some-nonconforming}
 use Rattle.model.specs.laws.SuspectLaw.{slot-count, site-is, site-one}
 use Rattle.model.specs.laws.TransitionLaw.{rule-choice, fault-choice, unruled-choice, choices-some, choices-few}
@@ -33,7 +31,7 @@ use Rattle.model.specs.laws.StepLaw.{step-at, step-outside, choice-below}
 use Rattle.model.specs.laws.StepLaw.{choiceOf as choiceAt}
 use Rattle.model.specs.laws.SuiteLaw.{test-specified, passes-right}
 use Rattle.model.specs.laws.SuiteLaw.{Specified as SpecifiedIn}
-use Rattle.engine.specs.Machine.{pair, ruleOutput, ruleTarget, siteAt, mutated, diverted, choicesOf, statesOf, inputsOf, choicesAt, choiceOf, chosen, ruleOf, stepOf, startOf, pairOf, PassesAll, Survivor, Specified, AllSpecified, suiteBytes, testsOf, SuiteOk, Ranged, Wf}
+use Rattle.engine.specs.Machine.{pair, ruleOutput, ruleTarget, siteAt, mutated, diverted, choicesOf, statesOf, choicesAt, choiceOf, chosen, ruleOf, stepOf, startOf, pairOf, Survivor, Specified, suiteBytes, testsOf, SuiteOk, Ranged, Wf}
 use Rattle.engine.specs.Machine.{firstFault as firstIndex}
 use Rattle.engine.proofs.Suites.{tests-same}
 use Rattle.mutation.specs.Block.{BlockFor}

@@ -1,13 +1,12 @@
 -- Judge: what the search finds is the judgement.
-use Prim.Native.Nat.{ℕ, zero, suc, _+_, _-_, _*_, _/_, _%_, _<_, _≤_}
-use native.Mathlib.Nat.{mul-le-mul}
+use Prim.Native.Nat.{ℕ, suc, _+_, _-_, _*_, _<_, _≤_}
 use native.Mathlib.Omega.{arith}
 use mathlib.Core.Path.{_≡_, refl, sym, _∙_, ap, subst}
-use mathlib.Core.Bool.{Bool, true, false, cond}
+use mathlib.Core.Bool.{Bool, true, false}
 use mathlib.Core.Option.{Option, none, some}
 use mathlib.Core.List.{List, [], _∷_, _++_, append-assoc}
 use borrow.Author.Tests.{lt-ltb, le-ltb}
-use lib.ListN.{length, getD, take, drop, set, replicate, length-append, length-take, length-drop}
+use lib.ListN.{length, getD, take, drop, set, replicate, length-append, length-drop}
 use lib.Seq.{take-all, take-suc, drop-cons, append-snoc, set-at, drop-at, take-at, length-take-le}
 use Rattle.sheet.specs.declared.Row.{Row}
 use Rattle.sheet.specs.declared.Summary.{Summary}
@@ -15,16 +14,16 @@ use Rattle.sheet.specs.declared.Tables.{Tables}
 use Rattle.sheet.specs.declared.Loaded.{Loaded}
 use Rattle.sheet.specs.declared.Reading.the-variants as read
 use Rattle.sheet.specs.Sheet.{Sheet}
-use Rattle.sheet.specs.Reading.{Result, accepted, refused, Reading, reading, summaryOf}
+use Rattle.sheet.specs.Reading.{accepted, refused, Reading, reading, summaryOf}
 use Rattle.sheet.specs.Encode.{rowBytes, sizeBytes, machineBytes, testBytes, body, encode}
-use Rattle.sheet.specs.Tables.{tablesOf, readAnswer, loadedOf}
+use Rattle.sheet.specs.Tables.{loadedOf}
 use Rattle.sheet.specs.WellFormed.{WellFormed}
 use Rattle.sheet.specs.laws.Accepted.{well-formed}
 use Rattle.sheet.specs.laws.Encoded.{encoded}
 use Rattle.model.specs.Mutant.{slots}
 use Rattle.model.specs.Suite.{compareOf, Judgement, complete, survivor, judgeOf}
 use Rattle.model.specs.Operations.{judging}
-use Rattle.model.specs.Verdict.{Complete, JudgedMeans, FirstSurvivor, ShortestOf}
+use Rattle.model.specs.Verdict.{Complete, JudgedMeans}
 use Rattle.model.specs.laws.OperationLaw.{mutant-length}
 use Rattle.model.specs.laws.Demands.{judged-told, complete-told}
 use Rattle.engine.specs.Machine.{statesOf, suiteBytes}
@@ -35,11 +34,10 @@ use Rattle.mutation.specs.declared.verdict.Judged.the-variants as judged
 use Rattle.mutation.specs.declared.Compared.{Compared}
 use Rattle.mutation.specs.declared.Compared.the-variants as compared
 use Rattle.mutation.specs.Answers.{overlay, comparedOf, found}
-use Rattle.mutation.specs.Fits.{Read}
 use Rattle.mutation.specs.Mutants.{Placed}
 use Rattle.mutation.specs.Sites.{openChoices, Numbered}
-use Rattle.mutation.specs.Search.{Prefix, NoneFrom, FirstFrom, byFound, Searching}
-use Rattle.mutation.specs.Judging.{judgementAnswer, judgedAnswer, boardWrites, sequenceWrites, judgingOf, Judges, Measured, ReadFrom, shownOf, JudgedSays, SaysOf, ToldJudged}
+use Rattle.mutation.specs.Search.{Prefix, byFound, Searching}
+use Rattle.mutation.specs.Judging.{judgingOf, Judges, Measured, ReadFrom, shownOf, SaysOf, ToldJudged}
 use Rattle.mutation.proofs.FitsLaw.{read-states, read-inputs, read-few, read-sited, read-ruled}
 use Rattle.mutation.proofs.BlockLaw.{getD-default, slot-few}
 use Rattle.mutation.proofs.PackedLaw.{block-for}

@@ -1,25 +1,23 @@
 -- A sheet that is read: what an operation takes from an accepted one, and how a refused one ends it.
-use Prim.Native.Nat.{ℕ, _*_, _≤_}
+use Prim.Native.Nat.{ℕ, _*_}
 use native.Mathlib.Omega.{arith}
-use mathlib.Core.Path.{_≡_, refl, sym, _∙_, ap, ap₂, subst}
+use mathlib.Core.Path.{_≡_, refl, sym, _∙_, ap, ap₂}
 use mathlib.Core.Option.{Option, none, some}
-use mathlib.Core.List.{List, [], _++_}
+use mathlib.Core.List.{List}
 use borrow.Author.Tests.{le-ltb}
 use lib.Dec.{ltb}
-use lib.ListN.{length, take, drop}
+use lib.ListN.{length, drop}
 use lib.Seq.{take-append-seam}
-use Rattle.sheet.specs.declared.Reading.{Reading as ReadAnswer}
 use Rattle.sheet.specs.declared.Reading.the-variants as read
 use Rattle.sheet.specs.declared.Summary.{Summary}
 use Rattle.sheet.specs.declared.Tables.{Tables}
 use Rattle.sheet.specs.declared.Loaded.{Loaded}
 use Rattle.sheet.specs.Sheet.{Sheet}
 use Rattle.sheet.specs.Encode.{encode}
-use Rattle.sheet.specs.Reading.{Result, accepted, refused, Reading, reading, summaryOf}
-use Rattle.sheet.specs.Tables.{readAnswer, tablesOf, loadedOf}
+use Rattle.sheet.specs.Reading.{accepted, refused, Reading, reading, summaryOf}
+use Rattle.sheet.specs.Tables.{loadedOf}
 use Rattle.sheet.specs.laws.Accepted.{well-formed}
 use Rattle.sheet.specs.laws.Encoded.{encoded}
-use Rattle.model.specs.Mutant.{IsMutant}
 use Rattle.model.specs.Suite.{Place, firstFailedOf, compareOf}
 use Rattle.model.specs.Operations.{refuseIf, withMutant, running, failing, comparing}
 use Rattle.model.specs.Verdict.{FailedMeans, ComparedMeans}

@@ -3,13 +3,12 @@ use Prim.Native.Nat.{ℕ, suc, _+_, _*_, _≤_, _<_}
 use native.Mathlib.Numerals.{add-one}
 use native.Mathlib.Omega.{arith}
 use mathlib.Core.Path.{_≡_, refl, sym, _∙_, ap, ap₂}
-use mathlib.Core.Option.{Option, none, some}
-use mathlib.Core.List.{List, [], _∷_, _++_, append-nil}
+use mathlib.Core.List.{List, _∷_, _++_, append-nil}
 use lib.ListN.{length, getD, set, take, drop, length-set, take-append-drop, drop-of-length-le}
 use lib.Seq.{take-suc-set, append-snoc, drop-set-lt, drop-drop, drop-cons}
 use Rattle.model.specs.Machine.{Move, outputsFrom}
 use Rattle.model.specs.Operations.{firstOver}
-use Rattle.model.specs.laws.OperationLaw.{FirstOver, first-over, none-over}
+use Rattle.model.specs.laws.OperationLaw.{first-over, none-over}
 use Rattle.model.specs.laws.SuiteLaw.{outputs-length}
 use Rattle.mutation.specs.Answers.{indexOr, overlay}
 use Rattle.mutation.specs.Tables.{moveIn, movesIn}

@@ -4,15 +4,15 @@ use native.Mathlib.Nat.{le-of-suc-le-suc}
 use native.Mathlib.Omega.{arith}
 use mathlib.Core.Path.{_≡_, refl, sym, _∙_, ap}
 use mathlib.Core.Bool.{cond}
-use mathlib.Core.List.{List, [], _∷_, _++_, append-assoc}
+use mathlib.Core.List.{List, [], _∷_, _++_}
 use borrow.Author.Tests.{lt-ltb}
 use lib.Dec.{ltb}
-use lib.ListN.{length, getD, take, drop, length-append}
-use lib.Seq.{getD-append-add, split-at}
+use lib.ListN.{length, getD, length-append}
+use lib.Seq.{getD-append-add}
 use Rattle.sheet.specs.declared.Summary.{Summary}
 use Rattle.sheet.specs.declared.Tables.{Tables}
 use Rattle.sheet.specs.Sheet.{Sheet}
-use Rattle.sheet.specs.Encode.{pressBytes, testBytes, machineBytes, body, encode}
+use Rattle.sheet.specs.Encode.{pressBytes, encode}
 use Rattle.sheet.specs.Reading.{summaryOf}
 use Rattle.sheet.specs.Part.{spanOf}
 use Rattle.sheet.specs.Tables.{tablesOf}

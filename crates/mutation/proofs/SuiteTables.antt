@@ -3,22 +3,21 @@ use Prim.Native.Nat.{ℕ, zero, suc, _+_, _*_, _≤_, _<_}
 use native.Mathlib.Numerals.{add-one}
 use native.Mathlib.Nat.{zero-add}
 use native.Mathlib.Omega.{arith}
-use mathlib.Core.Path.{_≡_, refl, sym, _∙_, ap, ap₂, subst}
+use mathlib.Core.Path.{_≡_, refl, sym, _∙_, ap, subst}
 use mathlib.Core.Bool.{Bool, true, false, cond, _&&_}
 use mathlib.Core.Option.{Option, none, some}
 use mathlib.Core.List.{List, [], _∷_}
-use borrow.Author.Tests.{eq-eqb, ne-eqb, lt-ltb}
+use borrow.Author.Tests.{eq-eqb, ne-eqb}
 use lib.Dec.{eqb, ltb}
-use lib.ListN.{length, getD, drop, length-drop, drop-of-length-le}
+use lib.ListN.{length, getD, drop, drop-of-length-le}
 use lib.Seq.{drop-cons}
-use Rattle.sheet.specs.Lists.{maybe}
-use Rattle.model.specs.Machine.{Move, Pair, prepend, outputsFrom, specifiedFrom}
+use Rattle.model.specs.Machine.{Move, Pair, outputsFrom, specifiedFrom}
 use Rattle.model.specs.Mutant.{later}
 use Rattle.model.specs.Suite.{firstWrong, Place, laterTest}
 use Rattle.model.specs.laws.SuiteLaw.{Following, specified-uncons, specified-length}
-use Rattle.mutation.specs.Answers.{indexOr, failedOf}
+use Rattle.mutation.specs.Answers.{indexOr}
 use Rattle.mutation.specs.Tables.{ruleIn, moveIn, tables, Valid}
-use Rattle.mutation.specs.Tests.{wrongFrom, failedFrom, Test, Tests}
+use Rattle.mutation.specs.Tests.{wrongFrom, failedFrom, Test}
 use Rattle.mutation.proofs.TablesLaw.{the-move, move-next-below}
 
 -- i positions later

@@ -1,8 +1,7 @@
 -- Whether a mutant with all its choices is a survivor, by tables.
-use Prim.Native.Nat.{ℕ, zero, suc, _+_, _-_, _*_, _/_, _%_, _<_, _≤_}
-use native.Mathlib.Decide.{decLt, ℕ-discrete}
+use Prim.Native.Nat.{ℕ, suc, _+_, _-_, _*_, _/_, _%_, _<_, _≤_}
+use native.Mathlib.Decide.{ℕ-discrete}
 use native.Mathlib.Nat.{mul-le-mul}
-use native.Mathlib.Numerals.{add-one}
 use native.Mathlib.Omega.{arith}
 use mathlib.Core.Path.{_≡_, refl, sym, _∙_, ap, subst, fun-ext}
 use mathlib.Core.Logic.{by-cases}
@@ -12,7 +11,7 @@ use mathlib.Core.List.{List, [], _∷_, _++_, append-assoc}
 use borrow.Author.Count.{below-more}
 use borrow.Author.Tests.{lt-ltb, le-ltb, ltb-true, eq-eqb, ne-eqb}
 use lib.Dec.{eqb, ltb}
-use lib.ListN.{length, getD, take, drop, set, length-append, length-drop, length-set}
+use lib.ListN.{length, getD, take, drop, set, length-append, length-drop}
 use lib.Seq.{drop-cons, getD-take, getD-set-same, getD-set-other}
 use Rattle.sheet.specs.declared.Row.{Row}
 use Rattle.sheet.specs.Lists.{maybe, All}
@@ -20,7 +19,7 @@ use Rattle.sheet.specs.Sheet.{Sheet, ruleAt}
 use Rattle.sheet.specs.Encode.{pressBytes, testBytes}
 use Rattle.sheet.specs.WellFormed.{WellFormed}
 use Rattle.model.specs.Machine.{Move, Pair, outputsFrom, specifiedFrom}
-use Rattle.model.specs.Mutant.{moveOf, rule, slots, siteOf, IsMutant, idle, step, initial, outputs, specified, against}
+use Rattle.model.specs.Mutant.{moveOf, rule, IsMutant, idle, step, initial, outputs, specified, against}
 use Rattle.model.specs.Compare.{comparePair}
 use Rattle.model.specs.Suite.{Place, firstFailedOf, Passes, compareOf}
 use Rattle.model.specs.Verdict.{RightOn}
@@ -29,15 +28,14 @@ use Rattle.model.specs.laws.Closed.{Closed, closed, rule-row, rule-in, step-in,
 use Rattle.model.specs.laws.SuspectLaw.{site-is}
 use Rattle.model.specs.laws.StepLaw.{step-outside}
 use Rattle.model.specs.laws.SuiteLaw.{Following, Specified, test-specified, specified-uncons, passes-right, right-passes}
-use Rattle.engine.specs.Machine.{pair, ruleOutput, ruleTarget, siteAt, choicesOf, statesOf, inputsOf, choicesAt, choiceOf, chosen, stepOf, suiteBytes, Ranged, Wf}
+use Rattle.engine.specs.Machine.{pair, ruleOutput, ruleTarget, siteAt, choicesOf, statesOf, inputsOf, choicesAt, choiceOf, chosen, stepOf, suiteBytes, Wf}
 use Rattle.engine.specs.Answers.{StepIs}
 use Rattle.engine.specs.declared.tables.Step.{Step}
 use Rattle.mutation.specs.declared.Compared.{Compared}
 use Rattle.mutation.specs.declared.Compared.the-variants.{Conforms, Differs, Refused}
 use Rattle.mutation.specs.Answers.{comparedOf}
 use Rattle.mutation.specs.Tables.{ruleIn, moveIn, movesIn, tables, Valid}
-use Rattle.mutation.specs.Block.{BlockFor}
-use Rattle.mutation.specs.Search.{isSurvivor, Prefix, Searching}
+use Rattle.mutation.specs.Search.{isSurvivor, Searching}
 use Rattle.mutation.specs.Survive.{slot, walkOf, Chosen, Acts, Laid}
 use Rattle.mutation.proofs.BlockLaw.{rule-none, site-some, site-low, ranged, step-same, well-formed}
 use Rattle.mutation.proofs.SearchLaw.{full-mutant}

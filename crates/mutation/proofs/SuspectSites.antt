@@ -1,17 +1,17 @@
 -- The numbers that the code gives to the suspects of a sheet are those of its mutants' bytes.
 use Prim.Native.Nat.{ℕ, zero, suc, _+_, _*_, _/_, _%_, _≤_, _<_}
-use native.Mathlib.Decide.{decLt, decLe}
+use native.Mathlib.Decide.{decLe}
 use native.Mathlib.Omega.{arith}
-use mathlib.Core.Path.{_≡_, refl, sym, _∙_, ap, ap₂, subst, fun-ext}
+use mathlib.Core.Path.{_≡_, refl, sym, _∙_, ap, ap₂, fun-ext}
 use mathlib.Core.Logic.{by-cases}
 use mathlib.Core.Bool.{Bool, true, false, cond, _&&_}
-use mathlib.Core.Option.{Option, none, some}
+use mathlib.Core.Option.{none, some}
 use mathlib.Core.List.{List, [], _∷_, _++_, map, append-nil, append-assoc}
 use borrow.Author.Tests.{lt-ltb, le-ltb, ltb-true, ltb-false}
 use lib.Dec.{ltb}
 use lib.ListN.{length, getD, length-append, length-map}
 use Rattle.sheet.specs.Lists.{maybe, upTo, joined, count}
-use Rattle.sheet.specs.Sheet.{Sheet, choicesAt, isOpen, openBelow, openPairs}
+use Rattle.sheet.specs.Sheet.{Sheet, choicesAt, isOpen, openBelow}
 use Rattle.sheet.specs.Tables.{byPair}
 use Rattle.sheet.specs.WellFormed.{WellFormed}
 use Rattle.sheet.specs.laws.TablesLaw.{table-at}

@@ -1,18 +1,16 @@
 -- `shows` on tables, as the code computes it.
-use Prim.Native.Nat.{ℕ, _+_, _*_, _≤_, _<_}
+use Prim.Native.Nat.{ℕ, _+_, _*_, _<_}
 use native.Mathlib.Omega.{arith}
-use mathlib.Core.Path.{_≡_, refl, sym, _∙_, ap, subst}
+use mathlib.Core.Path.{_≡_, refl}
 use mathlib.Core.Bool.{Bool, true, false, cond, _&&_}
-use mathlib.Core.Option.{Option, none, some}
-use mathlib.Core.List.{List, [], _∷_}
+use mathlib.Core.Option.{none, some}
+use mathlib.Core.List.{List}
 use borrow.Author.Tests.{eq-eqb, ne-eqb, lt-ltb}
-use lib.Dec.{eqb, ltb, leb}
-use lib.ListN.{length, getD}
-use Rattle.sheet.specs.Lists.{maybe}
-use Rattle.model.specs.Machine.{Move, Pair}
+use lib.Dec.{eqb, ltb}
+use lib.ListN.{getD}
+use Rattle.model.specs.Machine.{Move}
 use Rattle.model.specs.Compare.{target, shows}
-use Rattle.model.specs.laws.Closed.{Closed}
-use Rattle.mutation.specs.Tables.{ruleIn, moveIn, movesIn, tables, Valid, near}
+use Rattle.mutation.specs.Tables.{ruleIn, moveIn, movesIn, tables, Valid}
 
 -- the machine at a state and an input in range
 pub move-at : (n k : ℕ) (mo mn : List ℕ) (s x : ℕ) → s < n → x < k → movesIn n k mo mn s x ≡ moveIn mo mn (s * 16 + x)

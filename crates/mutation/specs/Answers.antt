@@ -1,7 +1,7 @@
 -- What the code answers: 01's numbers and values for each case, and the bytes written.
 use Prim.Native.Nat.{ℕ}
 use mathlib.Core.Option.{Option, none, some}
-use mathlib.Core.List.{List, [], _∷_, _++_}
+use mathlib.Core.List.{List, [], _++_}
 use lib.ListN.{length, drop}
 use Rattle.sheet.specs.Reading.{Result, accepted, refused}
 use Rattle.model.specs.Suite.{Place}

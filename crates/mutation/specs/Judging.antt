@@ -1,15 +1,12 @@
 -- What judge answers and writes.
 use Prim.Native.Nat.{ℕ, _*_, _≤_}
 use mathlib.Core.Path.{_≡_}
-use mathlib.Core.Bool.{Bool}
 use mathlib.Core.Option.{Option, none, some}
 use mathlib.Core.List.{List, []}
 use lib.Dec.{ltb}
 use lib.ListN.{length, take}
 use Rattle.sheet.specs.declared.Summary.{Summary}
 use Rattle.sheet.specs.declared.Tables.{Tables}
-use Rattle.sheet.specs.declared.Reading.{Reading as ReadAnswer}
-use Rattle.sheet.specs.declared.Reading.the-variants as read
 use Rattle.sheet.specs.Sheet.{Sheet}
 use Rattle.sheet.specs.Reading.{Result, accepted, refused, reading}
 use Rattle.sheet.specs.Encode.{encode}
@@ -17,7 +14,7 @@ use Rattle.model.specs.Mutant.{slots}
 use Rattle.model.specs.Suite.{Judgement, complete, survivor, judgeOf}
 use Rattle.model.specs.Operations.{refuseIf}
 use Rattle.model.specs.Implementation.{Guaranteed}
-use Rattle.model.specs.Verdict.{Complete, FirstSurvivor, ShortestOf, JudgedMeans}
+use Rattle.model.specs.Verdict.{Complete, FirstSurvivor, ShortestOf}
 use Rattle.mutation.specs.declared.verdict.Judged.{Judged}
 use Rattle.mutation.specs.declared.verdict.Judged.the-variants as judged
 use Rattle.mutation.specs.Answers.{overlay}

@@ -8,7 +8,7 @@ use lib.ListN.{length, take}
 use Rattle.sheet.specs.Sheet.{Sheet}
 use Rattle.sheet.specs.Reading.{Result, accepted, reading}
 use Rattle.model.specs.Mutant.{outputs, IsMutant}
-use Rattle.model.specs.Suite.{Place, firstFailedOf, compareOf}
+use Rattle.model.specs.Suite.{compareOf}
 use Rattle.model.specs.Operations.{refuseIf, refuseAt, firstOver, withMutant}
 use Rattle.model.specs.Verdict.{FailedMeans, ComparedMeans}
 use Rattle.mutation.specs.declared.Failed.{Failed}

@@ -1,11 +1,11 @@
 -- What a machine does on inputs and on tests, over tables and the sheet's bytes.
-use Prim.Native.Nat.{ℕ, suc, _+_, _*_, _≤_, _<_}
+use Prim.Native.Nat.{ℕ, _+_, _*_, _≤_, _<_}
 use mathlib.Core.Path.{_≡_}
 use mathlib.Core.Option.{Option, none, some}
 use mathlib.Core.List.{List, [], _∷_}
 use lib.ListN.{length, getD}
 use Rattle.sheet.specs.Lists.{maybe}
-use Rattle.model.specs.Machine.{Move, Pair, outputsFrom, specifiedFrom}
+use Rattle.model.specs.Machine.{Pair, outputsFrom, specifiedFrom}
 use Rattle.model.specs.Suite.{firstWrong, Place, laterTest}
 
 -- the machine's tables stay among n states
