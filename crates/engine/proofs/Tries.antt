@@ -1,16 +1,17 @@
 -- The branch rule: a suspect is settled in every way.
-use mathlib.Core.Path.{_≡_, refl, sym, ap, _∙_, subst}
-use mathlib.Core.List.{List, [], _∷_}
-use Prim.Native.Nat.{ℕ, suc, _+_, _*_, _<_, _≤_}
+use mathlib.Core.Path.{_≡_, sym, ap, _∙_, subst}
+use mathlib.Core.Bool.{true, false}
+use mathlib.Core.List.{List}
+use Prim.Native.Nat.{ℕ, _+_, _*_, _<_, _≤_}
 use native.Mathlib.Omega.{arith}
-use native.Mathlib.Decide.{ℕ-discrete, decLt}
+use native.Mathlib.Decide.{ℕ-discrete}
 use lib.ListN.{length, getD, set, length-set}
 use lib.Seq.{getD-set-same, getD-set-other}
-use Rattle.engine.specs.Sets.{Has, HasAll, With, Joined, Without}
-use Rattle.engine.specs.Machine.{Wf, Partial, Settled, Agree, Ranged, Survivor, SuiteOk, testsOf, choicesOf, choiceOf}
+use Rattle.engine.specs.Sets.{Has, With, Joined, Without}
+use Rattle.engine.specs.Machine.{Wf, Partial, Agree, Ranged, Survivor, testsOf, choicesOf, choiceOf}
 use Rattle.engine.specs.declared.tables.Step.{Step}
 use Rattle.engine.specs.declared.walk.Cursor.{Cursor}
-use Rattle.engine.specs.Answers.{Fails, Wanted, WantsOk, StepIs, CursorOk}
+use Rattle.engine.specs.Answers.{Fails, WantsOk, StepIs, CursorOk}
 use Rattle.engine.specs.Product.{Conforms}
 use Rattle.engine.specs.Refute.{NoSurvivor, SplitOk, Extends}
 use Rattle.engine.proofs.ChoiceLaws.{choice-at}
@@ -47,32 +48,53 @@ cursor-settle {m} {bytes} {p} {h} i c free ok =
       here = λ b a. ok .here b (record { at = λ j hj n. a .at j hj (λ e. n (sym (same j hj) ∙ e)) ∙ same j hj });
     }
 
--- every choice below c is refuted, by what u has besides i
-pub record Tried (m bytes p : List ℕ) (i u c : ℕ) : Type 0 where
+-- a suspect i with n choices is settled in each way: every choice below c is refuted, by what u has besides i
+pub record Trying (m bytes p : List ℕ) (i n u c : ℕ) : Type 0 where
+  pub low : i < 32
+  pub long : length p ≡ 32
+  pub all : n ≡ choicesOf m i
+  pub few : n ≤ 256
+  pub within : c ≤ n
   pub at : (b : List ℕ) → Ranged m b → getD b i 0 < c → ((j : ℕ) → Has u j → (j ≡ i → ⊥) → (getD p j 0 ≡ 256 → ⊥) → getD b j 0 ≡ getD p j 0) → Survivor m (testsOf bytes) b → ⊥
 
-pub tried-none : {m bytes p : List ℕ} {i u : ℕ} → Tried m bytes p i u 0
-tried-none = record { at = λ b r l. absurd (omega arith) }
+pub trying-none : {m bytes p : List ℕ} {i n u : ℕ} → Wf m → i < 32 → length p ≡ 32 → n ≡ choicesOf m i → Trying m bytes p i n u 0
+trying-none {i = i} wf l len e = record { low = l; long = len; all = e; few = omega (arith, wf .choices i l, e); within = omega arith; at = λ b r h. absurd (omega arith) }
 
-pub tried-more : {m bytes p : List ℕ} {i u v w c : ℕ} → i < length p → Tried m bytes p i u c → NoSurvivor m bytes (set p i c) v → HasAll u w → HasAll v w → Tried m bytes p i w (c + 1)
-tried-more {m} {bytes} {p} {i} {u} {v} {w} {c} l tr ns hu hv = record { at = λ b r lt a. go b r lt a (ℕ-discrete (getD b i 0) c) }
+pub trying-partial : {m bytes p q : List ℕ} {i n u c : ℕ} → Trying m bytes p i n u c → c < n → q ≡ set p i c → Partial m p → Partial m q
+trying-partial {i = i} {c = c} tr lc e pa = rw e (partial-settle i c (omega (arith, tr .low, tr .long)) (omega (arith, lc, tr .all)) pa)
+
+pub trying-long : {m bytes p q : List ℕ} {i n u c : ℕ} → Trying m bytes p i n u c → q ≡ set p i c → length q ≡ 32
+trying-long {p = p} {i = i} {c = c} tr e = rw e (length-set p i c ∙ tr .long)
+
+-- the choice c is refuted too
+pub trying-more : {m bytes p q : List ℕ} {i n u v w c : ℕ} → Trying m bytes p i n u c → c < n → q ≡ set p i c → NoSurvivor m bytes q v → Joined u v w → Trying m bytes p i n w (c + 1)
+trying-more {m} {bytes} {p} {q} {i} {n} {u} {v} {w} {c} tr lc eq ns jo = record {
+  low = tr .low;
+  long = tr .long;
+  all = tr .all;
+  few = tr .few;
+  within = omega arith;
+  at = λ b r lt a. go b r lt a (ℕ-discrete (getD b i 0) c);
+}
   where
+    l : i < length p
+    l = omega (arith, tr .low, tr .long)
+
     go : (b : List ℕ) → Ranged m b → getD b i 0 < c + 1 → ((j : ℕ) → Has w j → (j ≡ i → ⊥) → (getD p j 0 ≡ 256 → ⊥) → getD b j 0 ≡ getD p j 0) → Dec (getD b i 0 ≡ c) → Survivor m (testsOf bytes) b → ⊥
-    go b r lt a (no n) = tr .at b r (omega arith) (λ j h d n. a j (hu j h) d n)
-    go b r lt a (yes e) = ns .at b r (record { at = λ j h n. same j h n (ℕ-discrete j i) })
+    go b r lt a (no d) = tr .at b r (omega arith) (λ j h d s. a j (jo .left j h) d s)
+    go b r lt a (yes e) = ns .at b r (record { at = λ j h s. rw eq (same j h (rw eq at s) (ℕ-discrete j i)) })
       where
         same : (j : ℕ) → Has v j → (getD (set p i c) j 0 ≡ 256 → ⊥) → Dec (j ≡ i) → getD b j 0 ≡ getD (set p i c) j 0
-        same j h n (yes s) = rw (s, getD-set-same p i c 0 l) e
-        same j h n (no d) = a j (hv j h) d (rw (getD-set-other p i j c 0 d) at n) ∙ sym (getD-set-other p i j c 0 d)
+        same j h s (yes k) = rw (k, getD-set-same p i c 0 l) e
+        same j h s (no d) = a j (jo .right j h) d (rw (getD-set-other p i j c 0 d) at s) ∙ sym (getD-set-other p i j c 0 d)
 
 -- a choice's refutation that does not rest on the choice refutes every choice
-pub skips : {m bytes p : List ℕ} {v : ℕ} (i c : ℕ) → (Has v i → ⊥) → NoSurvivor m bytes (set p i c) v → NoSurvivor m bytes p v
-skips {m} {bytes} {p} {v} i c n ns = record
-    { at = λ b r a. ns .at b r (record { at = λ j h s. let same = getD-set-other p i j c 0 (λ e. n (subst (λ (k : ℕ). Has v k) e h)) in a .at j h (λ w. s (same ∙ w)) ∙ sym same }) }
+pub trying-skips : {m bytes p q : List ℕ} {i n u v c : ℕ} → Trying m bytes p i n u c → q ≡ set p i c → (Has v i → ⊥) → NoSurvivor m bytes q v → NoSurvivor m bytes p v
+trying-skips {m} {bytes} {p} {q} {i} {n} {u} {v} {c} tr eq free ns = record
+    { at = λ b r a. ns .at b r (record { at = λ j h s. let same : getD q j 0 ≡ getD p j 0 = rw eq (getD-set-other p i j c 0 (λ e. free (subst (λ (k : ℕ). Has v k) e h))) in a .at j h (λ w. s (same ∙ w)) ∙ sym same }) }
 
-pub tried-all : {m bytes p : List ℕ} {i u c r : ℕ} → i < 32 → Tried m bytes p i u c → choicesOf m i ≤ c → ((j : ℕ) → Has u j → (j ≡ i → ⊥) → Has r j) → NoSurvivor m bytes p r
-tried-all {m} {bytes} {p} {i} l tr lc more = record
-    { at = λ b g a. tr .at b g (omega (arith, g .at i l)) (λ j h n s. a .at j (more j h n) s) }
+pub trying-all : {m bytes p : List ℕ} {i n u c r : ℕ} → Trying m bytes p i n u c → n ≤ c → Without u i r → NoSurvivor m bytes p r
+trying-all {i = i} tr l wo = record { at = λ b g a. tr .at b g (omega (arith, g .at i (tr .low), tr .all)) (λ j h d s. a .at j (wo .others j h d) s) }
 
 -- a choice whose output the tests do not want, at a suspect that is not settled
 pub killed : {m bytes p w : List ℕ} {i k o v : ℕ} {r : Step} (at c : ℕ) → Wf m → WantsOk m bytes p w → SplitOk m p i k → length p ≡ 32 → c < choicesOf m i → StepIs m k c r → o < 16
@@ -93,8 +115,9 @@ killed {m} {bytes} {p} {w} {i} {k} {o} {v} {r} at c wf ok sp len lc si lo other 
           other (sym (wd .at b less (y .0) k (sp .pair) (sp .is)) ∙ ap (λ (n : ℕ). choiceOf m k n .output) has ∙ sym out);
     }
 
-pub long-settle : (p : List ℕ) (i c : ℕ) → length p ≡ 32 → length (set p i c) ≡ 32
-long-settle p i c e = length-set p i c ∙ e
+-- what an answer that is false promises
+pub nothing : {A : Type 0} → false ≡ true → A
+nothing e = let z : _≡_ {A = ℕ} 0 1 = cc in absurd (omega arith)
 
 -- the prefix settles all that a mutant with its choices agrees on
 pub none-extends : {m bytes p : List ℕ} {u : ℕ} → NoSurvivor m bytes p u → (b : List ℕ) → Ranged m b → Extends b p → Survivor m (testsOf bytes) b → ⊥

@@ -47,10 +47,11 @@ pub record SplitOk (m p : List ℕ) (i k : ℕ) : Type 0 where
   pub pair : k < 256
   pub is : siteAt m k ≡ i
 
-abbrev pub LookedOk : List ℕ → List ℕ → List ℕ → Looked → Type 0
-LookedOk m bytes p (No u) = NoSurvivor m bytes p u
-LookedOk m bytes p (Split i k) = SplitOk m p i k
-LookedOk m bytes p Unknown = Unit {0}
+-- with `left` suspects at most still to be settled
+abbrev pub LookedOk : List ℕ → List ℕ → List ℕ → ℕ → Looked → Type 0
+LookedOk m bytes p left (No u) = NoSurvivor m bytes p u
+LookedOk m bytes p left (Split i k) = SplitOk m p i k × (0 < left)
+LookedOk m bytes p left Unknown = Unit {0}
 
 -- an output o below 16 that `killer` names is kept for the suspect i, and is another
 abbrev pub KillerOk : List ℕ → ℕ → ℕ → ℕ → Type 0

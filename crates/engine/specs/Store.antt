@@ -10,19 +10,18 @@ use Rattle.engine.specs.Refute.{NoSurvivor}
 use Rattle.engine.specs.declared.store.Known.{Known}
 use Rattle.engine.specs.declared.store.Known.the-variants.{By, Fresh}
 
--- how many refutations it has room for
+-- how many refutations a fresh store has room for
 abbrev pub entries : ℕ
 entries = 512
 
--- the sets of an empty store: each has the suspect 0
+-- the sets of a fresh store: each has the suspect 0
 abbrev pub freshSets : List ℕ
 freshSets = replicate entries 1
 
 -- every entry refutes on its own: no mutant with its choices at the members of its set is a survivor
 pub record StoreOk (m bytes sets values : List ℕ) : Type 0 where
-  pub len : length sets ≡ entries
-  pub long : length values ≡ entries * 32
-  pub at : (e : ℕ) → e < entries → (b : List ℕ) → Ranged m b → ((j : ℕ) → j < 32 → Has (getD sets e 0) j → getD b j 0 ≡ getD values (e * 32 + j) 0) → Survivor m (testsOf bytes) b → ⊥
+  pub long : length values ≡ length sets * 32
+  pub at : (e : ℕ) → e < length sets → (b : List ℕ) → Ranged m b → ((j : ℕ) → j < 32 → Has (getD sets e 0) j → getD b j 0 ≡ getD values (e * 32 + j) 0) → Survivor m (testsOf bytes) b → ⊥
 
 -- the members of u are settled in p, with the choices of the entry e
 pub record Matches (p values : List ℕ) (u e : ℕ) : Type 0 where
@@ -31,7 +30,7 @@ pub record Matches (p values : List ℕ) (u e : ℕ) : Type 0 where
 -- the first n choices of the entry e are p's, and nothing else is changed
 pub record Written (old new : List ℕ) (e : ℕ) (p : List ℕ) (n : ℕ) : Type 0 where
   pub low : n ≤ 32
-  pub long : length new ≡ entries * 32
+  pub long : length new ≡ length old
   pub same : (j : ℕ) → j < n → getD new (e * 32 + j) 0 ≡ getD p j 0
   pub others : (k : ℕ) → (k < e * 32) ⊎ (e * 32 + 32 ≤ k) → getD new k 0 ≡ getD old k 0
 

@@ -9,18 +9,17 @@ use crate::product::Seen;
 use crate::product::meet;
 use crate::product::over;
 use crate::product::shrink;
-use crate::quick::probe;
+use crate::quick::refuted_quickly;
 use crate::sets::empty;
 use crate::sets::has;
 use crate::sets::join;
 use crate::sets::with;
 use crate::sets::without;
 use crate::store::Known;
-use crate::store::StoreSets;
-use crate::store::StoreValues;
 use crate::store::hit;
 use crate::store::learn;
 use crate::tables::choices;
+use crate::tables::choose;
 use crate::tables::pair_of;
 use crate::tables::rule_target;
 use crate::tables::site;
@@ -31,11 +30,10 @@ use crate::walk::Ran;
 use crate::walk::better;
 use crate::walk::run;
 use crate::walk::slot;
-use crate::walk::start;
 ghost use mathlib.Core.Path.{_≡_};
 ghost use mathlib.Core.Bool.{true};
-ghost use Prim.Native.Nat.{ℕ, _+_, _*_, _<_, _≤_};
-ghost use lib.ListN.{length, getD, set};
+ghost use Prim.Native.Nat.{_+_, _<_};
+ghost use lib.ListN.{length, set};
 ghost use Rattle.engine.specs.Machine.{Wf, Partial, SuiteOk, choicesOf};
 ghost use Rattle.engine.specs.Answers.{WantsOk};
 ghost use Rattle.engine.specs.Store.{StoreOk};
@@ -174,64 +172,91 @@ pub fn fewest(tables: &[u8; 1603], wanted: &[u32; 512], waits: u32) -> u8 {
     best
 }
 
-// The suspect to settle next, if it is one that is not settled.
-pub fn settle(tables: &[u8; 1603], bytes: &[u8], p: &[u16; 32], i: u8) -> Looked
-    ensures { λ r. ⌜ LookedOk (now (tables .entry)) (now (bytes .entry)) (now (p .entry)) r ⌝ }
+// The suspect to settle next, or one that is settled or none.
+pub fn pick(tables: &[u8; 1603], p: &[u16; 32], wanted: &[u32; 512], waits: u32) -> u8 {
+    let i = fewest(tables, wanted, waits);
+    if i < 32 {
+        return i;
+    }
+    meet(tables, p)
+}
+
+// The pair of a suspect that is not settled; 256 if it is settled or none.
+pub fn unsettled(tables: &[u8; 1603], p: &[u16; 32], i: u8) -> usize
+    ensures { λ r. ⌜ (r < 256 → SplitOk (now (tables .entry)) (now (p .entry)) i r) ⌝ }
 {
     if i >= 32 {
-        return Looked::Unknown;
+        return 256;
     }
     if p[wide(i)] != 256 {
-        return Looked::Unknown;
+        return 256;
     }
     let k = pair_of(tables, i);
     if site(tables, k) != i {
+        return 256;
+    }
+    k
+}
+
+// What the reachable pairs of states say, or the suspect to settle next, where tests wait for `waits` and no other fails.
+pub fn weigh(
+    tables: &[u8; 1603],
+    bytes: &[u8],
+    notes: &mut Notes,
+    left: u8,
+    p: &[u16; 32],
+    wanted: &[u32; 512],
+    waits: u32,
+) -> Looked
+    requires { ⌜ Wf (now tables) × Partial (now tables) (now p) × (length (now p) ≡ 32) ⌝ }
+    ensures { λ r. ⌜ LookedOk (now (tables .entry)) (now (bytes .entry)) (now (p .entry)) left r ⌝ }
+{
+    if let Seen::Fine(used) = over(tables, p) {
+        return Looked::No(shrink(tables, p, notes, left, used));
+    }
+    let i = pick(tables, p, wanted, waits);
+    let k = unsettled(tables, p, i);
+    if k >= 256 {
+        keep(notes, p);
         return Looked::Unknown;
     }
+    if left == 0 {
+        return Looked::Unknown;
+    }
+    trail(notes, left, i);
     Looked::Split(i, k)
 }
 
-// What the tests and the reachable pairs of states say, or the suspect to settle next.
+// What the store, the tests and the reachable pairs of states say, or the suspect to settle next.
 pub fn look(
     tables: &[u8; 1603],
     bytes: &[u8],
-    sets: &StoreSets,
-    values: &StoreValues,
+    sets: &[u32],
+    values: &[u16],
     notes: &mut Notes,
     left: u8,
     p: &[u16; 32],
     wanted: &mut [u32; 512],
 ) -> Looked
     requires { ⌜ StoreOk (now tables) (now bytes) (now sets) (now values) × Wf (now tables) × Partial (now tables) (now p) × SuiteOk (now tables) (now bytes) × WantsOk (now tables) (now bytes) (now p) (now wanted) × (length (now p) ≡ 32) ⌝ }
-    ensures { λ r. ⌜ LookedOk (now (tables .entry)) (now (bytes .entry)) (now (p .entry)) r × WantsOk (now (tables .entry)) (now (bytes .entry)) (now (p .entry)) (now (wanted .exit)) ⌝ }
+    ensures { λ r. ⌜ LookedOk (now (tables .entry)) (now (bytes .entry)) (now (p .entry)) left r × WantsOk (now (tables .entry)) (now (bytes .entry)) (now (p .entry)) (now (wanted .exit)) ⌝ }
 {
     tick(notes);
     if let Known::By(known) = hit(tables, bytes, sets, values, notes, p) {
         return Looked::No(known);
     }
-    let ran = run(tables, bytes, p, wanted);
-    if let Ran::Failed(used) = ran {
-        return Looked::No(used);
+    match run(tables, bytes, p, wanted) {
+        Ran::Failed(used) => Looked::No(used),
+        Ran::Passed(waits) => weigh(tables, bytes, notes, left, p, wanted, waits),
     }
-    let Ran::Passed(waits) = ran else {
-        return Looked::Unknown;
-    };
-    if let Seen::Fine(used) = over(tables, p) {
-        return Looked::No(shrink(tables, p, notes, left, used));
-    }
-    let i = fewest(tables, wanted, waits);
-    if i < 32 {
-        return settle(tables, bytes, p, i);
-    }
-    settle(tables, bytes, p, meet(tables, p))
 }
 
 // With `left` suspects at most still to be settled. `dead`: what is known of this node already.
 pub fn explore(
     tables: &[u8; 1603],
     bytes: &[u8],
-    sets: &mut StoreSets,
-    values: &mut StoreValues,
+    sets: &mut [u32],
+    values: &mut [u16],
     notes: &mut Notes,
     p: [u16; 32],
     dead: Outcome,
@@ -249,31 +274,16 @@ pub fn explore(
         return Outcome::Refuted(used);
     }
     let Looked::Split(i, k) = seen else {
-        keep(notes, &p);
         return Outcome::Open;
     };
-    if left == 0 {
-        return Outcome::Open;
-    }
-    trail(notes, left, i);
-    let j = wide(i);
     let n = choices(tables, i);
     let mut all = empty();
     let mut c: u16 = 0;
     while c < n {
         let killed = kill(tables, bytes, &p, &wanted, k, i, c);
-        let mut q = p;
-        q[j] = c;
-        let Outcome::Refuted(used) = explore(
-            tables,
-            bytes,
-            sets,
-            values,
-            notes,
-            q,
-            killed,
-            left - 1,
-        ) else {
+        let q = choose(&p, i, c);
+        let told = explore(tables, bytes, sets, values, notes, q, killed, left - 1);
+        let Outcome::Refuted(used) = told else {
             return Outcome::Open;
         };
         if !has(used, i) {
@@ -287,12 +297,13 @@ pub fn explore(
     Outcome::Refuted(rest)
 }
 
-// Whether no mutant with all the choices of the prefix is a survivor; false promises nothing.
+// Whether no mutant with all the choices of the prefix is a survivor; false promises nothing. With an empty store the quick
+// attempt, else the thorough one.
 pub fn no_survivor(
     tables: &[u8; 1603],
     bytes: &[u8],
-    sets: &mut StoreSets,
-    values: &mut StoreValues,
+    sets: &mut [u32],
+    values: &mut [u16],
     notes: &mut Notes,
     prefix: [u16; 32],
 ) -> bool
@@ -302,14 +313,11 @@ pub fn no_survivor(
     if witnessed(notes, &prefix) {
         return false;
     }
-    if let Outcome::Refuted(_) = probe(tables, bytes, notes, prefix, start(), 32) {
-        return true;
-    }
-    if witnessed(notes, &prefix) {
-        return false;
+    if sets.len() == 0 {
+        return refuted_quickly(tables, bytes, notes, prefix);
     }
     settled_before(notes, 32, &prefix);
-    let Outcome::Refuted(_) = explore(
+    let told = explore(
         tables,
         bytes,
         sets,
@@ -318,7 +326,8 @@ pub fn no_survivor(
         prefix,
         Outcome::Open,
         32,
-    ) else {
+    );
+    let Outcome::Refuted(_) = told else {
         return false;
     };
     true

@@ -1,9 +1,7 @@
 // Notes that steer the search. Nothing is promised of what they say: they decide what is tried, not what is answered.
-use crate::store::ENTRIES;
 use crate::tables::wide;
 use crate::tables::wide32;
 ghost use Prim.Native.Nat.{_≤_, _<_};
-ghost use Rattle.engine.specs.Store.{entries};
 
 // How many nodes were looked at.
 const NODES: usize = 0;
@@ -46,7 +44,7 @@ pub fn nodes(notes: &Notes) -> u32 {
     notes[NODES]
 }
 
-// Whether it is too late for a quick attempt.
+// Whether too many nodes were looked at for a quick attempt: each gives up from here on.
 pub fn spent(notes: &Notes) -> bool {
     notes[NODES] >= QUICK
 }
@@ -89,24 +87,25 @@ pub fn latest(notes: &Notes, left: u8, d: u8) -> u8 {
     255
 }
 
-// How many entries of the store are filled.
-pub fn filled(notes: &Notes) -> usize
-    ensures { λ r. ⌜ r ≤ entries ⌝ }
+// How many entries of a store are filled.
+pub fn filled(notes: &Notes, room: usize) -> usize
+    ensures { λ r. ⌜ r ≤ room ⌝ }
 {
     let n = wide32(notes[LEARNT]);
-    if n > ENTRIES {
-        return ENTRIES;
+    if n > room {
+        return room;
     }
     n
 }
 
 // The entry to write next: each in turn.
-pub fn entry(notes: &mut Notes) -> usize
-    ensures { λ r. ⌜ r < entries ⌝ }
+pub fn entry(notes: &mut Notes, room: usize) -> usize
+    requires { ⌜ 0 < room ⌝ }
+    ensures { λ r. ⌜ r < room ⌝ }
 {
     let n = notes[LEARNT];
     notes[LEARNT] = one_more(n);
-    wide32(n) % ENTRIES
+    wide32(n) % room
 }
 
 pub fn as_note(choice: u16) -> u32 {

@@ -13,16 +13,18 @@ use crate::sets::has;
 use crate::sets::join;
 use crate::sets::without;
 use crate::tables::choices;
+use crate::tables::choose;
 use crate::tables::wide;
 use crate::walk::Cursor;
 use crate::walk::Moved;
 use crate::walk::advance;
+use crate::walk::start;
 ghost use mathlib.Core.Path.{_≡_};
 ghost use Prim.Native.Nat.{_<_};
 ghost use lib.ListN.{length};
-ghost use Rattle.engine.specs.Machine.{Wf, Partial};
+ghost use Rattle.engine.specs.Machine.{Wf, Partial, SuiteOk};
 ghost use Rattle.engine.specs.Answers.{CursorOk};
-ghost use Rattle.engine.specs.Refute.{OutcomeOk, HaltedOk, GlancedOk};
+ghost use Rattle.engine.specs.Refute.{OutcomeOk, HaltedOk, GlancedOk, NoneIf};
 
 // Where a run of the suite halts: at a wrong output, with the suspects that lead to it; before a command that meets an
 // unsettled suspect; at the suite's end.
@@ -121,13 +123,11 @@ pub fn probe(
     if left == 0 {
         return Outcome::Open;
     }
-    let j = wide(i);
     let n = choices(tables, i);
     let mut all = empty();
     let mut c: u16 = 0;
     while c < n {
-        let mut q = p;
-        q[j] = c;
+        let q = choose(&p, i, c);
         let Outcome::Refuted(used) = probe(tables, bytes, notes, q, here, left - 1) else {
             return Outcome::Open;
         };
@@ -138,4 +138,20 @@ pub fn probe(
         c += 1;
     }
     Outcome::Refuted(without(all, i))
+}
+
+// Whether the quick attempt finds that no mutant with all the choices of the prefix is a survivor; false promises nothing.
+pub fn refuted_quickly(
+    tables: &[u8; 1603],
+    bytes: &[u8],
+    notes: &mut Notes,
+    prefix: [u16; 32],
+) -> bool
+    requires { ⌜ Wf (now tables) × SuiteOk (now tables) (now bytes) × Partial (now tables) prefix × (length prefix ≡ 32) ⌝ }
+    ensures { λ r. ⌜ NoneIf (now (tables .entry)) (now (bytes .entry)) prefix r ⌝ }
+{
+    let Outcome::Refuted(_) = probe(tables, bytes, notes, prefix, start(), 32) else {
+        return false;
+    };
+    true
 }

@@ -1,4 +1,5 @@
-// Refutations found before: sets of suspects with their choices.
+// Refutations found before: sets of suspects with their choices. A store is two slices, of any length: the set of each entry,
+// and its choices, one for each suspect. An empty one keeps nothing.
 use crate::notes::Notes;
 use crate::notes::entry;
 use crate::notes::filled;
@@ -7,17 +8,16 @@ use crate::tables::wide;
 ghost use mathlib.Core.Path.{_≡_};
 ghost use mathlib.Core.Bool.{true};
 ghost use Prim.Native.Nat.{ℕ, _+_, _*_, _<_, _≤_};
-ghost use mathlib.Core.List.{List};
-ghost use lib.ListN.{length, getD};
+ghost use mathlib.Core.List.{List, []};
+ghost use lib.ListN.{length};
 ghost use Rattle.engine.specs.Machine.{Wf};
 ghost use Rattle.engine.specs.Refute.{NoSurvivor};
 ghost use Rattle.engine.specs.Sets.{Has};
-ghost use Rattle.engine.specs.Store.{entries, freshSets, StoreOk, Matches, Written, HitOk};
+ghost use Rattle.engine.specs.Store.{freshSets, StoreOk, Matches, Written, HitOk};
 
-// How many refutations are kept.
+// How many refutations a fresh store has room for.
 pub const ENTRIES: usize = 512;
 
-// The set of each entry, and its choices, one for each suspect.
 pub type StoreSets = [u32; ENTRIES];
 
 pub type StoreValues = [u16; ENTRIES * 32];
@@ -27,7 +27,7 @@ pub enum Known {
     Fresh,
 }
 
-// A set for each entry of an empty store.
+// A set for each entry of a store that refutes nothing yet.
 pub fn fresh_sets() -> StoreSets
     ensures { λ r. ⌜ r ≡ freshSets ⌝ }
 {
@@ -41,10 +41,25 @@ pub fn fresh_values() -> StoreValues
     [65535u16; ENTRIES * 32]
 }
 
+// No sets: an empty store.
+pub fn no_sets() -> [u32; 0]
+    ensures { λ r. ⌜ r ≡ [] ⌝ }
+{
+    [0u32; 0]
+}
+
+// No choices.
+pub fn no_values() -> [u16; 0]
+    ensures { λ r. ⌜ r ≡ [] ⌝ }
+    ensures { λ r. ⌜ ((m bytes : List ℕ) → StoreOk m bytes [] []) ⌝ }
+{
+    [0u16; 0]
+}
+
 // Where a choice of an entry is kept.
 pub fn value_at(e: usize, j: u8) -> usize
-    requires { ⌜ (e < entries) × (j < 32) ⌝ }
-    ensures { λ r. ⌜ (r ≡ e * 32 + j) × (r < entries * 32) ⌝ }
+    requires { ⌜ (e * 32 + 32 < 18446744073709551616) × (j < 32) ⌝ }
+    ensures { λ r. ⌜ r ≡ e * 32 + j ⌝ }
 {
     e * 32 + (j as usize)
 }
@@ -67,8 +82,8 @@ pub fn agrees(set: u32, j: u8, choice: u16, value: u16) -> bool
 }
 
 // Whether the choices of an entry are all settled, and the same.
-pub fn matches(p: &[u16; 32], values: &StoreValues, set: u32, e: usize) -> bool
-    requires { ⌜ e < entries ⌝ }
+pub fn matches(p: &[u16; 32], values: &[u16], set: u32, e: usize) -> bool
+    requires { ⌜ e * 32 + 32 ≤ length (now values) ⌝ }
     ensures { λ r. ⌜ (r ≡ true → Matches (now (p .entry)) (now (values .entry)) set e) ⌝ }
 {
     let mut j: u8 = 0;
@@ -103,8 +118,8 @@ pub fn bit(value: u16) -> u32 {
 pub fn hit(
     tables: &[u8; 1603],
     bytes: &[u8],
-    sets: &StoreSets,
-    values: &StoreValues,
+    sets: &[u32],
+    values: &[u16],
     notes: &Notes,
     p: &[u16; 32],
 ) -> Known
@@ -112,7 +127,7 @@ pub fn hit(
     ensures { λ r. ⌜ HitOk (now (tables .entry)) (now (bytes .entry)) (now (p .entry)) r ⌝ }
 {
     let settled = settled_set(p);
-    let n = filled(notes);
+    let n = filled(notes, sets.len());
     let mut e: usize = 0;
     while e < n {
         let set = sets[e];
@@ -127,8 +142,8 @@ pub fn hit(
 }
 
 // Writes the choices of an entry.
-pub fn write(values: &mut StoreValues, e: usize, p: &[u16; 32])
-    requires { ⌜ (e < entries) × (length (now values) ≡ entries * 32) ⌝ }
+pub fn write(values: &mut [u16], e: usize, p: &[u16; 32])
+    requires { ⌜ e * 32 + 32 ≤ length (now values) ⌝ }
     ensures { λ r. ⌜ Written (now (values .entry)) (now (values .exit)) e (now (p .entry)) 32 ⌝ }
 {
     let mut j: u8 = 0;
@@ -139,12 +154,12 @@ pub fn write(values: &mut StoreValues, e: usize, p: &[u16; 32])
     }
 }
 
-// Keeps a refutation.
+// Keeps a refutation, where there is room.
 pub fn learn(
     tables: &[u8; 1603],
     bytes: &[u8],
-    sets: &mut StoreSets,
-    values: &mut StoreValues,
+    sets: &mut [u32],
+    values: &mut [u16],
     notes: &mut Notes,
     p: &[u16; 32],
     set: u32,
@@ -152,7 +167,11 @@ pub fn learn(
     requires { ⌜ StoreOk (now tables) (now bytes) (now sets) (now values) × NoSurvivor (now tables) (now bytes) (now p) set × (length (now p) ≡ 32) ⌝ }
     ensures { λ r. ⌜ StoreOk (now (tables .entry)) (now (bytes .entry)) (now (sets .exit)) (now (values .exit)) ⌝ }
 {
-    let e = entry(notes);
+    let room = sets.len();
+    if room == 0 {
+        return;
+    }
+    let e = entry(notes, room);
     write(values, e, p);
     sets[e] = set;
 }

@@ -1,7 +1,7 @@
 // The tables of a machine and its mutants, in one block of bytes (their places: specs/Machine.antt), and what is read from it.
 ghost use mathlib.Core.Path.{_≡_};
-ghost use Prim.Native.Nat.{ℕ, _+_, _*_, _/_, _%_, _<_, _≤_};
-ghost use lib.ListN.{getD, length};
+ghost use Prim.Native.Nat.{_+_, _*_, _/_, _%_, _<_, _≤_};
+ghost use lib.ListN.{length, set};
 ghost use Rattle.engine.specs.Machine.{pair, ruleOutput, ruleTarget, siteAt, choicesOf, statesOf, inputsOf};
 ghost use Rattle.engine.specs.Answers.{StepIs};
 ghost use Rattle.engine.specs.Packing.{Packed, Copied, FirstCopied, ChoicesCopied, Located};
@@ -74,6 +74,16 @@ pub fn choices(tables: &[u8; 1603], i: u8) -> u16
     ensures { λ r. ⌜ r ≡ choicesOf (now (tables .entry)) i ⌝ }
 {
     more(tables[1536 + wide(i)])
+}
+
+// The choices with one more settled.
+pub fn choose(p: &[u16; 32], i: u8, c: u16) -> [u16; 32]
+    requires { ⌜ i < 32 ⌝ }
+    ensures { λ r. ⌜ r ≡ set (now (p .entry)) i c ⌝ }
+{
+    let mut q = *p;
+    q[wide(i)] = c;
+    q
 }
 
 pub fn states(tables: &[u8; 1603]) -> u8

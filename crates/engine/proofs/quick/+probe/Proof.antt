@@ -2,10 +2,10 @@
 use borrow.Author.Needs.{needs}
 use borrow.Author.Tests.{not-true}
 use native.Mathlib.Omega.{arith}
-use Prim.Native.Nat.{ℕ, _-_, _<_, _≤_}
+use Rattle.engine.proofs.Tries.{cursor-settle, Trying, trying-none, trying-partial, trying-long, trying-more, trying-skips, trying-all}
+use Prim.Native.Nat.{ℕ, _-_, _<_}
 use borrow.Fn.Kinds.{In}
 use borrow.Fn.PlainCycle.{Measures, is, falls, and}
-use Rattle.engine.proofs.Tries.{partial-settle, cursor-settle, long-settle, Tried, tried-none, tried-more, tried-all, skips}
 use Rattle.engine.proofs.quick.probe.Reads as probe
 use Rattle.engine.proofs.quick.probe.Kinds as probe-kinds
 use Rattle.engine.proofs.quick.+probe.Lts-probe as probe-lts
@@ -18,7 +18,7 @@ use Rattle.engine.proofs.sets.has.Reads as has-reads
 use Rattle.engine.proofs.sets.join.Reads as join-reads
 use Rattle.engine.proofs.sets.without.Reads as without-reads
 use Rattle.engine.proofs.tables.choices.Reads as choices-reads
-use Rattle.engine.proofs.tables.wide.Reads as wide-reads
+use Rattle.engine.proofs.tables.choose.Reads as choose-reads
 use Rattle.engine.proofs.quick.+probe.{statement}
 use Rattle.engine.proofs.quick.+probe.Tie.{close}
 
@@ -32,25 +32,25 @@ abbrev probe-below : ℕ → In 3 probe-kinds.ps
 probe-below t = and 3 probe-kinds.ps (falls 3 probe-kinds.ps _<_ μ-probe t) probe.Pre
 
 abbrev cs : ℕ → probe-lts.Claims
-cs t = (spent-reads.Asked, spent-reads.Learnt, tick-reads.Asked, tick-reads.Learnt, glance-reads.Asked, glance-reads.Learnt, keep-reads.Asked, keep-reads.Learnt, wide-reads.Asked, wide-reads.Learnt, choices-reads.Asked, choices-reads.Learnt, empty-reads.Asked, empty-reads.Learnt, probe-below t, probe.Post, has-reads.Asked, has-reads.Learnt, join-reads.Asked, join-reads.Learnt, without-reads.Asked, without-reads.Learnt)
+cs t = (spent-reads.Asked, spent-reads.Learnt, tick-reads.Asked, tick-reads.Learnt, glance-reads.Asked, glance-reads.Learnt, keep-reads.Asked, keep-reads.Learnt, choices-reads.Asked, choices-reads.Learnt, empty-reads.Asked, empty-reads.Learnt, choose-reads.Asked, choose-reads.Learnt, probe-below t, probe.Post, has-reads.Asked, has-reads.Learnt, join-reads.Asked, join-reads.Learnt, without-reads.Asked, without-reads.Learnt)
 
 abbrev probe-Inv-loop : probe-lts.InvT-loop
-probe-Inv-loop tables bytes notes₀ left p i here j n all₀ c₀ notes all c = Tried tables bytes p j all c × (c ≤ n)
+probe-Inv-loop tables bytes notes₀ left p i here n all₀ c₀ notes all c = Trying tables bytes p i n all c
 
 abbrev probe-μ-loop : probe-lts.MeasureT-loop
-probe-μ-loop tables bytes notes₀ left p i here j n all₀ c₀ notes all c = n - c
+probe-μ-loop tables bytes notes₀ left p i here n all₀ c₀ notes all c = n - c
 
 probe-spent-requires : (t : ℕ) → probe-lts.Need-spent-requires (cs t) (probe-at t) probe.Post probe-Inv-loop probe-μ-loop
 probe-spent-requires t c κs = search needs
 
 probe-returns : (t : ℕ) → probe-lts.Need-returns (cs t) (probe-at t) probe.Post probe-Inv-loop probe-μ-loop
-probe-returns t c = tt
+probe-returns t c = search needs
 
 probe-tick-requires : (t : ℕ) → probe-lts.Need-tick-requires (cs t) (probe-at t) probe.Post probe-Inv-loop probe-μ-loop
 probe-tick-requires t c κs = search needs
 
 probe-glance-requires : (t : ℕ) → probe-lts.Need-glance-requires (cs t) (probe-at t) probe.Post probe-Inv-loop probe-μ-loop
-probe-glance-requires t c κs = (c .before .before .before .before .before .before .before .pre .1 .0, c .before .before .before .before .before .before .before .pre .1 .1, c .before .before .before .before .before .before .before .pre .1 .2)
+probe-glance-requires t c κs = search needs
 
 probe-enum-known-seen : (t : ℕ) → probe-lts.Need-enum-known-seen (cs t) (probe-at t) probe.Post probe-Inv-loop probe-μ-loop
 probe-enum-known-seen t c = search needs
@@ -65,45 +65,37 @@ probe-keep-requires : (t : ℕ) → probe-lts.Need-keep-requires (cs t) (probe-a
 probe-keep-requires t c κs = search needs
 
 probe-returns-3 : (t : ℕ) → probe-lts.Need-returns-3 (cs t) (probe-at t) probe.Post probe-Inv-loop probe-μ-loop
-probe-returns-3 t c = tt
+probe-returns-3 t c = search needs
 
 probe-returns-4 : (t : ℕ) → probe-lts.Need-returns-4 (cs t) (probe-at t) probe.Post probe-Inv-loop probe-μ-loop
-probe-returns-4 t c = tt
-
-probe-wide-requires : (t : ℕ) → probe-lts.Need-wide-requires (cs t) (probe-at t) probe.Post probe-Inv-loop probe-μ-loop
-probe-wide-requires t c κs = search needs
+probe-returns-4 t c = search needs
 
 probe-choices-requires : (t : ℕ) → probe-lts.Need-choices-requires (cs t) (probe-at t) probe.Post probe-Inv-loop probe-μ-loop
 probe-choices-requires t c κs =
-    let ok = rw (c .before .before .before .seen2 .given .1) at (c .before .before .before .before .before .before .glance .ensures) in
+    let ok = rw (c .before .before .seen2 .given .1) at (c .before .before .before .before .before .glance .ensures) in
     ok .low
 
 probe-empty-requires : (t : ℕ) → probe-lts.Need-empty-requires (cs t) (probe-at t) probe.Post probe-Inv-loop probe-μ-loop
 probe-empty-requires t c κs = search needs
 
 probe-loop-holds : (t : ℕ) → probe-lts.Need-loop-holds (cs t) (probe-at t) probe.Post probe-Inv-loop probe-μ-loop
-probe-loop-holds t c = (tried-none, omega arith)
+probe-loop-holds t c =
+    let ok = rw (c .before .before .before .before .seen2 .given .1) at (c .before .before .before .before .before .before .before .glance .ensures) in
+    trying-none (c .before .before .before .before .before .before .before .before .before .before .before .before .before .before .before .pre .1 .0) (ok .low) (c .before .before .before .before .before .before .before .before .before .before .before .before .before .before .before .pre .1 .3) (c .before .choices .ensures)
 
-probe-mul-q : (t : ℕ) → probe-lts.Need-mul-q (cs t) (probe-at t) probe.Post probe-Inv-loop probe-μ-loop
-probe-mul-q t c =
-    let ok = rw (c .before .before .before .before .before .before .before .seen2 .given .1) at (c .before .before .before .before .before .before .before .before .before .before .glance .ensures) in
-    omega (arith, ok .low, c .before .before .before .before .wide .ensures .0)
-
-probe-array-write-q : (t : ℕ) → probe-lts.Need-array-write-q (cs t) (probe-at t) probe.Post probe-Inv-loop probe-μ-loop
-probe-array-write-q t c =
-    let ok = rw (c .before .before .before .before .before .before .before .seen2 .given .1) at (c .before .before .before .before .before .before .before .before .before .before .glance .ensures) in
-    omega (arith, ok .low, c .before .before .before .before .wide .ensures .0)
+probe-choose-requires : (t : ℕ) → probe-lts.Need-choose-requires (cs t) (probe-at t) probe.Post probe-Inv-loop probe-μ-loop
+probe-choose-requires t c κs = search needs
 
 probe-sub-probe : (t : ℕ) → probe-lts.Need-sub-probe (cs t) (probe-at t) probe.Post probe-Inv-loop probe-μ-loop
 probe-sub-probe t c = search needs
 
 probe-probe-requires : (t : ℕ) → probe-lts.Need-probe-requires (cs t) (probe-at t) probe.Post probe-Inv-loop probe-μ-loop
 probe-probe-requires t c κs =
-    let ok = rw (c .before .before .before .before .before .before .before .before .seen2 .given .1) at (c .before .before .before .before .before .before .before .before .before .before .before .glance .ensures) in
-    let len = c .before .before .before .before .before .before .before .before .before .before .before .before .before .before .before .before .before .before .before .pre .1 .3 in
-    let i = c .before .before .before .before .before .wide in
-    let k = c .before .before .loop .c in
-    (omega (arith, c .before .before .before .before .before .before .before .before .before .before .before .before .before .before .before .before .before .before .before .pre .0, c .before .before .before .before .before .before .if2 .left), (c .before .before .before .before .before .before .before .before .before .before .before .before .before .before .before .before .before .before .before .pre .1 .0, partial-settle (i .result) k (omega (arith, ok .low, len, i .ensures .0)) (rw (i .ensures .0) (rw (c .before .before .before .before .choices .ensures) at (c .before .loop-test .taken))) (c .before .before .before .before .before .before .before .before .before .before .before .before .before .before .before .before .before .before .before .pre .1 .1), cursor-settle (i .result) k (rw (i .ensures .0) (ok .unsettled)) (ok .on), long-settle (c .before .before .before .before .before .before .before .before .before .before .before .before .before .before .before .before .before .before .before .args .t4) (i .result) k len))
+    let ok = rw (c .before .before .before .before .before .before .before .before .before .seen2 .given .1) at (c .before .before .before .before .before .before .before .before .before .before .before .before .glance .ensures) in
+    let pre = c .before .before .before .before .before .before .before .before .before .before .before .before .before .before .before .before .before .before .before .before .pre in
+    let tr = c .before .before .before .before .loop .inv in
+    let is = c .before .choose .ensures in
+    (omega (arith, pre .0, c .before .before .before .before .before .before .before .if2 .left), (pre .1 .0, trying-partial tr (c .before .before .before .loop-test .taken) is (pre .1 .1), rw is (cursor-settle _ (c .before .before .before .before .loop .c) (ok .unsettled) (ok .on)), trying-long tr is))
 
 probe-enum-known-used : (t : ℕ) → probe-lts.Need-enum-known-used (cs t) (probe-at t) probe.Post probe-Inv-loop probe-μ-loop
 probe-enum-known-used t c = search needs
@@ -112,41 +104,31 @@ probe-enum-told : (t : ℕ) → probe-lts.Need-enum-told (cs t) (probe-at t) pro
 probe-enum-told t c = search needs
 
 probe-returns-5 : (t : ℕ) → probe-lts.Need-returns-5 (cs t) (probe-at t) probe.Post probe-Inv-loop probe-μ-loop
-probe-returns-5 t c = tt
+probe-returns-5 t c = search needs
 
 probe-has-requires : (t : ℕ) → probe-lts.Need-has-requires (cs t) (probe-at t) probe.Post probe-Inv-loop probe-μ-loop
-probe-has-requires t c κs =
-    let ok = rw (c .before .before .before .before .before .before .before .before .before .before .before .before .seen2 .given .1) at (c .before .before .before .before .before .before .before .before .before .before .before .before .before .before .before .glance .ensures) in
-    ok .low
+probe-has-requires t c κs = search needs
 
 probe-returns-6 : (t : ℕ) → probe-lts.Need-returns-6 (cs t) (probe-at t) probe.Post probe-Inv-loop probe-μ-loop
-probe-returns-6 t c = skips (c .before .before .before .before .before .before .before .before .before .before .before .wide .result) (c .before .before .before .before .before .before .before .before .loop .c) (rw (c .before .before .before .before .before .before .before .before .before .before .before .wide .ensures .0) (c .before .has .ensures .1 (not-true _ (c .if3 .taken)))) (rw (c .before .before .before .used .given .1) at (c .before .before .before .before .before .probe .ensures))
+probe-returns-6 t c = trying-skips (c .before .before .before .before .before .before .before .before .before .before .loop .inv) (c .before .before .before .before .before .before .before .choose .ensures) (c .before .has .ensures .1 (not-true _ (c .if3 .taken))) (rw (c .before .before .before .used .given .1) at (c .before .before .before .before .before .probe .ensures))
 
 probe-join-requires : (t : ℕ) → probe-lts.Need-join-requires (cs t) (probe-at t) probe.Post probe-Inv-loop probe-μ-loop
 probe-join-requires t c κs = search needs
 
 probe-add-c : (t : ℕ) → probe-lts.Need-add-c (cs t) (probe-at t) probe.Post probe-Inv-loop probe-μ-loop
-probe-add-c t c =
-    let ok = rw (c .before .before .before .before .before .before .before .before .before .before .before .before .before .before .before .seen2 .given .1) at (c .before .before .before .before .before .before .before .before .before .before .before .before .before .before .before .before .before .before .glance .ensures) in
-    omega (arith, c .before .before .before .before .before .before .before .before .loop-test .taken, c .before .before .before .before .before .before .before .before .before .before .before .choices .ensures, c .before .before .before .before .before .before .before .before .before .before .before .before .before .before .before .before .before .before .before .before .before .before .before .before .before .before .pre .1 .0 .choices (c .before .before .before .before .before .before .before .before .before .before .before .before .before .before .before .seen2 .given .0 .0) (ok .low))
+probe-add-c t c = search needs
 
 probe-loop-less : (t : ℕ) → probe-lts.Need-loop-less (cs t) (probe-at t) probe.Post probe-Inv-loop probe-μ-loop
 probe-loop-less t c = search needs
 
 probe-loop-again : (t : ℕ) → probe-lts.Need-loop-again (cs t) (probe-at t) probe.Post probe-Inv-loop probe-μ-loop
-probe-loop-again t c =
-    let ok = rw (c .before .before .before .before .before .before .before .before .before .before .before .before .before .before .before .seen2 .given .1) at (c .before .before .before .before .before .before .before .before .before .before .before .before .before .before .before .before .before .before .glance .ensures) in
-    (tried-more (omega (arith, ok .low, c .before .before .before .before .before .before .before .before .before .before .before .before .before .before .before .before .before .before .before .before .before .before .before .before .before .before .pre .1 .3, c .before .before .before .before .before .before .before .before .before .before .before .before .wide .ensures .0)) (c .before .before .before .before .before .before .before .before .before .loop .inv .0) (rw (c .before .before .before .before .used .given .1) at (c .before .before .before .before .before .before .probe .ensures)) (c .join .ensures .left) (c .join .ensures .right), omega arith)
+probe-loop-again t c = trying-more (c .before .before .before .before .before .before .before .before .before .before .before .loop .inv) (c .before .before .before .before .before .before .before .before .before .before .loop-test .taken) (c .before .before .before .before .before .before .before .before .choose .ensures) (rw (c .before .before .before .before .used .given .1) at (c .before .before .before .before .before .before .probe .ensures)) (c .join .ensures)
 
 probe-without-requires : (t : ℕ) → probe-lts.Need-without-requires (cs t) (probe-at t) probe.Post probe-Inv-loop probe-μ-loop
-probe-without-requires t c κs =
-    let ok = rw (c .before .before .before .before .before .before .before .seen2 .given .1) at (c .before .before .before .before .before .before .before .before .before .before .glance .ensures) in
-    ok .low
+probe-without-requires t c κs = search needs
 
 probe-returns-7 : (t : ℕ) → probe-lts.Need-returns-7 (cs t) (probe-at t) probe.Post probe-Inv-loop probe-μ-loop
-probe-returns-7 t c =
-    let ok = rw (c .before .before .before .before .before .before .before .before .seen2 .given .1) at (c .before .before .before .before .before .before .before .before .before .before .before .glance .ensures) in
-    tried-all (omega (arith, ok .low, c .before .before .before .before .before .wide .ensures .0)) (c .before .before .loop .inv .0) (rw (c .before .before .before .before .before .wide .ensures .0) (rw (c .before .before .before .before .choices .ensures) at (c .before .loop-test .left))) (rw (c .before .before .before .before .before .wide .ensures .0) (c .without .ensures .others))
+probe-returns-7 t c = trying-all (c .before .before .loop .inv) (c .before .loop-test .left) (c .without .ensures)
 
 pub +probe-spec : {M : Type 1} → statement M
 +probe-spec = close μ-probe λ t. probe-lts.spec (cs t)
@@ -164,12 +146,10 @@ pub +probe-spec : {M : Type 1} → statement M
     (probe-keep-requires t)
     (probe-returns-3 t)
     (probe-returns-4 t)
-    (probe-wide-requires t)
     (probe-choices-requires t)
     (probe-empty-requires t)
     (probe-loop-holds t)
-    (probe-mul-q t)
-    (probe-array-write-q t)
+    (probe-choose-requires t)
     (probe-sub-probe t)
     (probe-probe-requires t)
     (probe-enum-known-used t)

@@ -1,22 +1,17 @@
 use borrow.Author.Needs.{needs}
-use Prim.Native.Nat.{ℕ, _+_, _-_, _*_, _<_, _≤_}
+use Prim.Native.Nat.{_-_, _≤_}
 use native.Mathlib.Omega.{arith}
-use mathlib.Core.Path.{_≡_, refl, sym, ap, _∙_}
-use Rattle.engine.specs.Store.{entries}
+use mathlib.Core.Path.{refl}
+use lib.ListN.{length}
 use Rattle.engine.proofs.Stores.{matched}
 use Rattle.engine.proofs.store.hit.Statement.{statement}
 use Rattle.engine.proofs.store.hit.Tie as tie
-use Rattle.engine.proofs.store.hit.Reads as reads
-use Rattle.engine.proofs.store.hit.Lts as lts
-use Rattle.engine.proofs.notes.filled.Reads as filled-reads
-use Rattle.engine.proofs.store.matches.Reads as matches-reads
-use Rattle.engine.proofs.store.settled_set.Reads as settled-set-reads
 
 abbrev Inv-loop : tie.InvT-loop
-Inv-loop tables bytes sets values notes p settled n e₀ e = e ≤ entries
+Inv-loop tables bytes sets values notes p settled n e₀ e = e ≤ length sets
 
 abbrev μ-loop : tie.MeasureT-loop
-μ-loop tables bytes sets values notes p settled n e₀ e = entries - e
+μ-loop tables bytes sets values notes p settled n e₀ e = length sets - e
 
 settled-set-requires : tie.Need-settled-set-requires Inv-loop μ-loop
 settled-set-requires c κs = search needs
@@ -30,14 +25,14 @@ loop-holds c = search needs
 mul-set : tie.Need-mul-set Inv-loop μ-loop
 mul-set c = search needs
 
-element-copy-out-set : tie.Need-element-copy-out-set Inv-loop μ-loop
-element-copy-out-set c = search needs
+shared-slice-read-set : tie.Need-shared-slice-read-set Inv-loop μ-loop
+shared-slice-read-set c = search needs
 
 matches-requires : tie.Need-matches-requires Inv-loop μ-loop
 matches-requires c κs = search needs
 
 returns : tie.Need-returns Inv-loop μ-loop
-returns c = matched (c .before .before .before .before .before .loop .e) (c .before .before .before .before .before .before .before .before .before .pre) (omega arith) refl (c .before .matches .ensures (c .if2 .taken))
+returns c = matched (c .before .before .before .before .before .loop .e) (c .before .before .before .before .before .before .before .before .before .before .before .pre) (omega arith) refl (c .before .matches .ensures (c .if2 .taken))
 
 add-e : tie.Need-add-e Inv-loop μ-loop
 add-e c = search needs
@@ -61,7 +56,7 @@ hit-spec =
     filled-requires
     loop-holds
     mul-set
-    element-copy-out-set
+    shared-slice-read-set
     matches-requires
     returns
     add-e

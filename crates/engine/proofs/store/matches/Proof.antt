@@ -1,16 +1,11 @@
 use borrow.Author.Needs.{needs}
-use Prim.Native.Nat.{ℕ, _+_, _-_, _*_, _<_, _≤_}
+use borrow.Author.Tests.{not-false}
+use mathlib.Core.Path.{_≡_}
+use Prim.Native.Nat.{ℕ, _-_}
 use native.Mathlib.Omega.{arith}
-use borrow.Author.Tests.{not-true, not-false, eqb-true}
-use mathlib.Core.Path.{_≡_, refl, sym, ap, _∙_}
 use Rattle.engine.proofs.Stores.{MatchTo, match-none, match-more, match-all}
 use Rattle.engine.proofs.store.matches.Statement.{statement}
 use Rattle.engine.proofs.store.matches.Tie as tie
-use Rattle.engine.proofs.store.matches.Reads as reads
-use Rattle.engine.proofs.store.matches.Lts as lts
-use Rattle.engine.proofs.store.agrees.Reads as agrees-reads
-use Rattle.engine.proofs.store.value_at.Reads as value-at-reads
-use Rattle.engine.proofs.tables.wide.Reads as wide-reads
 
 abbrev Inv-loop : tie.InvT-loop
 Inv-loop p values set e j₀ j = MatchTo p values set e j
@@ -36,8 +31,8 @@ value-at-requires c κs = search needs
 mul-agrees-2 : tie.Need-mul-agrees-2 Inv-loop μ-loop
 mul-agrees-2 c = search needs
 
-element-copy-out-agrees-2 : tie.Need-element-copy-out-agrees-2 Inv-loop μ-loop
-element-copy-out-agrees-2 c = search needs
+shared-slice-read-agrees : tie.Need-shared-slice-read-agrees Inv-loop μ-loop
+shared-slice-read-agrees c = search needs
 
 agrees-requires : tie.Need-agrees-requires Inv-loop μ-loop
 agrees-requires c κs = search needs
@@ -52,7 +47,7 @@ loop-less : tie.Need-loop-less Inv-loop μ-loop
 loop-less c = search needs
 
 loop-again : tie.Need-loop-again Inv-loop μ-loop
-loop-again c = match-more (c .before .before .before .before .before .before .before .loop .inv) (c .before .before .before .before .before .before .loop-test .taken) (rw (c .before .before .before .before .before .wide .ensures .0, c .before .before .before .value-at .ensures .0) at (c .before .agrees .ensures (not-false _ (c .if1 .left))))
+loop-again c = match-more (c .before .before .before .before .before .before .before .loop .inv) (c .before .before .before .before .before .before .loop-test .taken) (rw (c .before .before .before .before .before .wide .ensures .0, c .before .before .before .value-at .ensures) at (c .before .agrees .ensures (not-false _ (c .if1 .left))))
 
 returns-2 : tie.Need-returns-2 Inv-loop μ-loop
 returns-2 c = λ x. match-all (c .before .loop .inv) (c .loop-test .left)
@@ -69,7 +64,7 @@ matches-spec =
     element-copy-out-agrees
     value-at-requires
     mul-agrees-2
-    element-copy-out-agrees-2
+    shared-slice-read-agrees
     agrees-requires
     returns
     add-j
