@@ -2,12 +2,10 @@
 use Prim.Native.Nat.{ℕ, suc, _+_, _-_, _*_, _<_, _≤_}
 use native.Mathlib.Omega.{arith}
 use mathlib.Core.Path.{_≡_, refl, sym, _∙_, ap, subst}
-use mathlib.Core.Bool.{Bool, true, false}
-use mathlib.Core.Option.{Option, none, some}
 use mathlib.Core.List.{List, [], _∷_, _++_, append-assoc}
 use borrow.Author.Tests.{lt-ltb, le-ltb}
-use lib.ListN.{length, getD, take, drop, set, replicate, length-append, length-drop}
-use lib.Seq.{take-all, take-suc, drop-cons, append-snoc, set-at, drop-at, take-at, length-take-le}
+use lib.ListN.{length, take, drop, replicate, length-append, length-drop}
+use lib.Seq.{take-all, drop-at, take-at}
 use Rattle.sheet.specs.declared.Row.{Row}
 use Rattle.sheet.specs.declared.Summary.{Summary}
 use Rattle.sheet.specs.declared.Tables.{Tables}
@@ -21,7 +19,7 @@ use Rattle.sheet.specs.WellFormed.{WellFormed}
 use Rattle.sheet.specs.laws.Accepted.{well-formed}
 use Rattle.sheet.specs.laws.Encoded.{encoded}
 use Rattle.model.specs.Mutant.{slots}
-use Rattle.model.specs.Suite.{compareOf, Judgement, complete, survivor, judgeOf}
+use Rattle.model.specs.Suite.{Judgement, complete, survivor, judgeOf}
 use Rattle.model.specs.Operations.{judging}
 use Rattle.model.specs.Verdict.{Complete, JudgedMeans}
 use Rattle.model.specs.laws.OperationLaw.{mutant-length}
@@ -31,60 +29,13 @@ use Rattle.engine.specs.Packing.{Packed}
 use Rattle.mutation.specs.declared.sites.Sites.{Sites}
 use Rattle.mutation.specs.declared.verdict.Judged.{Judged}
 use Rattle.mutation.specs.declared.verdict.Judged.the-variants as judged
-use Rattle.mutation.specs.declared.Compared.{Compared}
-use Rattle.mutation.specs.declared.Compared.the-variants as compared
-use Rattle.mutation.specs.Answers.{overlay, comparedOf, found}
 use Rattle.mutation.specs.Mutants.{Placed}
 use Rattle.mutation.specs.Sites.{openChoices, Numbered}
-use Rattle.mutation.specs.Search.{Prefix, byFound, Searching}
-use Rattle.mutation.specs.Judging.{judgingOf, Judges, Measured, ReadFrom, shownOf, SaysOf, ToldJudged}
+use Rattle.mutation.specs.Search.{NoneFrom, Kept, Shown, Searching}
+use Rattle.mutation.specs.Judging.{judgingOf, Judges, ReadFrom, SaysOf, ToldJudged}
 use Rattle.mutation.proofs.FitsLaw.{read-states, read-inputs, read-few, read-sited, read-ruled}
-use Rattle.mutation.proofs.BlockLaw.{getD-default, slot-few}
 use Rattle.mutation.proofs.PackedLaw.{block-for}
-use Rattle.mutation.proofs.SearchLaw.{missed, prefix-start, none-judged, first-judged}
-
--- ---- writing the choices
-
--- one choice more
-pub choice-more : (p old board : List ℕ) (j v : ℕ) → j < length p → j < length old → board ≡ take j p ++ drop j old → v ≡ getD p j 0 →
-    set board j v ≡ take (j + 1) p ++ drop (j + 1) old
-choice-more p old board j v lp lo e ev =
-    let f : j + 1 ≡ suc j = omega arith in
-    ap (λ (l : List ℕ). set l j v) (e ∙ ap (λ (l : List ℕ). take j p ++ l) (drop-cons old j 0 lo))
-    ∙ set-at (take j p) (getD old j 0) (drop (suc j) old) v j (length-take-le j p (omega arith))
-    ∙ ap (λ (w : ℕ). take j p ++ w ∷ drop (suc j) old) ev
-    ∙ sym (append-snoc (take j p) (getD p j 0) (drop (suc j) old))
-    ∙ ap (λ (l : List ℕ). l ++ drop (suc j) old) (sym (take-suc p j 0 lp))
-    ∙ ap (λ (i : ℕ). take i p ++ drop i old) (sym f)
-
-pub choice-room : (p old board : List ℕ) (j : ℕ) → j ≤ length p → j ≤ length old → board ≡ take j p ++ drop j old → length board ≡ length old
-choice-room p old board j lp lo e =
-    let h = ap length e ∙ length-append (take j p) (drop j old) in
-    omega (arith, length-take-le j p lp, length-drop j old)
-
--- all of them
-pub choices-written : (p old board : List ℕ) (n j : ℕ) → n ≤ length p → j ≤ n → n ≤ j → board ≡ take j p ++ drop j old → board ≡ overlay (take n p) old
-choices-written p old board n j lp l h e =
-    let f : j ≡ n = omega arith in
-    e ∙ ap (λ (i : ℕ). take i p ++ drop i old) f ∙ ap (λ (i : ℕ). take n p ++ drop i old) (sym (length-take-le n p lp))
-
--- ---- the sequence shown
-
--- by what compare says of the tables
-pub shown : (o q : Option (List ℕ)) (d : Compared) → d ≡ comparedOf o → o ≡ q →
-    ((k : ℕ) → d ≡ compared.Differs k → judged.Survivor k ≡ shownOf q) × (d ≡ compared.Conforms → judged.Complete ≡ shownOf q)
-    × ((a k : ℕ) → d ≡ compared.Refused a k → judged.Complete ≡ shownOf q)
-shown o q d e f = subst (λ (t : Option (List ℕ)). ((k : ℕ) → d ≡ compared.Differs k → judged.Survivor k ≡ shownOf t) × (d ≡ compared.Conforms → judged.Complete ≡ shownOf t) × ((a k : ℕ) → d ≡ compared.Refused a k → judged.Complete ≡ shownOf t)) f (go o e)
-  where
-    go : (t : Option (List ℕ)) → d ≡ comparedOf t →
-        ((k : ℕ) → d ≡ compared.Differs k → judged.Survivor k ≡ shownOf t) × (d ≡ compared.Conforms → judged.Complete ≡ shownOf t)
-        × ((a k : ℕ) → d ≡ compared.Refused a k → judged.Complete ≡ shownOf t)
-    go none h = (λ k x. absurd (let z : _≡_ {A = ℕ} 0 1 = cc in omega arith), λ x. refl, λ a k x. refl)
-    go (some xs) h =
-        (λ k x. let z : k ≡ length xs = cc in ap (λ (i : ℕ). judged.Survivor i) z, λ x. absurd (let z : _≡_ {A = ℕ} 0 1 = cc in omega arith), λ a k x. absurd (let z : _≡_ {A = ℕ} 0 1 = cc in omega arith))
-
-pub shown-bytes : (o q : Option (List ℕ)) (new old : List ℕ) → new ≡ overlay (found o) old → o ≡ q → new ≡ overlay (found q) old
-shown-bytes o q new old e f = e ∙ ap (λ (t : Option (List ℕ)). overlay (found t) old) f
+use Rattle.mutation.proofs.SearchLaw.{prefix-start, none-judged, first-judged}
 
 -- ---- where the tests start
 
@@ -192,51 +143,16 @@ module _ {sh : Sheet} {size : Summary} {tables : Tables} {s : List ℕ} (rd : Re
 
 -- ---- what the search found
 
-module _ (sh : Sheet) (board sequence p a : List ℕ) where
+module _ {sh : Sheet} {p board board′ sequence sequence′ : List ℕ} where
   -- no survivor
-  pub judges-complete : (f : Bool) → f ≡ false → byFound sh p 0 f a → Judges (accepted (judgeOf sh)) judged.Complete board board sequence sequence
-  judges-complete f ef by =
-      let h = none-judged sh p (missed sh p 0 a f ef by) in
-      record { answer = rw h refl; board = rw h refl; sequence = rw h refl }
+  pub judges-complete : NoneFrom sh p 0 × Kept board board′ sequence sequence′ → Judges (accepted (judgeOf sh)) judged.Complete board board′ sequence sequence′
+  judges-complete f = let h = none-judged sh p (f .0) in record { answer = rw h refl; board = rw h (f .1 .board); sequence = rw h (f .1 .sequence) }
 
   -- the first survivor, with what compare shows
-  pub judges-survivor : (count : ℕ) → count ≡ length (slots sh) → (f : Bool) → f ≡ true → byFound sh p 0 f a → (r : Judged) (board′ sequence′ : List ℕ) →
-      r ≡ shownOf (compareOf sh (take count a)) → board′ ≡ overlay (take count a) board → sequence′ ≡ overlay (found (compareOf sh (take count a))) sequence →
-      Judges (accepted (judgeOf sh)) r board board′ sequence sequence′
-  judges-survivor count e true ef by r board′ sequence′ er eb es =
-      let fi = by .0 in
-      let h = first-judged sh p (take (length (slots sh)) a) (fi .inputs) fi (fi .shows) in
-      let shows : compareOf sh (take count a) ≡ some (fi .inputs) = rw e (fi .shows) in
-      record {
-        answer = rw h (er ∙ rw shows refl);
-        board = rw h (eb ∙ rw e refl);
-        sequence = rw h (es ∙ rw shows refl);
-      }
-  judges-survivor count e false ef by r board′ sequence′ er eb es = absurd (let z : _≡_ {A = ℕ} 0 1 = cc in omega arith)
-
--- ---- a survivor that was found
-
-module _ {sh : Sheet} {m bytes : List ℕ} {n : ℕ} (p a : List ℕ) (f : Bool) (w : Searching sh m bytes p 0 n) (ef : f ≡ true) (by : byFound sh p 0 f a) where
-  all-settled : Prefix sh a n
-  all-settled = rw (w .count) (go f ef by)
-    where
-      go : (g : Bool) → g ≡ true → byFound sh p 0 g a → Prefix sh a (length (slots sh))
-      go true e b = b .1
-      go false e b = absurd (let z : _≡_ {A = ℕ} 0 1 = cc in omega arith)
-
-  -- what it is shown with
-  pub searching-found : Searching sh m (suiteBytes (sh .tests)) a n n
-  searching-found = record { formed = w .formed; block = w .block; suite = refl; prefix = all-settled; count = w .count }
-
-  -- its choices are bytes
-  pub found-bytes : (n ≤ 32) × (length a ≡ 32) × ((j : ℕ) → j < n → getD a j 0 < 256)
-  found-bytes = (
-    omega (arith, all-settled .few, w .count),
-    all-settled .long,
-    λ j l.
-        let h : getD (slots sh) j 0 ≤ 256 = rw (getD-default (slots sh) j 0 1 (omega (arith, w .count))) (slot-few sh (w .formed) j) in
-        omega (arith, all-settled .low j l),
-  )
+  pub judges-survivor : {d : ℕ} → Shown sh p 0 d board board′ sequence sequence′ → Judges (accepted (judgeOf sh)) (judged.Survivor d) board board′ sequence sequence′
+  judges-survivor s =
+      let h = first-judged sh p (s .survivor) (s .inputs) (s .first) in
+      record { answer = rw h (ap judged.Survivor (s .long)); board = rw h (s .board); sequence = rw h (s .sequence) }
 
 -- ---- the sheet as it was loaded
 
@@ -314,8 +230,3 @@ module _ (s board sequence : List ℕ) where
           let h = le-ltb (length board) (length (slots sh′)) lb in
           let g = le-ltb (length sequence) (sh′ .size .states * sh′ .size .states) ls in
           says sh′ (well-formed s sh′ e′) (judgeOf sh′) (judged-told s sh′ e′) (complete-told s sh′ e′) refl r board′ sequence′ (rw (h, g) at js′)
-
--- what is shown of a survivor is no refusal
-pub measured-shown : (o : Option (List ℕ)) (r : Judged) (old new : ℕ) → r ≡ shownOf o → Measured r old new
-measured-shown none r old new e = rw e tt
-measured-shown (some xs) r old new e = rw e tt

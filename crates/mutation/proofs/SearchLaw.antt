@@ -20,8 +20,9 @@ use Rattle.model.specs.laws.SuspectLaw.{slot-count}
 use Rattle.model.specs.laws.OperationLaw.{mutant-length, in-range-at, in-range}
 use Rattle.engine.specs.Machine.{choicesOf, suiteBytes, testsOf, Ranged, Partial, SuiteOk, Survivor, Wf}
 use Rattle.engine.specs.Refute.{NoneIf}
+use Rattle.mutation.specs.Answers.{overlay}
 use Rattle.mutation.specs.Block.{BlockFor}
-use Rattle.mutation.specs.Search.{isSurvivor, Begins, Prefix, NoneFrom, FirstFrom, Tried, byFound, Searching}
+use Rattle.mutation.specs.Search.{Begins, Prefix, NoneFrom, FirstFrom, Tried, Kept, Shown, Searching, Room}
 use Rattle.mutation.proofs.BlockLaw.{well-formed, ranged, survivor-same, suite-ok, getD-default}
 
 -- ---- dictionary order, by places
@@ -50,69 +51,52 @@ earlier (x ∷ b) (y ∷ a) (inr (e, h)) = go (earlier b a h)
 before-other : (b a : List ℕ) → Before b a → b ≡ a → ⊥
 before-other b a h e = let w = earlier b a h in omega (arith, w .less, ap (λ (l : List ℕ). getD l (w .place) 0) e)
 
+-- ---- the buffers
+
+-- nothing was written
+pub kept : {board sequence : List ℕ} → Kept board board sequence sequence
+kept = record { board = refl; sequence = refl }
+
+pub kept-more : {board₀ board board′ sequence₀ sequence sequence′ : List ℕ} → Kept board₀ board sequence₀ sequence → Kept board board′ sequence sequence′ → Kept board₀ board′ sequence₀ sequence′
+kept-more a b = record { board = b .board ∙ a .board; sequence = b .sequence ∙ a .sequence }
+
+pub kept-room : {m board₀ board sequence₀ sequence : List ℕ} {n : ℕ} → Kept board₀ board sequence₀ sequence → Room m n board₀ sequence₀ → Room m n board sequence
+kept-room k r = record { choices = rw (k .board) (r .choices); inputs = rw (k .sequence) (r .inputs) }
+
 -- ---- a mutant at full length
 
-survivor-true : (sh : Sheet) (b : List ℕ) → isSurvivor sh b ≡ true → Passes sh b × ((xs : List ℕ) × (compareOf sh b ≡ some xs))
-unfolding isSurvivor
-survivor-true sh b e = go (firstFailedOf sh b) refl (compareOf sh b) refl e
-  where
-    go : (f : Option Place) → firstFailedOf sh b ≡ f → (o : Option (List ℕ)) → compareOf sh b ≡ o →
-        maybe f (maybe o false (λ xs. true)) (λ f. false) ≡ true → Passes sh b × ((xs : List ℕ) × (compareOf sh b ≡ some xs))
-    go none ef none eo h = let z : _≡_ {A = ℕ} 0 1 = cc in absurd (omega arith)
-    go none ef (some xs) eo h = (ef, (xs, eo))
-    go (some f) ef o eo h = let z : _≡_ {A = ℕ} 0 1 = cc in absurd (omega arith)
-
-survivor-false : (sh : Sheet) (b : List ℕ) → isSurvivor sh b ≡ false → Passes sh b → compareOf sh b ≡ none
-unfolding isSurvivor
-survivor-false sh b e p = go (compareOf sh b) refl (rw p at e)
-  where
-    go : (o : Option (List ℕ)) → compareOf sh b ≡ o → maybe o false (λ xs. true) ≡ false → o ≡ none
-    go none eo h = refl
-    go (some xs) eo h = let z : _≡_ {A = ℕ} 0 1 = cc in absurd (omega arith)
-
 module _ (sh : Sheet) where
-  -- a mutant with all choices of p is p
-  whole : (b p : List ℕ) → length (slots sh) ≤ length p → IsMutant sh b → Begins (length (slots sh)) b p → b ≡ take (length (slots sh)) p
-  whole b p l is be =
-      let n = length (slots sh) in
-      let long = mutant-length sh b is in
-      ext-getD 0 b (take n p) (long ∙ sym (length-take-le n p l))
-      (λ i h. let k : i < n = omega arith in be .at i k ∙ sym (getD-take n p i 0 k))
+  module _ (p : List ℕ) (n : ℕ) (en : n ≡ length (slots sh)) (re : Prefix sh p n) where
+    inside-p : n ≤ length p
+    inside-p = omega (arith, re .few, re .long)
 
-  -- the choices of p, all settled, are a mutant
-  pub full-mutant : (p : List ℕ) → Prefix sh p (length (slots sh)) → IsMutant sh (take (length (slots sh)) p)
-  unfolding IsMutant
-  full-mutant p re =
-      let n = length (slots sh) in
-      let long : length (take n p) ≡ n = length-take-le n p (omega (arith, re .few, re .long)) in
-      in-range (slots sh) (take n p) long (λ j h. let k : j < n = omega arith in rw (getD-take n p j 0 k) (re .low j k))
+    -- a mutant with all choices of p is p
+    whole : (b : List ℕ) → IsMutant sh b → Begins n b p → b ≡ take n p
+    whole b is be =
+        ext-getD 0 b (take n p) (mutant-length sh b is ∙ sym en ∙ sym (length-take-le n p inside-p))
+        (λ i h. let k : i < n = omega (arith, mutant-length sh b is) in be .at i k ∙ sym (getD-take n p i 0 k))
 
-  full : (p : List ℕ) (r : Bool) → Prefix sh p (length (slots sh)) → r ≡ isSurvivor sh (take (length (slots sh)) p) → byFound sh p (length (slots sh)) r p
-  full p true re e =
-      let n = length (slots sh) in
-      let a = take n p in
-      let h = survivor-true sh a (sym e) in
-      let l : n ≤ length p = omega (arith, re .few, re .long) in (
+    -- the choices of p, all settled, are a mutant
+    pub full-mutant : IsMutant sh (take n p)
+    unfolding IsMutant
+    full-mutant =
+        let long : length (take n p) ≡ n = length-take-le n p inside-p in
+        in-range (slots sh) (take n p) (long ∙ en) (λ j h. let k : j < n = omega (arith, long) in rw (getD-take n p j 0 k) (re .low j k))
+
+    -- it is no survivor: none begins so
+    pub full-none : (Passes sh (take n p) → compareOf sh (take n p) ≡ none) → NoneFrom sh p n
+    full-none h = record { at = λ b is be ps. let same = whole b is be in rw same (h (rw same at ps)) }
+
+    -- it is one: it is the first that begins so
+    pub full-first : (xs : List ℕ) → Passes sh (take n p) → compareOf sh (take n p) ≡ some xs → FirstFrom sh p n (take n p) xs
+    full-first xs ps e =
         record {
-          is = full-mutant p re;
+          is = full-mutant;
           begins = record { at = λ j k. getD-take n p j 0 k };
-          passes = h .0;
-          inputs = h .1 .0;
-          shows = h .1 .1;
-          first = λ b is be before. absurd (before-other b a before (whole b p l is be));
-        },
-        re,
-      )
-  full p false re e =
-      let n = length (slots sh) in
-      let l : n ≤ length p = omega (arith, re .few, re .long) in
-      record {
-        at = λ b is be ps. let same = whole b p l is be in rw same (survivor-false sh (take n p) (sym e) (rw same at ps));
-      }
-
-  -- every suspect is settled: the answer is whether this mutant survives
-  pub full-at : (p : List ℕ) (i : ℕ) (r : Bool) → i ≡ length (slots sh) → Prefix sh p i → r ≡ isSurvivor sh (take (length (slots sh)) p) → byFound sh p i r p
-  full-at p i r e re g = subst (λ (j : ℕ). byFound sh p j r p) (sym e) (full p r (subst (λ (j : ℕ). Prefix sh p j) e re) g)
+          passes = ps;
+          shows = e;
+          first = λ b is be before. absurd (before-other b (take n p) before (whole b is be));
+        }
 
   -- ---- one choice more
 
@@ -161,13 +145,12 @@ module _ (sh : Sheet) where
         }
 
     -- the first survivor with the choice c, where no smaller choice leads to one
-    found : (c : ℕ) (a : List ℕ) → Tried sh p i c → FirstFrom sh (set p i c) (i + 1) a → FirstFrom sh p i a
-    found c a tr fi =
+    found : (c : ℕ) (a xs : List ℕ) → Tried sh p i c → FirstFrom sh (set p i c) (i + 1) a xs → FirstFrom sh p i a xs
+    found c a xs tr fi =
         record {
           is = fi .is;
           begins = begins-unset a c (fi .begins);
           passes = fi .passes;
-          inputs = fi .inputs;
           shows = fi .shows;
           first = λ b is be before.
               by-cases (ℕ-discrete (getD b i 0) c) (λ e. fi .first b is (begins-set b c be e) before)
@@ -186,15 +169,18 @@ module _ (sh : Sheet) where
             (λ e. nl (subst (λ (v : ℕ). getD b i 0 < v) at-i (subst (λ (v : ℕ). getD b v 0 < getD a v 0) e (w .less))))
             (λ d. ne (w .same i (omega arith) ∙ at-i)))
 
-    -- the answer of the rest is the answer, if one was found
-    pub found-at : (c : ℕ) (a : List ℕ) (r : Bool) → Tried sh p i c → r ≡ true → byFound sh (set p i c) (i + 1) r a → byFound sh p i r a
-    found-at c a true tr e fi = (found c (take (length (slots sh)) a) tr (fi .0), fi .1)
-    found-at c a false tr e nf = let z : _≡_ {A = ℕ} 0 1 = cc in absurd (omega arith)
-
-  -- nothing was found
-  pub missed : (p : List ℕ) (i : ℕ) (a : List ℕ) (r : Bool) → r ≡ false → byFound sh p i r a → NoneFrom sh p i
-  missed p i a true e fi = let z : _≡_ {A = ℕ} 0 1 = cc in absurd (omega arith)
-  missed p i a false e nf = nf
+    -- it stands in the buffers, and it is the answer, if both were as at first
+    pub found-shown : {c d : ℕ} {board₀ board board′ sequence₀ sequence sequence′ : List ℕ} → Tried sh p i c → Kept board₀ board sequence₀ sequence →
+        Shown sh (set p i c) (i + 1) d board board′ sequence sequence′ → Shown sh p i d board₀ board′ sequence₀ sequence′
+    found-shown {c} {d} {board₀} {board} {board′} {sequence₀} {sequence} {sequence′} tr k s =
+        record {
+          survivor = s .survivor;
+          inputs = s .inputs;
+          first = found c (s .survivor) (s .inputs) tr (s .first);
+          long = s .long;
+          board = s .board ∙ ap (overlay (s .survivor)) (k .board);
+          sequence = s .sequence ∙ ap (overlay (s .inputs)) (k .sequence);
+        }
 
   -- ---- the whole search
 
@@ -214,9 +200,9 @@ module _ (sh : Sheet) where
   none-judged p nf = judge-none sh (λ b is. nf .at b is (record { at = λ j h. absurd (omega arith) }))
 
   -- the first of all: the answer, with what compare shows
-  pub first-judged : (p a xs : List ℕ) → FirstFrom sh p 0 a → compareOf sh a ≡ some xs → judgeOf sh ≡ survivor a xs
-  first-judged p a xs fi e =
-      judge-first sh a xs (fi .is) (fi .passes) e (λ b is. fi .first b is (record { at = λ j h. absurd (omega arith) }))
+  pub first-judged : (p a xs : List ℕ) → FirstFrom sh p 0 a xs → judgeOf sh ≡ survivor a xs
+  first-judged p a xs fi =
+      judge-first sh a xs (fi .is) (fi .passes) (fi .shows) (λ b is. fi .first b is (record { at = λ j h. absurd (omega arith) }))
 
   -- ---- the engine's answer
 
@@ -267,9 +253,6 @@ module _ {sh : Sheet} {m bytes p : List ℕ} {i n : ℕ} (w : Searching sh m byt
   refuted r h e = none-from sh m (w .formed) (w .block) p i (w .prefix) bytes (w .suite) (h e)
 
   -- every suspect is settled
-  pub settled : (r : Bool) → i ≡ n → r ≡ isSurvivor sh (take n p) → byFound sh p i r p
-  settled r e g = full-at sh p i r (e ∙ w .count) (w .prefix) (g ∙ ap (λ (k : ℕ). isSurvivor sh (take k p)) (w .count))
-
   pub settled-prefix : i ≡ n → Searching sh m bytes p n n
   settled-prefix e = subst (λ (k : ℕ). Searching sh m bytes p k n) e w
 
@@ -300,11 +283,12 @@ module _ {sh : Sheet} {m bytes p : List ℕ} {i n : ℕ} (w : Searching sh m byt
     pub none-tried : Tried sh p i 0
     none-tried = tried-none sh p i (w .prefix) (next-low .1)
 
-    pub one-tried : (c : ℕ) (a : List ℕ) (r : Bool) → Tried sh p i c → r ≡ false → byFound sh (set p i c) (i + 1) r a → Tried sh p i (c + 1)
-    one-tried c a r tr e f = tried-more sh p i (w .prefix) (next-low .1) c tr (missed sh (set p i c) (i + 1) a r e f)
+    pub one-tried : (c : ℕ) → Tried sh p i c → NoneFrom sh (set p i c) (i + 1) → Tried sh p i (c + 1)
+    one-tried c tr nf = tried-more sh p i (w .prefix) (next-low .1) c tr nf
 
     pub all-tried : (c : ℕ) → Tried sh p i c → choicesOf m i ≤ c → NoneFrom sh p i
     all-tried c tr l = let h = next-low in tried-all sh p i (w .prefix) (h .1) c tr (rw (low-count (h .0) (h .1)) at l)
 
-    pub one-found : (c : ℕ) (a : List ℕ) (r : Bool) → Tried sh p i c → r ≡ true → byFound sh (set p i c) (i + 1) r a → byFound sh p i r a
-    one-found c a r tr e f = found-at sh p i (w .prefix) (next-low .1) c a r tr e f
+    pub one-found : {c d : ℕ} {board₀ board board′ sequence₀ sequence sequence′ : List ℕ} → Tried sh p i c → Kept board₀ board sequence₀ sequence →
+        Shown sh (set p i c) (i + 1) d board board′ sequence sequence′ → Shown sh p i d board₀ board′ sequence₀ sequence′
+    one-found tr k s = found-shown sh p i (w .prefix) (next-low .1) tr k s

@@ -1,7 +1,6 @@
--- Whether a mutant with all its choices is a survivor, by tables.
+-- A mutant with all its choices, by tables: whether it is a survivor, and what is shown of it.
 use Prim.Native.Nat.{ℕ, suc, _+_, _-_, _*_, _/_, _%_, _<_, _≤_}
 use native.Mathlib.Decide.{ℕ-discrete}
-use native.Mathlib.Nat.{mul-le-mul}
 use native.Mathlib.Omega.{arith}
 use mathlib.Core.Path.{_≡_, refl, sym, _∙_, ap, subst, fun-ext}
 use mathlib.Core.Logic.{by-cases}
@@ -12,16 +11,16 @@ use borrow.Author.Count.{below-more}
 use borrow.Author.Tests.{lt-ltb, le-ltb, ltb-true, eq-eqb, ne-eqb}
 use lib.Dec.{eqb, ltb}
 use lib.ListN.{length, getD, take, drop, set, length-append, length-drop}
-use lib.Seq.{drop-cons, getD-take, getD-set-same, getD-set-other}
+use lib.Seq.{take-suc, drop-cons, append-snoc, set-at, length-take-le, getD-take, getD-set-same, getD-set-other}
 use Rattle.sheet.specs.declared.Row.{Row}
 use Rattle.sheet.specs.Lists.{maybe, All}
 use Rattle.sheet.specs.Sheet.{Sheet, ruleAt}
 use Rattle.sheet.specs.Encode.{pressBytes, testBytes}
 use Rattle.sheet.specs.WellFormed.{WellFormed}
 use Rattle.model.specs.Machine.{Move, Pair, outputsFrom, specifiedFrom}
-use Rattle.model.specs.Mutant.{moveOf, rule, IsMutant, idle, step, initial, outputs, specified, against}
+use Rattle.model.specs.Mutant.{moveOf, rule, slots, IsMutant, idle, step, initial, outputs, specified, against}
 use Rattle.model.specs.Compare.{comparePair}
-use Rattle.model.specs.Suite.{Place, firstFailedOf, Passes, compareOf}
+use Rattle.model.specs.Suite.{Passes, compareOf}
 use Rattle.model.specs.Verdict.{RightOn}
 use Rattle.model.specs.laws.ListLaw.{index-all, all-at-index}
 use Rattle.model.specs.laws.Closed.{Closed, closed, rule-row, rule-in, step-in, some-state}
@@ -33,12 +32,38 @@ use Rattle.engine.specs.Answers.{StepIs}
 use Rattle.engine.specs.declared.tables.Step.{Step}
 use Rattle.mutation.specs.declared.Compared.{Compared}
 use Rattle.mutation.specs.declared.Compared.the-variants.{Conforms, Differs, Refused}
-use Rattle.mutation.specs.Answers.{comparedOf}
+use Rattle.mutation.specs.declared.survive.Searched.the-variants.{Nothing, First}
+use Rattle.mutation.specs.Answers.{overlay, comparedOf, found}
 use Rattle.mutation.specs.Tables.{ruleIn, moveIn, movesIn, tables, Valid}
-use Rattle.mutation.specs.Search.{isSurvivor, Searching}
+use Rattle.mutation.specs.Search.{Leaves, Searching}
 use Rattle.mutation.specs.Survive.{slot, walkOf, Chosen, Acts, Laid}
-use Rattle.mutation.proofs.BlockLaw.{rule-none, site-some, site-low, ranged, step-same, well-formed}
-use Rattle.mutation.proofs.SearchLaw.{full-mutant}
+use Rattle.mutation.proofs.BlockLaw.{getD-default, slot-few, rule-none, site-some, site-low, ranged, step-same, well-formed}
+use Rattle.mutation.proofs.SearchLaw.{full-mutant, full-none, full-first}
+
+-- ---- writing the choices
+
+-- one choice more
+pub choice-more : (p old board : List ℕ) (j v : ℕ) → j < length p → j < length old → board ≡ take j p ++ drop j old → v ≡ getD p j 0 →
+    set board j v ≡ take (j + 1) p ++ drop (j + 1) old
+choice-more p old board j v lp lo e ev =
+    let f : j + 1 ≡ suc j = omega arith in
+    ap (λ (l : List ℕ). set l j v) (e ∙ ap (λ (l : List ℕ). take j p ++ l) (drop-cons old j 0 lo))
+    ∙ set-at (take j p) (getD old j 0) (drop (suc j) old) v j (length-take-le j p (omega arith))
+    ∙ ap (λ (w : ℕ). take j p ++ w ∷ drop (suc j) old) ev
+    ∙ sym (append-snoc (take j p) (getD p j 0) (drop (suc j) old))
+    ∙ ap (λ (l : List ℕ). l ++ drop (suc j) old) (sym (take-suc p j 0 lp))
+    ∙ ap (λ (i : ℕ). take i p ++ drop i old) (sym f)
+
+pub choice-room : (p old board : List ℕ) (j : ℕ) → j ≤ length p → j ≤ length old → board ≡ take j p ++ drop j old → length board ≡ length old
+choice-room p old board j lp lo e =
+    let h = ap length e ∙ length-append (take j p) (drop j old) in
+    omega (arith, length-take-le j p lp, length-drop j old)
+
+-- all of them
+pub choices-written : (p old board : List ℕ) (n j : ℕ) → n ≤ length p → j ≤ n → n ≤ j → board ≡ take j p ++ drop j old → board ≡ overlay (take n p) old
+choices-written p old board n j lp l h e =
+    let f : j ≡ n = omega arith in
+    e ∙ ap (λ (i : ℕ). take i p ++ drop i old) f ∙ ap (λ (i : ℕ). take n p ++ drop i old) (sym (length-take-le n p lp))
 
 -- ---- the choice at a pair
 
@@ -252,7 +277,17 @@ module _ {sh : Sheet} {m bytes p : List ℕ} {n : ℕ} (w : Searching sh m bytes
 
   is : IsMutant sh b
   unfolding b
-  is = rw (w .count) (full-mutant sh p (rw (w .count) at (w .prefix)))
+  is = full-mutant sh p n (w .count) (w .prefix)
+
+  -- its choices are bytes
+  pub choice-bytes : (n ≤ 32) × (length p ≡ 32) × ((j : ℕ) → j < n → getD p j 0 < 256)
+  choice-bytes = (
+    omega (arith, w .prefix .few, w .count),
+    w .prefix .long,
+    λ j l.
+        let h : getD (slots sh) j 0 ≤ 256 = rw (getD-default (slots sh) j 0 1 (omega (arith, w .count))) (slot-few sh (w .formed) j) in
+        omega (arith, w .prefix .low j l),
+  )
 
   -- the rest of p is never asked
   chosen-same : (k : ℕ) → k < 256 → chosen m p k ≡ chosen m b k
@@ -367,21 +402,26 @@ module _ {sh : Sheet} {m bytes p : List ℕ} {n : ℕ} (w : Searching sh m bytes
         let em = fun-ext (λ s. fun-ext (λ x. move-here s x)) in
         λ i. record { states = sh .size .states; inputs = sh .size .inputs; start = 0; rule = er i; move = em i }
 
-    -- a wrong output: no survivor
-    pub fails : (r : Bool) → r ≡ walkOf so sn mo mn 0 0 bytes → r ≡ false → false ≡ isSurvivor sh (take n p)
-    unfolding isSurvivor b
-    fails r e f = go (firstFailedOf sh (take n p)) refl
-      where
-        go : (o : Option Place) → firstFailedOf sh (take n p) ≡ o → false ≡ maybe o (maybe (compareOf sh (take n p)) false (λ xs. true)) (λ t. false)
-        go none eo =
-            let v = passes-walk so sn mo mn sh (w .formed) (take n p) spec-at mach-at eo in
-            let u : walkOf so sn mo mn 0 0 (suiteBytes (sh .tests)) ≡ false = rw (← w .suite) (sym e ∙ f) in
-            let z : _≡_ {A = ℕ} 0 1 = cc in absurd (omega arith)
-        go (some t) eo = refl
+    -- a wrong output: it fails
+    fails : (r : Bool) → r ≡ walkOf so sn mo mn 0 0 bytes → r ≡ false → Passes sh (take n p) → ⊥
+    unfolding b
+    fails r e f ps =
+        let v = passes-walk so sn mo mn sh (w .formed) (take n p) spec-at mach-at ps in
+        let u : walkOf so sn mo mn 0 0 (suiteBytes (sh .tests)) ≡ false = rw (← w .suite) (sym e ∙ f) in
+        let z : _≡_ {A = ℕ} 0 1 = cc in omega arith
 
     passed : (r : Bool) → r ≡ walkOf so sn mo mn 0 0 bytes → r ≡ true → Passes sh (take n p)
     unfolding b
     passed r e f = walk-passes so sn mo mn sh (w .formed) (take n p) spec-at mach-at (rw (← w .suite) (sym e ∙ f))
+
+    -- the mutant fails, or it conforms: nothing is found, and nothing written
+    none-shown : {board sequence sequence′ : List ℕ} → (Passes sh (take n p) → compareOf sh (take n p) ≡ none) → sequence′ ≡ sequence →
+        Leaves sh p n Nothing board board sequence sequence′
+    none-shown h e =
+        (full-none sh p n (w .count) (w .prefix) h, record { board = refl; sequence = e })
+
+    pub fails-shown : {board sequence : List ℕ} (r : Bool) → r ≡ walkOf so sn mo mn 0 0 bytes → r ≡ false → Leaves sh p n Nothing board board sequence sequence
+    fails-shown r e f = none-shown (λ ps. absurd (fails r e f ps)) refl
 
     module _ (states inputs : ℕ) (es : states ≡ statesOf m) (ei : inputs ≡ inputsOf m) where
       sizes : (states ≡ sh .size .states) × (inputs ≡ sh .size .inputs)
@@ -405,25 +445,34 @@ module _ {sh : Sheet} {m bytes p : List ℕ} {n : ℕ} (w : Searching sh m bytes
       pub start-in : 0 < states
       start-in = rw (sizes .0) (some-state sh (w .formed))
 
-      pub square-fits : states * states ≤ 256
-      square-fits =
-          let few : states ≤ 16 = rw (sizes .0) (w .formed .size .states .few) in
-          let h : states * states ≤ 16 * 16 = mul-le-mul few few in
-          omega arith
-
       -- it compares the mutant with the specification
       pub compare-same : comparePair (tables states inputs 0 so sn mo mn) ≡ compareOf sh (take n p)
       unfolding compareOf b
       compare-same = rw (sizes .0, sizes .1, tables-same) refl
 
       -- all outputs right: a survivor where compare finds a difference
-      pub decided : (r : Bool) → r ≡ walkOf so sn mo mn 0 0 bytes → r ≡ true → (d : Compared) → d ≡ comparedOf (comparePair (tables states inputs 0 so sn mo mn)) →
-          (d ≡ Conforms → false ≡ isSurvivor sh (take n p)) × ((k : ℕ) → d ≡ Differs k → true ≡ isSurvivor sh (take n p)) × ((a k : ℕ) → d ≡ Refused a k → false ≡ isSurvivor sh (take n p))
-      unfolding isSurvivor
-      decided r e f d ed =
-          rw (passed r e f) (go (compareOf sh (take n p)) (ed ∙ ap comparedOf compare-same))
-        where
-          go : (o : Option (List ℕ)) → d ≡ comparedOf o →
-              (d ≡ Conforms → false ≡ maybe o false (λ xs. true)) × ((k : ℕ) → d ≡ Differs k → true ≡ maybe o false (λ xs. true)) × ((a k : ℕ) → d ≡ Refused a k → false ≡ maybe o false (λ xs. true))
-          go none h = (λ x. refl, λ k x. absurd (let z : _≡_ {A = ℕ} 0 1 = cc in omega arith), λ a k x. refl)
-          go (some xs) h = (λ x. absurd (let z : _≡_ {A = ℕ} 0 1 = cc in omega arith), λ k x. refl, λ a k x. absurd (let z : _≡_ {A = ℕ} 0 1 = cc in omega arith))
+      module _ (r : Bool) (er : r ≡ walkOf so sn mo mn 0 0 bytes) (passes : r ≡ true) {d : Compared} {board sequence sequence′ : List ℕ}
+          (ed : d ≡ comparedOf (comparePair (tables states inputs 0 so sn mo mn))) (es′ : sequence′ ≡ overlay (found (comparePair (tables states inputs 0 so sn mo mn))) sequence) where
+        differs-shown : (o : Option (List ℕ)) → compareOf sh (take n p) ≡ o → d ≡ comparedOf o → sequence′ ≡ overlay (found o) sequence →
+            (k : ℕ) → d ≡ Differs k → {board′ : List ℕ} → board′ ≡ overlay (take n p) board → Leaves sh p n (First k) board board′ sequence sequence′
+        differs-shown none eo h g k x eb = absurd (let z : _≡_ {A = ℕ} 0 1 = cc in omega arith)
+        differs-shown (some xs) eo h g k x {board′} eb =
+            record {
+              survivor = take n p;
+              inputs = xs;
+              first = full-first sh p n (w .count) (w .prefix) xs (passed r er passes) eo;
+              long = cc;
+              board = eb;
+              sequence = g;
+            }
+
+        conforms-shown : (o : Option (List ℕ)) → compareOf sh (take n p) ≡ o → d ≡ comparedOf o → sequence′ ≡ overlay (found o) sequence →
+            ((k : ℕ) → d ≡ Differs k → ⊥) → Leaves sh p n Nothing board board sequence sequence′
+        conforms-shown none eo h g x = none-shown (λ ps. eo) g
+        conforms-shown (some xs) eo h g x = absurd (x (length xs) h)
+
+        pub differs : (k : ℕ) → d ≡ Differs k → {board′ : List ℕ} → board′ ≡ overlay (take n p) board → Leaves sh p n (First k) board board′ sequence sequence′
+        differs k x eb = differs-shown (compareOf sh (take n p)) refl (ed ∙ ap comparedOf compare-same) (es′ ∙ ap (λ (o : Option (List ℕ)). overlay (found o) sequence) compare-same) k x eb
+
+        pub conforms : ((k : ℕ) → d ≡ Differs k → ⊥) → Leaves sh p n Nothing board board sequence sequence′
+        conforms x = conforms-shown (compareOf sh (take n p)) refl (ed ∙ ap comparedOf compare-same) (es′ ∙ ap (λ (o : Option (List ℕ)). overlay (found o) sequence) compare-same) x

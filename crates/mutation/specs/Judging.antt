@@ -1,7 +1,6 @@
 -- What judge answers and writes.
 use Prim.Native.Nat.{ℕ, _*_, _≤_}
 use mathlib.Core.Path.{_≡_}
-use mathlib.Core.Option.{Option, none, some}
 use mathlib.Core.List.{List, []}
 use lib.Dec.{ltb}
 use lib.ListN.{length, take}
@@ -68,11 +67,6 @@ Measured (judged.Refused number place) old new = new ≡ old
 pub record ReadFrom (sh : Sheet) (size : Summary) (tables : Tables) (s : List ℕ) : Type 0 where
   pub read : Read sh size tables
   pub bytes : s ≡ encode sh
-
--- what compare finds of a survivor
-abbrev pub shownOf : Option (List ℕ) → Judged
-shownOf none = judged.Complete
-shownOf (some xs) = judged.Survivor (length xs)
 
 -- demand 3, of the answer and the buffers: complete, with the lasting guarantee; or the first survivor stands at the board
 -- buffer's front, and its shortest distinguishing sequence at the sequence buffer's

@@ -1,4 +1,4 @@
-// Whether a mutant with all its choices is a survivor.
+// A mutant with all its choices: whether it is a survivor, and what it is shown by.
 use crate::Compared;
 use crate::distance::distinguish;
 use crate::moves::blank;
@@ -11,12 +11,19 @@ use engine::site;
 use engine::states;
 use engine::transition;
 ghost use mathlib.Core.Path.{_≡_};
-ghost use Prim.Native.Nat.{_+_, _*_, _/_, _%_, _<_};
-ghost use lib.ListN.{length, take};
+ghost use Prim.Native.Nat.{ℕ, _+_, _*_, _/_, _%_, _<_, _≤_};
+ghost use lib.ListN.{length, getD, take};
 ghost use Rattle.sheet.specs.Sheet.{Sheet};
 ghost use Rattle.engine.specs.Machine.{Wf, statesOf, chosen};
-ghost use Rattle.mutation.specs.Search.{isSurvivor, Searching};
+ghost use Rattle.mutation.specs.Answers.{overlay};
+ghost use Rattle.mutation.specs.Search.{Searching, Room, Leaves};
 ghost use Rattle.mutation.specs.Survive.{slot, walkOf, Chosen, Acts, Laid};
+
+// What a search finds: no survivor; or the first one, with the length of its distinguishing sequence.
+pub(crate) enum Searched {
+    Nothing,
+    First(usize),
+}
 
 // The choice of p at a pair, 0 where it is no suspect.
 fn choice_at(block: &[u8; 1603], p: &[u16; 32], k: usize) -> u16
@@ -104,10 +111,31 @@ fn passes(bytes: &[u8], so: &[u8; 256], sn: &[u8; 256], mo: &[u8; 256], mn: &[u8
     true
 }
 
-// Whether the mutant with the choices p passes the tests and is nonconforming.
-pub(crate) fn survives(block: &[u8; 1603], bytes: &[u8], p: &[u16; 32], n: usize) -> bool
+// Writes the first n choices at the buffer's front.
+fn write_choices(p: &[u16; 32], n: usize, board: &mut [u8])
+    requires { ⌜ (n ≤ 32) × (length (now p) ≡ 32) × (n ≤ length (now board)) × ((j : ℕ) → j < n → getD (now p) j 0 < 256) ⌝ }
+    ensures { λ r. ⌜ now (board .exit) ≡ overlay (take n (now (p .entry))) (now (board .entry)) ⌝ }
+{
+    let mut j: usize = 0;
+    while j < n {
+        board[j] = p[j] as u8;
+        j += 1;
+    }
+}
+
+// Where the mutant with the choices p passes the tests and is nonconforming: writes the choices and the shortest distinguishing
+// sequence at the buffers' fronts.
+pub(crate) fn show(
+    block: &[u8; 1603],
+    bytes: &[u8],
+    p: &[u16; 32],
+    n: usize,
+    board: &mut [u8],
+    sequence: &mut [u8],
+) -> Searched
     requires { ⌜ ((sh : Sheet) × Searching sh (now block) (now bytes) (now p) n n) ⌝ }
-    ensures { λ r. ⌜ ((sh : Sheet) → Searching sh (now (block .entry)) (now (bytes .entry)) (now (p .entry)) n n → r ≡ isSurvivor sh (take n (now (p .entry)))) ⌝ }
+    requires { ⌜ Room (now block) n (now board) (now sequence) ⌝ }
+    ensures { λ r. ⌜ ((sh : Sheet) → Searching sh (now (block .entry)) (now (bytes .entry)) (now (p .entry)) n n → Leaves sh (now (p .entry)) n r (now (board .entry)) (now (board .exit)) (now (sequence .entry)) (now (sequence .exit))) ⌝ }
 {
     let mut so = blank();
     let mut sn = blank();
@@ -115,14 +143,16 @@ pub(crate) fn survives(block: &[u8; 1603], bytes: &[u8], p: &[u16; 32], n: usize
     let mut mn = blank();
     lay(block, p, &mut so, &mut sn, &mut mo, &mut mn);
     if !passes(bytes, &so, &sn, &mo, &mn) {
-        return false;
+        return Searched::Nothing;
     }
     let states = wide(states(block));
     let inputs = wide(inputs(block));
-    let mut found = blank();
-    match distinguish(&so, &sn, &mo, &mn, states, inputs, 0, &mut found) {
-        Compared::Differs(_) => true,
-        Compared::Conforms => false,
-        Compared::Refused(_, _) => false,
+    match distinguish(&so, &sn, &mo, &mn, states, inputs, 0, sequence) {
+        Compared::Differs(length) => {
+            write_choices(p, n, board);
+            Searched::First(length)
+        }
+        Compared::Conforms => Searched::Nothing,
+        Compared::Refused(_, _) => Searched::Nothing,
     }
 }

@@ -1,20 +1,15 @@
 // 01's Judge.
-use crate::Compared;
 use crate::distance::bound;
-use crate::distance::distinguish;
-use crate::moves::blank;
 use crate::moves::wide;
 use crate::refusal_of;
-use crate::search::Found;
 use crate::search::search;
 use crate::sites::number;
-use crate::survive::lay;
+use crate::survive::Searched;
+use engine::Notes;
 use engine::fresh_notes;
 use engine::fresh_sets;
 use engine::fresh_values;
-use engine::inputs;
 use engine::pack;
-use engine::states;
 use sheet::Reading;
 use sheet::Summary;
 use sheet::Tables;
@@ -22,15 +17,14 @@ use sheet::load;
 ghost use mathlib.Core.Path.{_≡_};
 ghost use mathlib.Core.List.{List};
 ghost use Prim.Native.Nat.{ℕ, _+_, _*_, _≤_, _<_};
-ghost use lib.ListN.{length, getD, take, drop, replicate};
+ghost use lib.ListN.{length, drop, take, replicate};
 ghost use Rattle.sheet.specs.Sheet.{Sheet};
 ghost use Rattle.sheet.specs.Reading.{accepted};
-ghost use Rattle.model.specs.Suite.{compareOf, judgeOf};
+ghost use Rattle.model.specs.Suite.{judgeOf};
 ghost use Rattle.model.specs.Operations.{judging};
-ghost use Rattle.engine.specs.Machine.{statesOf, suiteBytes};
-ghost use Rattle.mutation.specs.Answers.{overlay, found};
-ghost use Rattle.mutation.specs.Search.{Searching, byFound};
-ghost use Rattle.mutation.specs.Judging.{judgedAnswer, boardWrites, sequenceWrites, judgingOf, Judges, Measured, ReadFrom, shownOf, ToldJudged};
+ghost use Rattle.mutation.specs.Answers.{overlay};
+ghost use Rattle.mutation.specs.Search.{Searching, Room, Leaves};
+ghost use Rattle.mutation.specs.Judging.{judgedAnswer, boardWrites, sequenceWrites, judgingOf, Judges, Measured, ReadFrom, ToldJudged};
 
 // What Judge answers: complete, or the length of the first survivor's shortest distinguishing sequence.
 pub enum Judged {
@@ -53,54 +47,37 @@ fn no_block() -> [u8; 1603]
     [0u8; 1603]
 }
 
-// The first survivor of all, and how many nodes the engine looked at.
-fn find(block: &[u8; 1603], bytes: &[u8], n: usize, nodes: &mut u32) -> Found
+// The first survivor of all, written to the buffers.
+fn find(
+    block: &[u8; 1603],
+    bytes: &[u8],
+    notes: &mut Notes,
+    n: usize,
+    board: &mut [u8],
+    sequence: &mut [u8],
+) -> Searched
     requires { ⌜ ((sh : Sheet) × Searching sh (now block) (now bytes) (replicate 32 256) 0 n) ⌝ }
-    ensures { λ r. ⌜ ((sh : Sheet) → Searching sh (now (block .entry)) (now (bytes .entry)) (replicate 32 256) 0 n → byFound sh (replicate 32 256) 0 (r .found) (r .p)) ⌝ }
+    requires { ⌜ Room (now block) n (now board) (now sequence) ⌝ }
+    ensures { λ r. ⌜ ((sh : Sheet) → Searching sh (now (block .entry)) (now (bytes .entry)) (replicate 32 256) 0 n → Leaves sh (replicate 32 256) 0 r (now (board .entry)) (now (board .exit)) (now (sequence .entry)) (now (sequence .exit))) ⌝ }
 {
     let mut sets = fresh_sets();
     let mut values = fresh_values();
-    let mut notes = fresh_notes();
     let p = unsettled();
-    let answer = search(block, bytes, &mut sets, &mut values, &mut notes, p, 0, n);
-    *nodes = engine::nodes(&notes);
-    answer
+    search(
+        block,
+        bytes,
+        &mut sets,
+        &mut values,
+        notes,
+        p,
+        0,
+        n,
+        board,
+        sequence,
+    )
 }
 
-// Writes the first n choices at the buffer's front.
-fn write_choices(p: &[u16; 32], n: usize, board: &mut [u8])
-    requires { ⌜ (n ≤ 32) × (length (now p) ≡ 32) × (n ≤ length (now board)) × ((j : ℕ) → j < n → getD (now p) j 0 < 256) ⌝ }
-    ensures { λ r. ⌜ now (board .exit) ≡ overlay (take n (now (p .entry))) (now (board .entry)) ⌝ }
-{
-    let mut j: usize = 0;
-    while j < n {
-        board[j] = p[j] as u8;
-        j += 1;
-    }
-}
-
-// Writes the shortest distinguishing sequence of the mutant p at the buffer's front.
-fn show(block: &[u8; 1603], p: &[u16; 32], n: usize, sequence: &mut [u8]) -> Judged
-    requires { ⌜ ((sh : Sheet) × Searching sh (now block) (suiteBytes (sh .tests)) (now p) n n) ⌝ }
-    requires { ⌜ statesOf (now block) * statesOf (now block) ≤ length (now sequence) ⌝ }
-    ensures { λ r. ⌜ ((sh : Sheet) → Searching sh (now (block .entry)) (suiteBytes (sh .tests)) (now (p .entry)) n n → r ≡ shownOf (compareOf sh (take n (now (p .entry))))) ⌝ }
-    ensures { λ r. ⌜ ((sh : Sheet) → Searching sh (now (block .entry)) (suiteBytes (sh .tests)) (now (p .entry)) n n → now (sequence .exit) ≡ overlay (found (compareOf sh (take n (now (p .entry))))) (now (sequence .entry))) ⌝ }
-{
-    let mut so = blank();
-    let mut sn = blank();
-    let mut mo = blank();
-    let mut mn = blank();
-    lay(block, p, &mut so, &mut sn, &mut mo, &mut mn);
-    let states = wide(states(block));
-    let inputs = wide(inputs(block));
-    match distinguish(&so, &sn, &mo, &mn, states, inputs, 0, sequence) {
-        Compared::Differs(length) => Judged::Survivor(length),
-        Compared::Conforms => Judged::Complete,
-        Compared::Refused(_, _) => Judged::Complete,
-    }
-}
-
-// The judgement of a packed sheet with room in both buffers: what the search finds, and what it is shown by.
+// The judgement of a packed sheet with room in both buffers, and how many nodes the engine looked at.
 fn conclude(
     block: &[u8; 1603],
     bytes: &[u8],
@@ -110,17 +87,17 @@ fn conclude(
     nodes: &mut u32,
 ) -> Judged
     requires { ⌜ ((sh : Sheet) × Searching sh (now block) (now bytes) (replicate 32 256) 0 count) ⌝ }
-    requires { ⌜ (count ≤ length (now board)) × (statesOf (now block) * statesOf (now block) ≤ length (now sequence)) ⌝ }
+    requires { ⌜ Room (now block) count (now board) (now sequence) ⌝ }
     ensures { λ r. ⌜ ((sh : Sheet) → Searching sh (now (block .entry)) (now (bytes .entry)) (replicate 32 256) 0 count → Judges (accepted (judgeOf sh)) r (now (board .entry)) (now (board .exit)) (now (sequence .entry)) (now (sequence .exit))) ⌝ }
     ensures { λ r. ⌜ Measured r (now (nodes .entry)) (now (nodes .exit)) ⌝ }
 {
-    let answer = find(block, bytes, count, nodes);
-    if !answer.found {
-        return Judged::Complete;
+    let mut notes = fresh_notes();
+    let found = find(block, bytes, &mut notes, count, board, sequence);
+    *nodes = engine::nodes(&notes);
+    match found {
+        Searched::Nothing => Judged::Complete,
+        Searched::First(length) => Judged::Survivor(length),
     }
-    let p = answer.p;
-    write_choices(&p, count, board);
-    show(block, &p, count, sequence)
 }
 
 // The judgement of a sheet that was read.

@@ -10,22 +10,22 @@ fresh-sets-requires c κs = search needs
 fresh-values-requires : tie.Need-fresh-values-requires
 fresh-values-requires c κs = search needs
 
-fresh-notes-requires : tie.Need-fresh-notes-requires
-fresh-notes-requires c κs = search needs
-
 unsettled-requires : tie.Need-unsettled-requires
 unsettled-requires c κs = search needs
 
 search-requires : tie.Need-search-requires
 search-requires c κs =
-    let a = c .before .before .before .before .before .before .before .before in
-    ((a .pre .0, rw (c .before .before .before .unsettled .ensures) (a .pre .1)), rw (c .before .before .before .before .before .before .fresh-sets .ensures) (c .before .before .before .before .before .fresh-values .ensures _ _ (asked (a .pre .1) .0)))
+    let w = c .before .before .before .before .before .before .before .before .before .before .before .pre .0 .1 in
+    ((c .before .before .before .before .before .before .before .before .before .before .before .pre .0 .0, rw (c .before .before .before .before .before .unsettled .ensures) w), (rw (c .before .before .before .before .before .before .before .fresh-sets .ensures) (c .before .before .before .before .before .before .fresh-values .ensures _ _ (asked w .0)), c .before .before .before .before .before .before .before .before .before .before .before .pre .1))
 
-nodes-requires : tie.Need-nodes-requires
-nodes-requires c κs = search needs
+same-length : tie.Need-same-length
+same-length c = search needs
+
+same-length-2 : tie.Need-same-length-2
+same-length-2 c = search needs
 
 returns : tie.Need-returns
-returns c = λ sh w. rw (c .before .before .before .before .before .before .unsettled .ensures) at (c .before .before .search .ensures .0 sh (rw (c .before .before .before .before .before .before .unsettled .ensures) w))
+returns c = λ sh w. rw (c .before .before .before .before .before .before .before .before .before .before .unsettled .ensures) at (c .before .before .before .before .search .ensures .0 sh (rw (c .before .before .before .before .before .before .before .before .before .before .unsettled .ensures) w))
 
 pub find-spec : {M : Type 1} → statement M
 find-spec =
@@ -33,8 +33,8 @@ find-spec =
     (tie.spec
     fresh-sets-requires
     fresh-values-requires
-    fresh-notes-requires
     unsettled-requires
     search-requires
-    nodes-requires
+    same-length
+    same-length-2
     returns)

@@ -4,11 +4,11 @@ use mathlib.Core.Path.{_≡_, refl}
 use mathlib.Core.List.{_++_}
 use native.Mathlib.Omega.{arith}
 use lib.ListN.{take, drop}
-use Rattle.mutation.proofs.JudgingLaw.{choice-more, choice-room, choices-written}
-use Rattle.mutation.proofs.verdict.write_choices.Statement.{statement}
-use Rattle.mutation.proofs.verdict.write_choices.Tie as tie
-use Rattle.mutation.proofs.verdict.write_choices.Reads as reads
-use Rattle.mutation.proofs.verdict.write_choices.Lts as lts
+use Rattle.mutation.proofs.SurviveLaw.{choice-more, choice-room, choices-written}
+use Rattle.mutation.proofs.survive.write_choices.Statement.{statement}
+use Rattle.mutation.proofs.survive.write_choices.Tie as tie
+use Rattle.mutation.proofs.survive.write_choices.Reads as reads
+use Rattle.mutation.proofs.survive.write_choices.Lts as lts
 
 abbrev Inv-loop : tie.InvT-loop
 Inv-loop p n board₀ j₀ board j = (j ≤ n) × (board ≡ take j p ++ drop j board₀)
