@@ -11,7 +11,7 @@ use Rattle.model.specs.Mutant.{slots, IsMutant}
 use Rattle.model.specs.Suite.{Passes, compareOf}
 use Rattle.engine.specs.Machine.{statesOf, suiteBytes}
 use Rattle.mutation.specs.declared.survive.Searched.{Searched}
-use Rattle.mutation.specs.declared.survive.Searched.the-variants.{Nothing, First}
+use Rattle.mutation.specs.declared.survive.Searched.the-variants.{Nothing, First, GaveUp}
 use Rattle.mutation.specs.Answers.{overlay}
 use Rattle.mutation.specs.Block.{BlockFor}
 
@@ -62,6 +62,7 @@ pub record Shown (sh : Sheet) (p : List ℕ) (i d : ℕ) (oldBoard newBoard oldS
 abbrev pub Leaves : Sheet → List ℕ → ℕ → Searched → List ℕ → List ℕ → List ℕ → List ℕ → Type 0
 Leaves sh p i Nothing oldBoard newBoard oldSequence newSequence = NoneFrom sh p i × Kept oldBoard newBoard oldSequence newSequence
 Leaves sh p i (First d) oldBoard newBoard oldSequence newSequence = Shown sh p i d oldBoard newBoard oldSequence newSequence
+Leaves sh p i GaveUp oldBoard newBoard oldSequence newSequence = Kept oldBoard newBoard oldSequence newSequence
 
 -- what the search works with: the sheet's tables in m, its tests in bytes, and the first i of its n suspects settled in p
 pub record Searching (sh : Sheet) (m bytes p : List ℕ) (i n : ℕ) : Type 0 where

@@ -15,14 +15,17 @@ ghost use Prim.Native.Nat.{ℕ, _+_, _*_, _/_, _%_, _<_, _≤_};
 ghost use lib.ListN.{length, getD, take};
 ghost use Rattle.sheet.specs.Sheet.{Sheet};
 ghost use Rattle.engine.specs.Machine.{Wf, statesOf, chosen};
+ghost use Rattle.mutation.specs.declared.survive.Searched.the-variants.{GaveUp};
 ghost use Rattle.mutation.specs.Answers.{overlay};
 ghost use Rattle.mutation.specs.Search.{Searching, Room, Leaves};
 ghost use Rattle.mutation.specs.Survive.{slot, walkOf, Chosen, Acts, Laid};
 
-// What a search finds: no survivor; or the first one, with the length of its distinguishing sequence.
+// What a search finds: no survivor; the first one, with the length of its distinguishing sequence; or neither, where a quick
+// search gave up.
 pub(crate) enum Searched {
     Nothing,
     First(usize),
+    GaveUp,
 }
 
 // The choice of p at a pair, 0 where it is no suspect.
@@ -136,6 +139,7 @@ pub(crate) fn show(
     requires { ⌜ ((sh : Sheet) × Searching sh (now block) (now bytes) (now p) n n) ⌝ }
     requires { ⌜ Room (now block) n (now board) (now sequence) ⌝ }
     ensures { λ r. ⌜ ((sh : Sheet) → Searching sh (now (block .entry)) (now (bytes .entry)) (now (p .entry)) n n → Leaves sh (now (p .entry)) n r (now (board .entry)) (now (board .exit)) (now (sequence .entry)) (now (sequence .exit))) ⌝ }
+    ensures { λ r. ⌜ (r ≡ GaveUp → ⊥) ⌝ }
 {
     let mut so = blank();
     let mut sn = blank();

@@ -9,6 +9,8 @@ use engine::Notes;
 use engine::fresh_notes;
 use engine::fresh_sets;
 use engine::fresh_values;
+use engine::no_sets;
+use engine::no_values;
 use engine::pack;
 use sheet::Reading;
 use sheet::Summary;
@@ -22,6 +24,7 @@ ghost use Rattle.sheet.specs.Sheet.{Sheet};
 ghost use Rattle.sheet.specs.Reading.{accepted};
 ghost use Rattle.model.specs.Suite.{judgeOf};
 ghost use Rattle.model.specs.Operations.{judging};
+ghost use Rattle.mutation.specs.declared.survive.Searched.the-variants.{GaveUp};
 ghost use Rattle.mutation.specs.Answers.{overlay};
 ghost use Rattle.mutation.specs.Search.{Searching, Room, Leaves};
 ghost use Rattle.mutation.specs.Judging.{judgedAnswer, boardWrites, sequenceWrites, judgingOf, Judges, Measured, ReadFrom, ToldJudged};
@@ -47,8 +50,8 @@ fn no_block() -> [u8; 1603]
     [0u8; 1603]
 }
 
-// The first survivor of all, written to the buffers.
-fn find(
+// The first survivor of all by a quick search, which may give up: it keeps no refutations.
+fn find_quickly(
     block: &[u8; 1603],
     bytes: &[u8],
     notes: &mut Notes,
@@ -59,6 +62,37 @@ fn find(
     requires { ⌜ ((sh : Sheet) × Searching sh (now block) (now bytes) (replicate 32 256) 0 n) ⌝ }
     requires { ⌜ Room (now block) n (now board) (now sequence) ⌝ }
     ensures { λ r. ⌜ ((sh : Sheet) → Searching sh (now (block .entry)) (now (bytes .entry)) (replicate 32 256) 0 n → Leaves sh (replicate 32 256) 0 r (now (board .entry)) (now (board .exit)) (now (sequence .entry)) (now (sequence .exit))) ⌝ }
+{
+    let mut sets = no_sets();
+    let mut values = no_values();
+    let p = unsettled();
+    search(
+        block,
+        bytes,
+        &mut sets,
+        &mut values,
+        notes,
+        p,
+        0,
+        n,
+        board,
+        sequence,
+    )
+}
+
+// The same by a search with a store of refutations.
+fn find_thoroughly(
+    block: &[u8; 1603],
+    bytes: &[u8],
+    notes: &mut Notes,
+    n: usize,
+    board: &mut [u8],
+    sequence: &mut [u8],
+) -> Searched
+    requires { ⌜ ((sh : Sheet) × Searching sh (now block) (now bytes) (replicate 32 256) 0 n) ⌝ }
+    requires { ⌜ Room (now block) n (now board) (now sequence) ⌝ }
+    ensures { λ r. ⌜ ((sh : Sheet) → Searching sh (now (block .entry)) (now (bytes .entry)) (replicate 32 256) 0 n → Leaves sh (replicate 32 256) 0 r (now (board .entry)) (now (board .exit)) (now (sequence .entry)) (now (sequence .exit))) ⌝ }
+    ensures { λ r. ⌜ (r ≡ GaveUp → ⊥) ⌝ }
 {
     let mut sets = fresh_sets();
     let mut values = fresh_values();
@@ -75,6 +109,27 @@ fn find(
         board,
         sequence,
     )
+}
+
+// The first survivor of all, written to the buffers.
+fn find(
+    block: &[u8; 1603],
+    bytes: &[u8],
+    notes: &mut Notes,
+    n: usize,
+    board: &mut [u8],
+    sequence: &mut [u8],
+) -> Searched
+    requires { ⌜ ((sh : Sheet) × Searching sh (now block) (now bytes) (replicate 32 256) 0 n) ⌝ }
+    requires { ⌜ Room (now block) n (now board) (now sequence) ⌝ }
+    ensures { λ r. ⌜ ((sh : Sheet) → Searching sh (now (block .entry)) (now (bytes .entry)) (replicate 32 256) 0 n → Leaves sh (replicate 32 256) 0 r (now (board .entry)) (now (board .exit)) (now (sequence .entry)) (now (sequence .exit))) ⌝ }
+    ensures { λ r. ⌜ (r ≡ GaveUp → ⊥) ⌝ }
+{
+    match find_quickly(block, bytes, notes, n, board, sequence) {
+        Searched::Nothing => Searched::Nothing,
+        Searched::First(length) => Searched::First(length),
+        Searched::GaveUp => find_thoroughly(block, bytes, notes, n, board, sequence),
+    }
 }
 
 // The judgement of a packed sheet with room in both buffers, and how many nodes the engine looked at.
@@ -97,6 +152,7 @@ fn conclude(
     match found {
         Searched::Nothing => Judged::Complete,
         Searched::First(length) => Judged::Survivor(length),
+        Searched::GaveUp => Judged::Complete,
     }
 }
 

@@ -30,7 +30,7 @@ passes-requires : tie.Need-passes-requires
 passes-requires c κs = search needs
 
 returns : tie.Need-returns
-returns c = λ sh w. fails-shown w (c .before .before .before .before .before .before .lay .ensures) (c .before .passes .result) (c .before .passes .ensures) (not-true _ (c .if1 .taken))
+returns c = (λ sh w. fails-shown w (c .before .before .before .before .before .before .lay .ensures) (c .before .passes .result) (c .before .passes .ensures) (not-true _ (c .if1 .taken)), λ e. let z : _≡_ {A = ℕ} 0 1 = cc in omega arith)
 
 states-requires : tie.Need-states-requires
 states-requires c κs = search needs
@@ -72,21 +72,21 @@ same-length-2 c = search needs
 
 returns-2 : tie.Need-returns-2
 returns-2 c =
-    λ sh w. differs w (c .before .before .before .before .before .before .before .before .before .before .before .before .before .before .before .before .before .before .before .before .before .before .before .before .before .lay .ensures) (c .before .before .before .before .before .before .before .before .before .before .before .before .before .before .before .before .before .wide .result) (c .before .before .before .before .before .before .before .before .before .before .before .before .before .before .before .wide2 .result) (c .before .before .before .before .before .before .before .before .before .before .before .before .before .before .before .before .before .wide .ensures ∙ c .before .before .before .before .before .before .before .before .before .before .before .before .before .before .before .before .before .before .states .ensures) (c .before .before .before .before .before .before .before .before .before .before .before .before .before .before .before .wide2 .ensures ∙ c .before .before .before .before .before .before .before .before .before .before .before .before .before .before .before .before .inputs .ensures) (c .before .before .before .before .before .before .before .before .before .before .before .before .before .before .before .before .before .before .before .before .passes .result) (c .before .before .before .before .before .before .before .before .before .before .before .before .before .before .before .before .before .before .before .before .passes .ensures) (not-false _ (c .before .before .before .before .before .before .before .before .before .before .before .before .before .before .before .before .before .before .before .if1 .left)) (c .before .before .before .before .before .before .before .before .before .distinguish .ensures .0) (c .before .before .before .before .before .before .before .before .before .distinguish .ensures .1) _ (c .before .before .before .before .before .length .given .1) (c .before .before .write-choices .ensures)
+    (λ sh w. differs w (c .before .before .before .before .before .before .before .before .before .before .before .before .before .before .before .before .before .before .before .before .before .before .before .before .before .lay .ensures) (c .before .before .before .before .before .before .before .before .before .before .before .before .before .before .before .before .before .wide .result) (c .before .before .before .before .before .before .before .before .before .before .before .before .before .before .before .wide2 .result) (c .before .before .before .before .before .before .before .before .before .before .before .before .before .before .before .before .before .wide .ensures ∙ c .before .before .before .before .before .before .before .before .before .before .before .before .before .before .before .before .before .before .states .ensures) (c .before .before .before .before .before .before .before .before .before .before .before .before .before .before .before .wide2 .ensures ∙ c .before .before .before .before .before .before .before .before .before .before .before .before .before .before .before .before .inputs .ensures) (c .before .before .before .before .before .before .before .before .before .before .before .before .before .before .before .before .before .before .before .before .passes .result) (c .before .before .before .before .before .before .before .before .before .before .before .before .before .before .before .before .before .before .before .before .passes .ensures) (not-false _ (c .before .before .before .before .before .before .before .before .before .before .before .before .before .before .before .before .before .before .before .if1 .left)) (c .before .before .before .before .before .before .before .before .before .distinguish .ensures .0) (c .before .before .before .before .before .before .before .before .before .distinguish .ensures .1) _ (c .before .before .before .before .before .length .given .1) (c .before .before .write-choices .ensures), λ e. let z : _≡_ {A = ℕ} 0 1 = cc in omega arith)
 
 same-length-3 : tie.Need-same-length-3
 same-length-3 c = search needs
 
 returns-3 : tie.Need-returns-3
 returns-3 c =
-    λ sh w. conforms w (c .before .before .before .before .before .before .before .before .before .before .before .before .before .before .before .before .before .before .before .before .lay .ensures) (c .before .before .before .before .before .before .before .before .before .before .before .before .wide .result) (c .before .before .before .before .before .before .before .before .before .before .wide2 .result) (c .before .before .before .before .before .before .before .before .before .before .before .before .wide .ensures ∙ c .before .before .before .before .before .before .before .before .before .before .before .before .before .states .ensures) (c .before .before .before .before .before .before .before .before .before .before .wide2 .ensures ∙ c .before .before .before .before .before .before .before .before .before .before .before .inputs .ensures) (c .before .before .before .before .before .before .before .before .before .before .before .before .before .before .before .passes .result) (c .before .before .before .before .before .before .before .before .before .before .before .before .before .before .before .passes .ensures) (not-false _ (c .before .before .before .before .before .before .before .before .before .before .before .before .before .before .if1 .left)) (c .before .before .before .before .distinguish .ensures .0) (c .before .before .before .before .distinguish .ensures .1) (λ k e. let z : _≡_ {A = ℕ} 0 1 = cc (c .enum-told .given .1) in omega arith)
+    (λ sh w. conforms w (c .before .before .before .before .before .before .before .before .before .before .before .before .before .before .before .before .before .before .before .before .lay .ensures) (c .before .before .before .before .before .before .before .before .before .before .before .before .wide .result) (c .before .before .before .before .before .before .before .before .before .before .wide2 .result) (c .before .before .before .before .before .before .before .before .before .before .before .before .wide .ensures ∙ c .before .before .before .before .before .before .before .before .before .before .before .before .before .states .ensures) (c .before .before .before .before .before .before .before .before .before .before .wide2 .ensures ∙ c .before .before .before .before .before .before .before .before .before .before .before .inputs .ensures) (c .before .before .before .before .before .before .before .before .before .before .before .before .before .before .before .passes .result) (c .before .before .before .before .before .before .before .before .before .before .before .before .before .before .before .passes .ensures) (not-false _ (c .before .before .before .before .before .before .before .before .before .before .before .before .before .before .if1 .left)) (c .before .before .before .before .distinguish .ensures .0) (c .before .before .before .before .distinguish .ensures .1) (λ k e. let z : _≡_ {A = ℕ} 0 1 = cc (c .enum-told .given .1) in omega arith), λ e. let z : _≡_ {A = ℕ} 0 1 = cc in omega arith)
 
 same-length-4 : tie.Need-same-length-4
 same-length-4 c = search needs
 
 returns-4 : tie.Need-returns-4
 returns-4 c =
-    λ sh w. conforms w (c .before .before .before .before .before .before .before .before .before .before .before .before .before .before .before .before .before .before .before .before .lay .ensures) (c .before .before .before .before .before .before .before .before .before .before .before .before .wide .result) (c .before .before .before .before .before .before .before .before .before .before .wide2 .result) (c .before .before .before .before .before .before .before .before .before .before .before .before .wide .ensures ∙ c .before .before .before .before .before .before .before .before .before .before .before .before .before .states .ensures) (c .before .before .before .before .before .before .before .before .before .before .wide2 .ensures ∙ c .before .before .before .before .before .before .before .before .before .before .before .inputs .ensures) (c .before .before .before .before .before .before .before .before .before .before .before .before .before .before .before .passes .result) (c .before .before .before .before .before .before .before .before .before .before .before .before .before .before .before .passes .ensures) (not-false _ (c .before .before .before .before .before .before .before .before .before .before .before .before .before .before .if1 .left)) (c .before .before .before .before .distinguish .ensures .0) (c .before .before .before .before .distinguish .ensures .1) (λ k e. let z : _≡_ {A = ℕ} 0 1 = cc (c .enum-told2 .given .1) in omega arith)
+    (λ sh w. conforms w (c .before .before .before .before .before .before .before .before .before .before .before .before .before .before .before .before .before .before .before .before .lay .ensures) (c .before .before .before .before .before .before .before .before .before .before .before .before .wide .result) (c .before .before .before .before .before .before .before .before .before .before .wide2 .result) (c .before .before .before .before .before .before .before .before .before .before .before .before .wide .ensures ∙ c .before .before .before .before .before .before .before .before .before .before .before .before .before .states .ensures) (c .before .before .before .before .before .before .before .before .before .before .wide2 .ensures ∙ c .before .before .before .before .before .before .before .before .before .before .before .inputs .ensures) (c .before .before .before .before .before .before .before .before .before .before .before .before .before .before .before .passes .result) (c .before .before .before .before .before .before .before .before .before .before .before .before .before .before .before .passes .ensures) (not-false _ (c .before .before .before .before .before .before .before .before .before .before .before .before .before .before .if1 .left)) (c .before .before .before .before .distinguish .ensures .0) (c .before .before .before .before .distinguish .ensures .1) (λ k e. let z : _≡_ {A = ℕ} 0 1 = cc (c .enum-told2 .given .1) in omega arith), λ e. let z : _≡_ {A = ℕ} 0 1 = cc in omega arith)
 
 pub show-spec : {M : Type 1} → statement M
 show-spec =

@@ -19,6 +19,9 @@ enum-told c = search needs
 enum-known-found : tie.Need-enum-known-found
 enum-known-found c = search needs
 
+enum-told-2 : tie.Need-enum-told-2
+enum-told-2 c = search needs
+
 same-length : tie.Need-same-length
 same-length c = search needs
 
@@ -26,7 +29,7 @@ same-length-2 : tie.Need-same-length-2
 same-length-2 c = search needs
 
 returns : tie.Need-returns
-returns c = (λ sh w. judges-complete (rw (c .enum-told .given .1) at (c .before .before .before .before .before .before .before .before .find .ensures sh w)), tt)
+returns c = (λ sh w. judges-complete (rw (c .enum-told .given .1) at (c .before .before .before .before .before .before .before .before .find .ensures .0 sh w)), tt)
 
 same-length-3 : tie.Need-same-length-3
 same-length-3 c = search needs
@@ -35,7 +38,16 @@ same-length-4 : tie.Need-same-length-4
 same-length-4 c = search needs
 
 returns-2 : tie.Need-returns-2
-returns-2 c = (λ sh w. judges-survivor (rw (c .before .found .given .1) at (c .before .before .before .before .before .before .before .before .before .find .ensures sh w)), tt)
+returns-2 c = (λ sh w. judges-survivor (rw (c .before .found .given .1) at (c .before .before .before .before .before .before .before .before .before .find .ensures .0 sh w)), tt)
+
+same-length-5 : tie.Need-same-length-5
+same-length-5 c = search needs
+
+same-length-6 : tie.Need-same-length-6
+same-length-6 c = search needs
+
+returns-3 : tie.Need-returns-3
+returns-3 c = absurd (c .before .before .before .before .before .before .before .before .find .ensures .1 (c .enum-told2 .given .1))
 
 pub conclude-spec : {M : Type 1} → statement M
 conclude-spec =
@@ -46,9 +58,13 @@ conclude-spec =
     nodes-requires
     enum-told
     enum-known-found
+    enum-told-2
     same-length
     same-length-2
     returns
     same-length-3
     same-length-4
-    returns-2)
+    returns-2
+    same-length-5
+    same-length-6
+    returns-3)

@@ -1,22 +1,26 @@
--- `find`: the search from an empty store, with nothing settled.
+-- `find`: what the quick search finds; where it gave up, with both buffers as they were, what the thorough one finds.
 use borrow.Author.Needs.{needs}
-use Rattle.mutation.proofs.SearchLaw.{asked}
+use Prim.Native.Nat.{ℕ}
+use native.Mathlib.Omega.{arith}
+use mathlib.Core.Path.{_≡_}
+use Rattle.mutation.proofs.SearchLaw.{kept-room}
 use Rattle.mutation.proofs.verdict.find.Statement.{statement}
 use Rattle.mutation.proofs.verdict.find.Tie as tie
 
-fresh-sets-requires : tie.Need-fresh-sets-requires
-fresh-sets-requires c κs = search needs
+find-quickly-requires : tie.Need-find-quickly-requires
+find-quickly-requires c κs = search needs
 
-fresh-values-requires : tie.Need-fresh-values-requires
-fresh-values-requires c κs = search needs
+enum-told : tie.Need-enum-told
+enum-told c = search needs
 
-unsettled-requires : tie.Need-unsettled-requires
-unsettled-requires c κs = search needs
+enum-known-length : tie.Need-enum-known-length
+enum-known-length c = search needs
 
-search-requires : tie.Need-search-requires
-search-requires c κs =
-    let w = c .before .before .before .before .before .before .before .before .before .before .before .pre .0 .1 in
-    ((c .before .before .before .before .before .before .before .before .before .before .before .pre .0 .0, rw (c .before .before .before .before .before .unsettled .ensures) w), (rw (c .before .before .before .before .before .before .before .fresh-sets .ensures) (c .before .before .before .before .before .before .fresh-values .ensures _ _ (asked w .0)), c .before .before .before .before .before .before .before .before .before .before .before .pre .1))
+enum-told-2 : tie.Need-enum-told-2
+enum-told-2 c = search needs
+
+find-thoroughly-requires : tie.Need-find-thoroughly-requires
+find-thoroughly-requires c κs = (c .before .before .before .before .before .before .before .before .before .before .before .before .before .before .before .before .pre .0, kept-room (rw (c .before .before .before .enum-told2 .given .1) at (c .before .before .before .before .before .before .before .before .before .find-quickly .ensures (c .before .before .before .before .before .before .before .before .before .before .before .before .before .before .before .before .pre .0 .0) (c .before .before .before .before .before .before .before .before .before .before .before .before .before .before .before .before .pre .0 .1))) (c .before .before .before .before .before .before .before .before .before .before .before .before .before .before .before .before .pre .1))
 
 same-length : tie.Need-same-length
 same-length c = search needs
@@ -25,16 +29,42 @@ same-length-2 : tie.Need-same-length-2
 same-length-2 c = search needs
 
 returns : tie.Need-returns
-returns c = λ sh w. rw (c .before .before .before .before .before .before .before .before .before .before .unsettled .ensures) at (c .before .before .before .before .search .ensures .0 sh (rw (c .before .before .before .before .before .before .before .before .before .before .unsettled .ensures) w))
+returns c = (λ sh w. rw (c .enum-told .given .1) at (c .before .before .before .before .before .before .find-quickly .ensures sh w), λ e. let z : _≡_ {A = ℕ} 0 1 = cc in omega arith)
+
+same-length-3 : tie.Need-same-length-3
+same-length-3 c = search needs
+
+same-length-4 : tie.Need-same-length-4
+same-length-4 c = search needs
+
+returns-2 : tie.Need-returns-2
+returns-2 c = (λ sh w. rw (c .before .length .given .1) at (c .before .before .before .before .before .before .before .find-quickly .ensures sh w), λ e. let z : _≡_ {A = ℕ} 0 1 = cc in omega arith)
+
+same-length-5 : tie.Need-same-length-5
+same-length-5 c = search needs
+
+same-length-6 : tie.Need-same-length-6
+same-length-6 c = search needs
+
+returns-3 : tie.Need-returns-3
+returns-3 c =
+    (λ sh w. let k = rw (c .before .before .before .before .before .before .before .before .enum-told2 .given .1) at (c .before .before .before .before .before .before .before .before .before .before .before .before .before .before .find-quickly .ensures sh w) in rw (← k .board, ← k .sequence) (c .before .before .before .before .find-thoroughly .ensures .0 sh w), c .before .before .before .before .find-thoroughly .ensures .1)
 
 pub find-spec : {M : Type 1} → statement M
 find-spec =
     tie.close
     (tie.spec
-    fresh-sets-requires
-    fresh-values-requires
-    unsettled-requires
-    search-requires
+    find-quickly-requires
+    enum-told
+    enum-known-length
+    enum-told-2
+    find-thoroughly-requires
     same-length
     same-length-2
-    returns)
+    returns
+    same-length-3
+    same-length-4
+    returns-2
+    same-length-5
+    same-length-6
+    returns-3)
