@@ -4,9 +4,9 @@
 //! test or conforms, and which of the settled suspects that rests on. The search asks
 //! it for one prefix after another, in dictionary order.
 
-use crate::first_engine;
 use crate::machine::{members, Judgement, Machine, Outcome, Partial, Set, Step, UNSETTLED};
 use crate::plain::{self, pair};
+use crate::quick::Attempts;
 use ranthelo_tests::reference::Refusal;
 
 /// No test waits for this output.
@@ -204,10 +204,10 @@ impl Engine<'_> {
         Outcome::Refuted(all)
     }
 
-    /// Choices of some survivors with this prefix, if there are any. The first engine is
-    /// asked until it has had its share of nodes.
+    /// Choices of some survivors with this prefix, if there are any. It is first attempted
+    /// quickly, until the quick attempts have had their share of nodes.
     fn survivor(&mut self, prefix: &Partial) -> Option<Partial> {
-        let mut quick = first_engine::Engine {
+        let mut quick = Attempts {
             machine: self.machine,
             nodes: self.nodes,
             limit: QUICK,

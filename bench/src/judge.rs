@@ -3,6 +3,7 @@
 use crate::table::Table;
 use ranthelo_bench::families::{self, Family};
 use ranthelo_bench::{engine, first_engine, plain, timing};
+use ranthelo_tests::enumeration::Survivor;
 use ranthelo_tests::library::judge;
 use ranthelo_tests::listed;
 use std::hint::black_box;
@@ -19,6 +20,7 @@ const KEPT: [(&str, &[u8]); 5] = [
 
 pub fn measure(table: &mut Table) {
     one(table, "P1", &listed::p1());
+    one(table, "P2", &listed::p2());
     one(table, "P10", &listed::p10());
     let wide = families::wide().encode();
     one(table, "32 unspecified pairs of 256 choices", &wide);
@@ -46,9 +48,10 @@ fn one(table: &mut Table, case: &str, sheet: &[u8]) {
     let judgement = engine::judge(sheet).expect("the sheet is accepted");
     let open_pairs = plain::read(sheet).map_or(0, |summary| summary.open_pairs);
     let verdict = judge::checked_judge(sheet, 32, 256, open_pairs);
-    assert_eq!(verdict, Ok(judgement.survivor));
+    assert_eq!(verdict.as_ref(), Ok(&judgement.survivor));
     let (mine, other) = (library(sheet), judgement.nodes);
-    let note = format!("{mine:>8} {other:>10}{}", beside_first(sheet));
+    let first = beside_first(sheet, &judgement.survivor);
+    let note = format!("{mine:>8} {other:>10}{first}");
     table.measure_with_note(
         "judge",
         case,
@@ -71,13 +74,14 @@ fn library(sheet: &[u8]) -> u32 {
     nodes
 }
 
-/// On an easy sheet, for which the nodes of the quick attempts suffice, the time of the first
-/// engine and the library's ratio to it.
-fn beside_first(sheet: &[u8]) -> String {
+/// On an easy sheet, for which the first engine takes fewer nodes than the quick attempts may,
+/// its time and the library's ratio to it.
+fn beside_first(sheet: &[u8], survivor: &Option<Survivor>) -> String {
     let first = |sheet| first_engine::judge(sheet, engine::QUICK);
-    if first(sheet).is_none() {
+    let Some(judgement) = first(sheet) else {
         return String::new();
-    }
+    };
+    assert_eq!(&judgement.survivor, survivor);
     let (mine, other) = timing::compare(
         || {
             black_box(library(black_box(sheet)));

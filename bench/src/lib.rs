@@ -6,4 +6,5 @@ pub mod families;
 pub mod first_engine;
 mod machine;
 pub mod plain;
+mod quick;
 pub mod timing;

@@ -1,4 +1,4 @@
-//! A sheet as the engines want it, and what they share.
+//! A sheet as the engine wants it, and what its quick and its thorough attempts share.
 
 use crate::plain::{self, pair, Move, Tables, NONE};
 use ranthelo_tests::enumeration::Survivor;

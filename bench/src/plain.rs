@@ -289,6 +289,11 @@ pub fn run(sheet: &[u8], board: &[u8], presses: &[u8], buffer: &mut [u8]) -> Res
 pub fn first_failed(sheet: &[u8], board: &[u8]) -> Result<Option<Failure>, Refusal> {
     let tables = load(sheet)?;
     let moves = tables.mutant(board)?;
+    Ok(failure(&tables, &moves))
+}
+
+/// The first test that a mutant fails.
+pub fn failure(tables: &Tables<'_>, moves: &[Move; 256]) -> Option<Failure> {
     let (mut begun, mut position) = (0, 0);
     let (mut specified, mut given) = (0, 0);
     let mut rest = tables.suite;
@@ -304,13 +309,13 @@ pub fn first_failed(sheet: &[u8], board: &[u8]) -> Result<Option<Failure>, Refus
                 let (output, other) = moves[pair(given, x)];
                 if output != wanted {
                     let test = begun - 1;
-                    return Ok(Some(Failure { test, position }));
+                    return Some(Failure { test, position });
                 }
                 (specified, given) = (next, other);
                 position += 1;
                 rest = &rest[2..];
             }
-            _ => return Ok(None),
+            _ => return None,
         }
     }
 }

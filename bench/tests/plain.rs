@@ -47,6 +47,8 @@ fn boards() {
 fn judging() {
     for (name, bytes, survivor) in listed::verdicts() {
         assert_eq!(engine::judge(&bytes).unwrap().survivor, survivor, "{name}");
+        let first = first_engine::judge(&bytes, u64::MAX).unwrap();
+        assert_eq!(first.survivor, survivor, "{name}");
     }
     let shape = Shape {
         boards: 300,
@@ -68,6 +70,25 @@ fn judging() {
             }
         }
     }
+}
+
+#[test]
+fn first_engine_on_families() {
+    let families = [families::COMPLETE, families::LOCK, families::TEN_FAULTS];
+    for family in families {
+        let sheet = families::completed(families::sheet(&family, 3)).unwrap();
+        let dropped = families::with_one_dropped(sheet.clone());
+        for bytes in [sheet.encode(), dropped.encode()] {
+            let expected = engine::judge(&bytes).unwrap().survivor;
+            let first = first_engine::judge(&bytes, u64::MAX).unwrap();
+            assert_eq!(first.survivor, expected);
+            assert!(first_engine::judge(&bytes, first.nodes).is_none());
+            let again = first_engine::judge(&bytes, first.nodes + 1).unwrap();
+            assert_eq!(again.survivor, expected);
+        }
+    }
+    let wide = families::wide().encode();
+    assert!(first_engine::judge(&wide, u64::MAX).is_none());
 }
 
 #[test]
