@@ -243,14 +243,14 @@ pub fn locate(tables: &mut [u8; 1603], site: &[u8; 256])
 
 // Puts the tables of a machine into the block: by pair the rule's output and next state (255: no rule), the suspect (255: none)
 // and the index of the first fault; by fault its output and next state; by suspect its number of choices (1 past the last).
-pub fn pack<'a>(
+pub fn pack<'a, 'b>(
     output: &'a [u8; 256],
     target: &'a [u8; 256],
-    site: &'a [u8; 256],
+    site: &'b [u8; 256],
     first: &'a [u16; 256],
     mutated: &'a [u8; 256],
     diverted: &'a [u8; 256],
-    choices: &'a [u16; 32],
+    choices: &'b [u16; 32],
     states: u8,
     inputs: u8,
     tables: &mut [u8; 1603],

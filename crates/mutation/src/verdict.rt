@@ -171,8 +171,7 @@ fn judge_read(
 {
     let n = wide(size.states);
     let k = wide(size.inputs);
-    let choices = tables.choices;
-    let sites = number(&choices, n, k);
+    let sites = number(&tables.choices, n, k);
     let count = sites.count;
     if board.len() < count {
         return Judged::Refused(16, 0);
@@ -180,22 +179,15 @@ fn judge_read(
     if sequence.len() < bound(n) as usize {
         return Judged::Refused(16, 1);
     }
-    let output = tables.output;
-    let target = tables.target;
-    let first = tables.first;
-    let mutated = tables.mutated;
-    let diverted = tables.diverted;
-    let site = sites.site;
-    let sizes = sites.slots;
     let mut block = no_block();
     pack(
-        &output,
-        &target,
-        &site,
-        &first,
-        &mutated,
-        &diverted,
-        &sizes,
+        &tables.output,
+        &tables.target,
+        &sites.site,
+        &tables.first,
+        &tables.mutated,
+        &tables.diverted,
+        &sites.slots,
         size.states,
         size.inputs,
         &mut block,
