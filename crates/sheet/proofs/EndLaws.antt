@@ -15,7 +15,7 @@ use Rattle.sheet.specs.declared.Row.{Row}
 use Rattle.sheet.specs.declared.Size.{Size}
 use Rattle.sheet.specs.declared.finish.End.the-variants.{Accepted, Refused}
 use Rattle.sheet.specs.Lists.{maybe, any, all, count}
-use Rattle.sheet.specs.Sheet.{Sheet, rowsAt, ruleAt, leads, within, allReached, unruledChoices, choicesAt, isOpen, openBelow, openPairs}
+use Rattle.sheet.specs.Sheet.{Sheet, rowsAt, ruleAt, leads, reachedWithin, allReached, unruledChoices, choicesAt, isOpen, openBelow, openPairs}
 use Rattle.sheet.specs.Reading.{firstBroken, finishing}
 use Rattle.sheet.specs.Held.{Within16, Digits, placeOf, ruleTarget, present, Leads, Marks, Follows, Linked, markOf, endOf}
 use Rattle.sheet.specs.laws.Basics.{never, both, or-right, and-both}
@@ -180,27 +180,27 @@ no-marks = record { size = refl; at = λ t h. getD-replicate 16 t 0 0 h }
 pub record Rounds (z : Size) (sh : Sheet) (j : ℕ) (ds ss : List ℕ) : Type 0 where
   pub before : ℕ → Bool
   pub done : Marks ds before
-  pub seen : Marks ss (within sh j)
-  pub follows : Follows z (sh .rules) before (within sh j)
+  pub seen : Marks ss (reachedWithin sh j)
+  pub follows : Follows z (sh .rules) before (reachedWithin sh j)
 
 pub rounds-start : (z : Size) (sh : Sheet) → Rounds z sh 0 (replicate 16 0) (set (replicate 16 0) 0 1)
-unfolding within
+unfolding reachedWithin
 rounds-start z sh = record {
   before = λ t. false;
   done = no-marks;
-  seen = marks-set (within sh 0) 0 no-marks (omega arith) (λ t e. eq-eqb t 0 e) (λ t n. ne-eqb t 0 n);
+  seen = marks-set (reachedWithin sh 0) 0 no-marks (omega arith) (λ t e. eq-eqb t 0 e) (λ t n. ne-eqb t 0 n);
   follows = record { each = λ s t k e l. never (cc) };
 }
 
-pub rounds-more : (z : Size) (sh : Sheet) (j : ℕ) {ds ss : List ℕ} → z ≡ sh .size → Marks ds (within sh j)
-    → Marks ss (rounding z (sh .rules) (within sh j) (z .states)) → Rounds z sh (j + 1) ds ss
-unfolding within
+pub rounds-more : (z : Size) (sh : Sheet) (j : ℕ) {ds ss : List ℕ} → z ≡ sh .size → Marks ds (reachedWithin sh j)
+    → Marks ss (rounding z (sh .rules) (reachedWithin sh j) (z .states)) → Rounds z sh (j + 1) ds ss
+unfolding reachedWithin
 rounds-more z sh j e = rw e (λ d m. record {
-  before = within sh j;
+  before = reachedWithin sh j;
   done = d;
-  seen = marks-same (within sh (j + 1)) m (λ t k. rw (add-one j));
+  seen = marks-same (reachedWithin sh (j + 1)) m (λ t k. rw (add-one j));
   follows = record {
-    each = λ s t k w l. rw (add-one j) (or-right (within sh j t) _ (some-any _ (sh .size .states) s k (and-both (within sh j s) _ w l)));
+    each = λ s t k w l. rw (add-one j) (or-right (reachedWithin sh j t) _ (some-any _ (sh .size .states) s k (and-both (reachedWithin sh j s) _ w l)));
   };
 })
 
@@ -230,10 +230,10 @@ unfolding openPairs
 open-all sh n e = e
 
 -- all states are found after j rounds, and after the last
-pub reached-early : (sh : Sheet) (z : Size) (j : ℕ) → z ≡ sh .size → j ≤ z .states → all (within sh j) (z .states) ≡ true → true ≡ allReached sh
+pub reached-early : (sh : Sheet) (z : Size) (j : ℕ) → z ≡ sh .size → j ≤ z .states → all (reachedWithin sh j) (z .states) ≡ true → true ≡ allReached sh
 reached-early sh z j e = rw e (λ k a. sym (all-early sh j k a))
 
-pub reached-late : (sh : Sheet) (z : Size) (j : ℕ) (r : Bool) → z ≡ sh .size → j ≡ z .states → r ≡ all (within sh j) (z .states) → r ≡ allReached sh
+pub reached-late : (sh : Sheet) (z : Size) (j : ℕ) (r : Bool) → z ≡ sh .size → j ≡ z .states → r ≡ all (reachedWithin sh j) (z .states) → r ≡ allReached sh
 unfolding allReached
 reached-late sh z j r e k h = rw (k, e) at h
 

@@ -11,7 +11,7 @@ use Rattle.sheet.specs.declared.fetch.Item.{Item}
 use Rattle.sheet.specs.declared.fetch.Taken.{Taken}
 use Rattle.sheet.specs.declared.fetch.Taken.the-variants.{Whole, Short, Nothing}
 use Rattle.sheet.specs.declared.fetch.Fetched.{Fetched}
-use Rattle.sheet.specs.Reading.{Progress, go, stop, refused, step, finishing, allowed, width, commandOf, refusal}
+use Rattle.sheet.specs.Reading.{Progress, go, stop, refused, oneCommand, finishing, allowed, width, commandOf, refusal}
 use Rattle.sheet.specs.Held.{advanced}
 use Rattle.sheet.specs.Fetch.{operandOf, itemAt, fetchBy, fetchAt, wholeAs, commandFrom}
 use Rattle.sheet.proofs.StepLaws.{step-unknown, step-short, step-end, step-go, step-refused}
@@ -115,24 +115,24 @@ module _ (s : List ℕ) (at : ℕ) where
   fetched-none = none-by (ltb at (length s)) refl (leb (at + width (getD s at 0)) (length s))
 
 module _ (p : Progress) (s : List ℕ) (at : ℕ) (k : Item) (e : ℕ) (w : WholeAt s at k e) where
-  pub unknown : allowed (p .phase) (k .byte) ≡ false → step p s at ≡ stop (refused 3 at)
+  pub unknown : allowed (p .phase) (k .byte) ≡ false → oneCommand p s at ≡ stop (refused 3 at)
   unknown a = step-unknown p s at (w .here) (rw (← w .byte) a)
 
   module _ (a : allowed (p .phase) (k .byte) ≡ true) where
-    pub ends : k .byte ≡ 6 → step p s at ≡ stop (finishing (p .sheet) s at)
+    pub ends : k .byte ≡ 6 → oneCommand p s at ≡ stop (finishing (p .sheet) s at)
     ends q = step-end p s at (w .here) (rw (← w .byte) a) (w .all) (sym (w .byte) ∙ q)
 
-    pub goes : (k .byte ≡ 6 → ⊥) → refusal (p .sheet) (commandFrom k) ≡ 0 → step p s at ≡ go (advanced p (k .byte) (commandFrom k)) e
+    pub goes : (k .byte ≡ 6 → ⊥) → refusal (p .sheet) (commandFrom k) ≡ 0 → oneCommand p s at ≡ go (advanced p (k .byte) (commandFrom k)) e
     goes q z =
         step-go p s at (w .here) (rw (← w .byte) a) (w .all) (λ x. q (w .byte ∙ x)) (ap (refusal (p .sheet)) (sym (w .says)) ∙ z)
         ∙ (λ i. go (advanced p (sym (w .byte) i) (sym (w .says) i)) (sym (w .next) i))
 
-    pub refuses : (k .byte ≡ 6 → ⊥) → (n : ℕ) → n ≡ refusal (p .sheet) (commandFrom k) → (n ≡ 0 → ⊥) → step p s at ≡ stop (refused n at)
+    pub refuses : (k .byte ≡ 6 → ⊥) → (n : ℕ) → n ≡ refusal (p .sheet) (commandFrom k) → (n ≡ 0 → ⊥) → oneCommand p s at ≡ stop (refused n at)
     refuses q n d z = step-refused p s at (w .here) (rw (← w .byte) a) (w .all) (λ x. q (w .byte ∙ x)) n (d ∙ ap (refusal (p .sheet)) (w .says)) z
 
 module _ (p : Progress) (s : List ℕ) (at b : ℕ) (w : ShortAt s at b) where
-  pub short-unknown : allowed (p .phase) b ≡ false → step p s at ≡ stop (refused 3 at)
+  pub short-unknown : allowed (p .phase) b ≡ false → oneCommand p s at ≡ stop (refused 3 at)
   short-unknown a = step-unknown p s at (w .here) (rw (← w .byte) a)
 
-  pub short-known : allowed (p .phase) b ≡ true → step p s at ≡ stop (refused 2 at)
+  pub short-known : allowed (p .phase) b ≡ true → oneCommand p s at ≡ stop (refused 2 at)
   short-known a = step-short p s at (w .here) (rw (← w .byte) a) (w .few)

@@ -16,7 +16,7 @@ use Rattle.sheet.specs.declared.scan.Done.{Done}
 use Rattle.sheet.specs.declared.scan.Verdict.the-variants.{Go, Stop}
 use Rattle.sheet.specs.Lists.{last}
 use Rattle.sheet.specs.Sheet.{Sheet, rowsAt, ruleAt, after, allReached, openPairs}
-use Rattle.sheet.specs.Reading.{Progress, Reading, accepted, refused, Outcome, go, stop, lastTest, firstBroken, refuseOr, finishing, step, from, blank, reading, summaryOf}
+use Rattle.sheet.specs.Reading.{Progress, Reading, accepted, refused, Outcome, go, stop, lastTest, firstBroken, refuseOr, finishing, oneCommand, from, blank, reading, summaryOf}
 use Rattle.sheet.specs.Tables.{readAnswer}
 use Rattle.sheet.specs.Held.{placeOf, Holds, Linked, endOf, HeldOf, HeldFor, Meets, Scanned}
 
@@ -82,23 +82,23 @@ pub record Going (s : List ℕ) (c : State) (os ts ms : List ℕ) (at : ℕ) : T
 pub going-start : (s : List ℕ) {c : State} {os ts ms : List ℕ} → Holds c os ts ms blank → Going s c os ts ms 0
 going-start s h = record { fuel = length s + 1; progress = blank; enough = omega arith; holds = h; rest = refl }
 
-from-go : (f : ℕ) (p : Progress) (s : List ℕ) (at : ℕ) (q : Progress) (e : ℕ) → step p s at ≡ go q e → from (suc f) p s at ≡ from f q s e
+from-go : (f : ℕ) (p : Progress) (s : List ℕ) (at : ℕ) (q : Progress) (e : ℕ) → oneCommand p s at ≡ go q e → from (suc f) p s at ≡ from f q s e
 unfolding from
 from-go f p s at q e h = rw h
 
-from-stop : (f : ℕ) (p : Progress) (s : List ℕ) (at : ℕ) (d : Reading) → step p s at ≡ stop d → from (suc f) p s at ≡ d
+from-stop : (f : ℕ) (p : Progress) (s : List ℕ) (at : ℕ) (d : Reading) → oneCommand p s at ≡ stop d → from (suc f) p s at ≡ d
 unfolding from
 from-stop f p s at d h = rw h
 
 module _ (s : List ℕ) (c : State) (os ts ms : List ℕ) (at : ℕ) (r : Step) (os' ts' ms' : List ℕ) (room : at ≤ length s)
-    (m : (p : Progress) → Holds c os ts ms p → Meets s at (step p s at) r os' ts' ms') where
+    (m : (p : Progress) → Holds c os ts ms p → Meets s at (oneCommand p s at) r os' ts' ms') where
   pub record Moved (e : ℕ) : Type 0 where
     pub up : at < e
     pub in' : e ≤ length s
     pub on : Going s (r .state) os' ts' ms' e
 
   moved : (f : ℕ) (p : Progress) → length s < f + at → Holds c os ts ms p → from f p s at ≡ from (length s + 1) blank s 0
-      → (o : Outcome) → step p s at ≡ o → Meets s at o r os' ts' ms' → (e : ℕ) → r .verdict ≡ Go e → Moved e
+      → (o : Outcome) → oneCommand p s at ≡ o → Meets s at o r os' ts' ms' → (e : ℕ) → r .verdict ≡ Go e → Moved e
   moved zero p k h q o w x e v = absurd (omega arith)
   moved (suc f) p k h q (go p' e') w x e v =
       let same : e' ≡ e = cc in
@@ -110,10 +110,10 @@ module _ (s : List ℕ) (c : State) (os ts ms : List ℕ) (at : ℕ) (r : Step) 
   moved (suc f) p k h q (stop d) w x e v = let z : _≡_ {A = ℕ} 0 1 = cc in absurd (omega arith)
 
   pub going-on : Going s c os ts ms at → (e : ℕ) → r .verdict ≡ Go e → Moved e
-  going-on g e v = moved (g .fuel) (g .progress) (g .enough) (g .holds) (g .rest) (step (g .progress) s at) refl (m (g .progress) (g .holds)) e v
+  going-on g e v = moved (g .fuel) (g .progress) (g .enough) (g .holds) (g .rest) (oneCommand (g .progress) s at) refl (m (g .progress) (g .holds)) e v
 
   ended : (f : ℕ) (p : Progress) → length s < f + at → Holds c os ts ms p → from f p s at ≡ from (length s + 1) blank s 0
-      → (o : Outcome) → step p s at ≡ o → Meets s at o r os' ts' ms' → (e : End) → r .verdict ≡ Stop e → Scanned (from (length s + 1) blank s 0) (record { end = e; state = r .state }) os' ts' ms'
+      → (o : Outcome) → oneCommand p s at ≡ o → Meets s at o r os' ts' ms' → (e : End) → r .verdict ≡ Stop e → Scanned (from (length s + 1) blank s 0) (record { end = e; state = r .state }) os' ts' ms'
   ended zero p k h q o w x e v = absurd (omega arith)
   ended (suc f) p k h q (go p' e') w x e v = let z : _≡_ {A = ℕ} 0 1 = cc in absurd (omega arith)
   ended (suc f) p k h q (stop d) w x e v =
@@ -122,7 +122,7 @@ module _ (s : List ℕ) (c : State) (os ts ms : List ℕ) (at : ℕ) (r : Step) 
       subst (λ (d : Reading). Scanned d (record { end = e; state = r .state }) os' ts' ms') is (record { end = same; state = x .1 })
 
   pub going-end : Going s c os ts ms at → (e : End) → r .verdict ≡ Stop e → Scanned (from (length s + 1) blank s 0) (record { end = e; state = r .state }) os' ts' ms'
-  going-end g e v = ended (g .fuel) (g .progress) (g .enough) (g .holds) (g .rest) (step (g .progress) s at) refl (m (g .progress) (g .holds)) e v
+  going-end g e v = ended (g .fuel) (g .progress) (g .enough) (g .holds) (g .rest) (oneCommand (g .progress) s at) refl (m (g .progress) (g .holds)) e v
 
 -- 1 before all else
 pub scan-long : (s : List ℕ) (c : State) (os ts ms : List ℕ) → 16384 < length s → Scanned (reading s) (record { end = Refused 1 16384; state = c }) os ts ms

@@ -189,8 +189,8 @@ doing p s at b =
     (stop (refused (refusal (p .sheet) (commandOf b s at)) at)))
 
 -- one command: 2 if no command byte is there, 3 if it may not stand here, 2 if operands are missing, then its own rules
-unfoldable pub step : Progress → List ℕ → ℕ → Outcome
-step p s at =
+unfoldable pub oneCommand : Progress → List ℕ → ℕ → Outcome
+oneCommand p s at =
     cond (leb (length s) at) (stop (refused 2 (length s)))
     (cond (not (allowed (p .phase) (getD s at 0))) (stop (refused 3 at))
     (cond (ltb (length s) (at + width (getD s at 0))) (stop (refused 2 at))
@@ -204,7 +204,7 @@ resume (stop r) f = r
 -- law `refusal-numbers`)
 unfoldable pub from : ℕ → Progress → List ℕ → ℕ → Reading
 from zero p s at = refused 0 0
-from (suc fuel) p s at = resume (step p s at) (λ q next. from fuel q s next)
+from (suc fuel) p s at = resume (oneCommand p s at) (λ q next. from fuel q s next)
 
 unfoldable pub blank : Progress
 blank =

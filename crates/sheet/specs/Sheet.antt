@@ -47,13 +47,13 @@ unfoldable pub leads : List Row → ℕ → ℕ → ℕ → Bool
 leads rules s x t = maybe (ruleAt rules s x) false (λ r. eqb (r .target) t)
 
 -- states that at most j inputs along RULEs reach from 0
-unfoldable pub within : Sheet → ℕ → ℕ → Bool
-within sh zero t = eqb t 0
-within sh (suc j) t =
-    within sh j t || any (λ s. within sh j s && any (λ x. leads (sh .rules) s x t) (sh .size .inputs)) (sh .size .states)
+unfoldable pub reachedWithin : Sheet → ℕ → ℕ → Bool
+reachedWithin sh zero t = eqb t 0
+reachedWithin sh (suc j) t =
+    reachedWithin sh j t || any (λ s. reachedWithin sh j s && any (λ x. leads (sh .rules) s x t) (sh .size .inputs)) (sh .size .states)
 
 unfoldable pub allReached : Sheet → Bool
-allReached sh = all (within sh (sh .size .states)) (sh .size .states)
+allReached sh = all (reachedWithin sh (sh .size .states)) (sh .size .states)
 
 -- how many choices a pair without a RULE has: every output with every next state
 unfoldable pub unruledChoices : Sheet → ℕ

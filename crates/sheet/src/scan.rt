@@ -4,7 +4,7 @@ ghost use mathlib.Core.Bool.{true};
 ghost use mathlib.Core.List.{List};
 ghost use Prim.Native.Nat.{ℕ, _+_};
 ghost use lib.ListN.{length, replicate};
-ghost use Rattle.sheet.specs.Reading.{Progress, allowed, blank, step, from};
+ghost use Rattle.sheet.specs.Reading.{Progress, allowed, blank, oneCommand, from};
 ghost use Rattle.sheet.specs.Fetch.{fetchAt, wholeAs};
 ghost use Rattle.sheet.specs.Reading as reading;
 ghost use Rattle.sheet.specs.Tables.{readAnswer};
@@ -67,7 +67,7 @@ fn obey(
     requires { ⌜ (fetchAt (now sheet) at ≡ wholeAs item next) × (allowed (state .phase) (item .byte) ≡ true)
         × ((p : Progress) × Holds state (now output) (now target) (now faulty) p) ⌝ }
     ensures { λ r. ⌜ ((p : Progress) → Holds state (now (output .entry)) (now (target .entry)) (now (faulty .entry)) p
-        → Meets (now (sheet .entry)) at (step p (now (sheet .entry)) at) r (now (output .exit)) (now (target .exit)) (now (faulty .exit))) ⌝ }
+        → Meets (now (sheet .entry)) at (oneCommand p (now (sheet .entry)) at) r (now (output .exit)) (now (target .exit)) (now (faulty .exit))) ⌝ }
 {
     if item.byte == 6 {
         let size = state.size;
@@ -101,7 +101,7 @@ fn command(
 ) -> Step
     requires { ⌜ ((p : Progress) × Holds state (now output) (now target) (now faulty) p) ⌝ }
     ensures { λ r. ⌜ ((p : Progress) → Holds state (now (output .entry)) (now (target .entry)) (now (faulty .entry)) p
-        → Meets (now (sheet .entry)) at (step p (now (sheet .entry)) at) r (now (output .exit)) (now (target .exit)) (now (faulty .exit))) ⌝ }
+        → Meets (now (sheet .entry)) at (oneCommand p (now (sheet .entry)) at) r (now (output .exit)) (now (target .exit)) (now (faulty .exit))) ⌝ }
 {
     let f = fetch_from(sheet, at);
     let next = f.next;

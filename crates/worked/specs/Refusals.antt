@@ -5,8 +5,8 @@ use mathlib.Core.Path.{_≡_, refl}
 use mathlib.Core.List.{List, [], _∷_, _++_, map}
 use lib.ListN.{replicate}
 use Rattle.sheet.specs.Lists.{last, precedes, count, any, all}
-use Rattle.sheet.specs.Sheet.{rowsAt, ruleAt, after, leads, within, allReached, unruledChoices, choicesAt, isOpen, openBelow, openPairs}
-use Rattle.sheet.specs.Reading.{refused, firstBroken, ascends, lastTest, ruleAfter, refusal, addPress, advance, finishing, doing, step, from, blank, reading}
+use Rattle.sheet.specs.Sheet.{rowsAt, ruleAt, after, leads, reachedWithin, allReached, unruledChoices, choicesAt, isOpen, openBelow, openPairs}
+use Rattle.sheet.specs.Reading.{refused, firstBroken, ascends, lastTest, ruleAfter, refusal, addPress, advance, finishing, doing, oneCommand, from, blank, reading}
 use Rattle.sheet.specs.Encode.{pressBytes}
 
 -- a sheet, and the number and place that it is refused with
@@ -65,5 +65,5 @@ refusals =
     ∷ []
 
 pub refusals-told : map (λ (r : Refusal). reading (r .sheet)) refusals ≡ map (λ (r : Refusal). refused (r .number) (r .place)) refusals
-unfolding refusals presses last precedes count any all rowsAt ruleAt after leads within allReached unruledChoices choicesAt isOpen openBelow openPairs firstBroken ascends lastTest ruleAfter refusal addPress advance finishing doing step from blank reading pressBytes
+unfolding refusals presses last precedes count any all rowsAt ruleAt after leads reachedWithin allReached unruledChoices choicesAt isOpen openBelow openPairs firstBroken ascends lastTest ruleAfter refusal addPress advance finishing doing oneCommand from blank reading pressBytes
 refusals-told = refl

@@ -8,8 +8,8 @@ use lib.ListN.{length, getD, take, drop, replicate}
 use Rattle.sheet.specs.declared.Summary.{Summary}
 use Rattle.sheet.specs.declared.Span.{Span}
 use Rattle.sheet.specs.Lists.{last, precedes, count, any, all, upTo, joined}
-use Rattle.sheet.specs.Sheet.{Sheet, rowsAt, ruleAt, after, leads, within as reachedWithin, allReached, unruledChoices, choicesAt, isOpen, openBelow, openPairs}
-use Rattle.sheet.specs.Reading.{Result, accepted, refused, firstBroken, ascends, lastTest, ruleAfter, refusal, addPress, advance, finishing, doing, step as command, from, blank, reading, summaryOf}
+use Rattle.sheet.specs.Sheet.{Sheet, rowsAt, ruleAt, after, leads, reachedWithin, allReached, unruledChoices, choicesAt, isOpen, openBelow, openPairs}
+use Rattle.sheet.specs.Reading.{Result, accepted, refused, firstBroken, ascends, lastTest, ruleAfter, refusal, addPress, advance, finishing, doing, oneCommand, from, blank, reading, summaryOf}
 use Rattle.sheet.specs.Encode.{rowBytes, pressBytes, testBytes, sizeBytes, machineBytes}
 use Rattle.sheet.specs.Part.{spanOf, parting}
 use Rattle.sheet.specs.laws.Accepted.{well-formed}
@@ -131,23 +131,23 @@ rows = listed ++ (judged p10 4 16 (accepted complete) ∷ further)
 -- P10's eight conforming mutants that pass are compared over all sequences of 16 inputs: a quicker judgement, proved to be
 -- the same, computes it
 sheet10 : Sheet
-unfolding p1machine p1 p2 p3 emptyTest p4machine p4 p5 p6 p9machine bababa p9 p10 stuck chain open32 open33 manyTests last precedes count any all upTo joined rowsAt ruleAt after leads reachedWithin allReached unruledChoices choicesAt isOpen openBelow openPairs firstBroken ascends lastTest ruleAfter refusal addPress advance finishing doing command from blank reading summaryOf rowBytes pressBytes testBytes sizeBytes machineBytes spanOf parting outputsFrom specifiedFrom rule unruled transitions suspects slots siteIn siteOf choiceLists mutants step initial outputs specified least shows within best shortest distance compareFrom comparePair firstWrong wrongIn firstFailedIn firstFailedOf compareOf survivorAmong judgeOf firstHigh firstOver withMutant running failing comparing judging
+unfolding p1machine p1 p2 p3 emptyTest p4machine p4 p5 p6 p9machine bababa p9 p10 stuck chain open32 open33 manyTests last precedes count any all upTo joined rowsAt ruleAt after leads reachedWithin allReached unruledChoices choicesAt isOpen openBelow openPairs firstBroken ascends lastTest ruleAfter refusal addPress advance finishing doing oneCommand from blank reading summaryOf rowBytes pressBytes testBytes sizeBytes machineBytes spanOf parting outputsFrom specifiedFrom rule unruled transitions suspects slots siteIn siteOf choiceLists mutants step initial outputs specified least shows within best shortest distance compareFrom comparePair firstWrong wrongIn firstFailedIn firstFailedOf compareOf survivorAmong judgeOf firstHigh firstOver withMutant running failing comparing judging
 sheet10 = sheetOf (reading p10)
 
 p10-read : reading p10 ≡ accepted sheet10
-unfolding sheet10 p1machine p1 p2 p3 emptyTest p4machine p4 p5 p6 p9machine bababa p9 p10 stuck chain open32 open33 manyTests last precedes count any all upTo joined rowsAt ruleAt after leads reachedWithin allReached unruledChoices choicesAt isOpen openBelow openPairs firstBroken ascends lastTest ruleAfter refusal addPress advance finishing doing command from blank reading summaryOf rowBytes pressBytes testBytes sizeBytes machineBytes spanOf parting outputsFrom specifiedFrom rule unruled transitions suspects slots siteIn siteOf choiceLists mutants step initial outputs specified least shows within best shortest distance compareFrom comparePair firstWrong wrongIn firstFailedIn firstFailedOf compareOf survivorAmong judgeOf firstHigh firstOver withMutant running failing comparing judging
+unfolding sheet10 p1machine p1 p2 p3 emptyTest p4machine p4 p5 p6 p9machine bababa p9 p10 stuck chain open32 open33 manyTests last precedes count any all upTo joined rowsAt ruleAt after leads reachedWithin allReached unruledChoices choicesAt isOpen openBelow openPairs firstBroken ascends lastTest ruleAfter refusal addPress advance finishing doing oneCommand from blank reading summaryOf rowBytes pressBytes testBytes sizeBytes machineBytes spanOf parting outputsFrom specifiedFrom rule unruled transitions suspects slots siteIn siteOf choiceLists mutants step initial outputs specified least shows within best shortest distance compareFrom comparePair firstWrong wrongIn firstFailedIn firstFailedOf compareOf survivorAmong judgeOf firstHigh firstOver withMutant running failing comparing judging
 p10-read = refl
 
 p10-judged : judgeOf sheet10 ≡ complete
-unfolding sheet10 p1machine p1 p2 p3 emptyTest p4machine p4 p5 p6 p9machine bababa p9 p10 stuck chain open32 open33 manyTests last precedes count any all upTo joined rowsAt ruleAt after leads reachedWithin allReached unruledChoices choicesAt isOpen openBelow openPairs firstBroken ascends lastTest ruleAfter refusal addPress advance finishing doing command from blank reading summaryOf rowBytes pressBytes testBytes sizeBytes machineBytes spanOf parting outputsFrom specifiedFrom rule unruled transitions suspects slots siteIn siteOf choiceLists mutants step initial outputs specified least shows within best shortest distance compareFrom comparePair firstWrong wrongIn firstFailedIn firstFailedOf compareOf survivorAmong judgeOf firstHigh firstOver withMutant running failing comparing judging tabulate cellAt rounds compareQuick firstQuick judgeQuick
+unfolding sheet10 p1machine p1 p2 p3 emptyTest p4machine p4 p5 p6 p9machine bababa p9 p10 stuck chain open32 open33 manyTests last precedes count any all upTo joined rowsAt ruleAt after leads reachedWithin allReached unruledChoices choicesAt isOpen openBelow openPairs firstBroken ascends lastTest ruleAfter refusal addPress advance finishing doing oneCommand from blank reading summaryOf rowBytes pressBytes testBytes sizeBytes machineBytes spanOf parting outputsFrom specifiedFrom rule unruled transitions suspects slots siteIn siteOf choiceLists mutants step initial outputs specified least shows within best shortest distance compareFrom comparePair firstWrong wrongIn firstFailedIn firstFailedOf compareOf survivorAmong judgeOf firstHigh firstOver withMutant running failing comparing judging tabulate cellAt rounds compareQuick firstQuick judgeQuick
 p10-judged = quick sheet10 (well-formed p10 sheet10 p10-read)
 
 p10-holds : judging p10 4 16 ≡ accepted complete
-unfolding sheet10 p1machine p1 p2 p3 emptyTest p4machine p4 p5 p6 p9machine bababa p9 p10 stuck chain open32 open33 manyTests last precedes count any all upTo joined rowsAt ruleAt after leads reachedWithin allReached unruledChoices choicesAt isOpen openBelow openPairs firstBroken ascends lastTest ruleAfter refusal addPress advance finishing doing command from blank reading summaryOf rowBytes pressBytes testBytes sizeBytes machineBytes spanOf parting outputsFrom specifiedFrom rule unruled transitions suspects slots siteIn siteOf choiceLists mutants step initial outputs specified least shows within best shortest distance compareFrom comparePair firstWrong wrongIn firstFailedIn firstFailedOf compareOf survivorAmong judgeOf firstHigh firstOver withMutant running failing comparing judging
+unfolding sheet10 p1machine p1 p2 p3 emptyTest p4machine p4 p5 p6 p9machine bababa p9 p10 stuck chain open32 open33 manyTests last precedes count any all upTo joined rowsAt ruleAt after leads reachedWithin allReached unruledChoices choicesAt isOpen openBelow openPairs firstBroken ascends lastTest ruleAfter refusal addPress advance finishing doing oneCommand from blank reading summaryOf rowBytes pressBytes testBytes sizeBytes machineBytes spanOf parting outputsFrom specifiedFrom rule unruled transitions suspects slots siteIn siteOf choiceLists mutants step initial outputs specified least shows within best shortest distance compareFrom comparePair firstWrong wrongIn firstFailedIn firstFailedOf compareOf survivorAmong judgeOf firstHigh firstOver withMutant running failing comparing judging
 p10-holds = ap accepted p10-judged
 
 pub rows-hold : AllHold rows
-unfolding rows listed further Holds AllHold p1machine p1 p2 p3 emptyTest p4machine p4 p5 p6 p9machine bababa p9 p10 stuck chain open32 open33 manyTests last precedes count any all upTo joined rowsAt ruleAt after leads reachedWithin allReached unruledChoices choicesAt isOpen openBelow openPairs firstBroken ascends lastTest ruleAfter refusal addPress advance finishing doing command from blank reading summaryOf rowBytes pressBytes testBytes sizeBytes machineBytes spanOf parting outputsFrom specifiedFrom rule unruled transitions suspects slots siteIn siteOf choiceLists mutants step initial outputs specified least shows within best shortest distance compareFrom comparePair firstWrong wrongIn firstFailedIn firstFailedOf compareOf survivorAmong judgeOf firstHigh firstOver withMutant running failing comparing judging
+unfolding rows listed further Holds AllHold p1machine p1 p2 p3 emptyTest p4machine p4 p5 p6 p9machine bababa p9 p10 stuck chain open32 open33 manyTests last precedes count any all upTo joined rowsAt ruleAt after leads reachedWithin allReached unruledChoices choicesAt isOpen openBelow openPairs firstBroken ascends lastTest ruleAfter refusal addPress advance finishing doing oneCommand from blank reading summaryOf rowBytes pressBytes testBytes sizeBytes machineBytes spanOf parting outputsFrom specifiedFrom rule unruled transitions suspects slots siteIn siteOf choiceLists mutants step initial outputs specified least shows within best shortest distance compareFrom comparePair firstWrong wrongIn firstFailedIn firstFailedOf compareOf survivorAmong judgeOf firstHigh firstOver withMutant running failing comparing judging
 rows-hold = (
   refl,
   (

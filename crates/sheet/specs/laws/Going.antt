@@ -7,7 +7,7 @@ use native.Mathlib.Omega.{arith}
 use lib.ListN.{length}
 use borrow.Author.Tests.{lt-leb, le-leb, le-ltb}
 use Rattle.sheet.specs.Sheet.{Sheet, allReached, openPairs}
-use Rattle.sheet.specs.Reading.{accepted, Progress, go, stop, finishing, doing, step, from, blank, reading}
+use Rattle.sheet.specs.Reading.{accepted, Progress, go, stop, finishing, doing, oneCommand, from, blank, reading}
 use Rattle.sheet.specs.laws.Basics.{unbroken-all}
 use Rattle.sheet.specs.laws.Steps.{Moves, by-size, by-rule, by-fault, by-test, by-press, moves-on, Ends, checks}
 
@@ -24,8 +24,8 @@ going-start s k = record { fuel = length s + 1; enough = omega arith; rest = rw 
 
 module _ {p : Progress} {s : List ℕ} {at : ℕ} where
   -- a command that may stand here leads on
-  pub stepped : {q : Progress} {e : ℕ} → Moves p s at q e → step p s at ≡ go q e
-  unfolding step doing
+  pub stepped : {q : Progress} {e : ℕ} → Moves p s at q e → oneCommand p s at ≡ go q e
+  unfolding oneCommand doing
   stepped (by-size m) =
       rw (lt-leb (length s) at (omega arith), m .byte, le-leb 0 (p .phase) (m .early), le-leb (p .phase) 0 (m .late), le-ltb (length s) (at + 4) (m .room), m .right)
   stepped (by-rule m) =
@@ -38,8 +38,8 @@ module _ {p : Progress} {s : List ℕ} {at : ℕ} where
       rw (lt-leb (length s) at (omega arith), m .byte, le-leb 4 (p .phase) (m .early), le-leb (p .phase) 4 (m .late), le-ltb (length s) (at + 2) (m .room), m .right)
 
   -- END stops it
-  pub stopped : Ends p s at → step p s at ≡ stop (finishing (p .sheet) s at)
-  unfolding step doing
+  pub stopped : Ends p s at → oneCommand p s at ≡ stop (finishing (p .sheet) s at)
+  unfolding oneCommand doing
   stopped m = rw (lt-leb (length s) at (omega arith), m .byte, le-leb 1 (p .phase) (m .early), le-leb (p .phase) 4 (m .late), le-ltb (length s) (at + 1) (m .room))
 
   -- with one command more

@@ -1,4 +1,4 @@
--- The rounds of `within` find the states that some input sequence along rules leads to.
+-- The rounds of `reachedWithin` find the states that some input sequence along rules leads to.
 use mathlib.Core.Path.{_≡_, refl, ap, sym, _∙_, subst}
 use mathlib.Core.Bool.{Bool, true, false, _||_, _&&_, cond}
 use mathlib.Core.Logic.{⊎-elim}
@@ -10,7 +10,7 @@ use lib.Dec.{eqb}
 use borrow.Author.Tests.{eqb-true, eqb-false, eq-eqb}
 use Rattle.sheet.specs.declared.Row.{Row}
 use Rattle.sheet.specs.Lists.{maybe, All, count, any, all}
-use Rattle.sheet.specs.Sheet.{Sheet, ruleAt, after, leads, within, allReached}
+use Rattle.sheet.specs.Sheet.{Sheet, ruleAt, after, leads, reachedWithin, allReached}
 use Rattle.sheet.specs.WellFormed.{RowIn, Reachable}
 use Rattle.sheet.specs.laws.Basics.{never, both, either, or-left, or-right, and-both}
 use Rattle.sheet.specs.laws.Rows.{rule-at, rule-has, after-snoc}
@@ -118,28 +118,28 @@ module _ (sh : Sheet) where
   round : (ℕ → Bool) → ℕ → Bool
   round g t = any (λ s. g s && any (λ x. leads (sh .rules) s x t) (sh .size .inputs)) (sh .size .states)
 
-  within-suc : (j t : ℕ) → within sh (suc j) t ≡ within sh j t || round (within sh j) t
-  unfolding within round
+  within-suc : (j t : ℕ) → reachedWithin sh (suc j) t ≡ reachedWithin sh j t || round (reachedWithin sh j) t
+  unfolding reachedWithin round
   within-suc j t = refl
 
-  within-up : (j t : ℕ) → within sh j t ≡ true → within sh (suc j) t ≡ true
-  within-up j t e = rw within-suc (or-left (within sh j t) (round (within sh j) t) e)
+  within-up : (j t : ℕ) → reachedWithin sh j t ≡ true → reachedWithin sh (suc j) t ≡ true
+  within-up j t e = rw within-suc (or-left (reachedWithin sh j t) (round (reachedWithin sh j) t) e)
 
   -- the rounds may end once every state is found
-  pub all-early : (j : ℕ) → j ≤ sh .size .states → all (within sh j) (sh .size .states) ≡ true → allReached sh ≡ true
+  pub all-early : (j : ℕ) → j ≤ sh .size .states → all (reachedWithin sh j) (sh .size .states) ≡ true → allReached sh ≡ true
   unfolding allReached
   all-early j k e =
       each-all _ (sh .size .states)
-      (λ t i. onward {P = λ m. within sh m t ≡ true} (λ m. within-up m t) (sh .size .states) j k (all-each _ (sh .size .states) e t i))
+      (λ t i. onward {P = λ m. reachedWithin sh m t ≡ true} (λ m. within-up m t) (sh .size .states) j k (all-each _ (sh .size .states) e t i))
 
-  within-start : (j : ℕ) → within sh j 0 ≡ true
-  unfolding within
+  within-start : (j : ℕ) → reachedWithin sh j 0 ≡ true
+  unfolding reachedWithin
   within-start zero = refl
   within-start (suc j) = within-up j 0 (within-start j)
 
   -- a round that finds nothing new
   record Stable (j : ℕ) : Type 0 where
-    same-states : (t : ℕ) → t < sh .size .states → within sh (suc j) t ≡ within sh j t
+    same-states : (t : ℕ) → t < sh .size .states → reachedWithin sh (suc j) t ≡ reachedWithin sh j t
 
   stable-suc : (j : ℕ) → Stable j → Stable (suc j)
   unfolding round
@@ -148,26 +148,26 @@ module _ (sh : Sheet) where
         rw (within-suc (suc j) t, again t, h .same-states t k) (sym (within-suc j t) ∙ h .same-states t k);
   }
     where
-      again : (t : ℕ) → round (within sh (suc j)) t ≡ round (within sh j) t
+      again : (t : ℕ) → round (reachedWithin sh (suc j)) t ≡ round (reachedWithin sh j) t
       again t = any-same _ _ (sh .size .states) (λ s k. rw (h .same-states s k))
 
   data Found (j : ℕ) : Type 0 where
     stable : (i : ℕ) → i ≤ j → Stable i → Found j
-    many : suc j ≤ count (within sh j) (sh .size .states) → Found j
+    many : suc j ≤ count (reachedWithin sh j) (sh .size .states) → Found j
 
   module _ (some-state : 0 < sh .size .states) where
     -- each round before a stable one finds a state more
     found : (j : ℕ) → Found j
-    found zero = many (count-one (within sh 0) (sh .size .states) some-state (within-start 0))
+    found zero = many (count-one (reachedWithin sh 0) (sh .size .states) some-state (within-start 0))
     found (suc j) = one (found j)
       where
-        next : suc j ≤ count (within sh j) (sh .size .states) → Grows (within sh j) (within sh (suc j)) (sh .size .states) → Found (suc j)
+        next : suc j ≤ count (reachedWithin sh j) (sh .size .states) → Grows (reachedWithin sh j) (reachedWithin sh (suc j)) (sh .size .states) → Found (suc j)
         next k (same e) = stable j (omega arith) (record { same-states = e })
         next k (more e) = many (omega arith)
 
         one : Found j → Found (suc j)
         one (stable i k e) = stable i (omega arith) e
-        one (many k) = next k (grows (within sh j) (within sh (suc j)) (sh .size .states) (record { each = λ i _ e. within-up j i e }))
+        one (many k) = next k (grows (reachedWithin sh j) (reachedWithin sh (suc j)) (sh .size .states) (record { each = λ i _ e. within-up j i e }))
 
     -- after as many rounds as states nothing new comes
     settled : Stable (sh .size .states)
@@ -175,26 +175,26 @@ module _ (sh : Sheet) where
       where
         one : Found (sh .size .states) → Stable (sh .size .states)
         one (stable i k e) = onward stable-suc (sh .size .states) i k e
-        one (many k) = let most = count-most (within sh (sh .size .states)) (sh .size .states) in absurd (omega arith)
+        one (many k) = let most = count-most (reachedWithin sh (sh .size .states)) (sh .size .states) in absurd (omega arith)
 
     closed : (s x t : ℕ) → s < sh .size .states → x < sh .size .inputs → t < sh .size .states → leads (sh .rules) s x t ≡ true
-        → within sh (sh .size .states) s ≡ true → within sh (sh .size .states) t ≡ true
+        → reachedWithin sh (sh .size .states) s ≡ true → reachedWithin sh (sh .size .states) t ≡ true
     unfolding round
     closed s x t ks kx kt l e =
-        let g = within sh (sh .size .states) in
+        let g = reachedWithin sh (sh .size .states) in
         let inner : any (λ y. leads (sh .rules) s y t) (sh .size .inputs) ≡ true = some-any _ (sh .size .inputs) x kx l in
         let outer : round g t ≡ true = some-any _ (sh .size .states) s ks (and-both (g s) _ e inner) in
         sym (settled .same-states t kt) ∙ (within-suc (sh .size .states) t ∙ or-right (g t) (round g t) outer)
 
     module _ (in-range : All (RowIn (sh .size)) (sh .rules)) where
-      goes-on : (xs : List ℕ) (s t : ℕ) → s < sh .size .states → within sh (sh .size .states) s ≡ true → after (sh .rules) s xs ≡ some t → within sh (sh .size .states) t ≡ true
+      goes-on : (xs : List ℕ) (s t : ℕ) → s < sh .size .states → reachedWithin sh (sh .size .states) s ≡ true → after (sh .rules) s xs ≡ some t → reachedWithin sh (sh .size .states) t ≡ true
       unfolding after leads
       goes-on [] s t k e a = let same : s ≡ t = cc in rw (← same) e
       goes-on (x ∷ xs) s t k e a = one (ruleAt (sh .rules) s x) refl a (λ u. goes-on xs u t)
         where
           one : (o : Option Row) → ruleAt (sh .rules) s x ≡ o → maybe o none (λ r. after (sh .rules) (r .target) xs) ≡ some t
-              → ((u : ℕ) → u < sh .size .states → within sh (sh .size .states) u ≡ true → after (sh .rules) u xs ≡ some t → within sh (sh .size .states) t ≡ true)
-              → within sh (sh .size .states) t ≡ true
+              → ((u : ℕ) → u < sh .size .states → reachedWithin sh (sh .size .states) u ≡ true → after (sh .rules) u xs ≡ some t → reachedWithin sh (sh .size .states) t ≡ true)
+              → reachedWithin sh (sh .size .states) t ≡ true
           one none q a ih = never (cc)
           one (some r) q a ih =
               let i = rule-has s x (RowIn (sh .size)) (sh .rules) r in-range q in
@@ -204,7 +204,7 @@ module _ (sh : Sheet) where
       -- every state that a sequence reaches is found
       pub each-reached : ((t : ℕ) → t < sh .size .states → Reachable sh t) → allReached sh ≡ true
       unfolding allReached
-      each-reached h = each-all (within sh (sh .size .states)) (sh .size .states) (λ t k. let r = h t k in goes-on (r .inputs) 0 t some-state (within-start (sh .size .states)) (r .leads))
+      each-reached h = each-all (reachedWithin sh (sh .size .states)) (sh .size .states) (λ t k. let r = h t k in goes-on (r .inputs) 0 t some-state (within-start (sh .size .states)) (r .leads))
 
   one-more : (xs : List ℕ) (s x t : ℕ) → after (sh .rules) 0 xs ≡ some s → leads (sh .rules) s x t ≡ true → after (sh .rules) 0 (xs ++ x ∷ []) ≡ some t
   unfolding leads
@@ -214,15 +214,15 @@ module _ (sh : Sheet) where
       one none e = never (cc)
       one (some r) e = ap (λ (u : ℕ). some u) (eqb-true (r .target) t e)
 
-  sound : (j t : ℕ) → within sh j t ≡ true → Reachable sh t
-  unfolding within after round
+  sound : (j t : ℕ) → reachedWithin sh j t ≡ true → Reachable sh t
+  unfolding reachedWithin after round
   sound zero t e = record { inputs = []; leads = ap (λ (u : ℕ). some u) (sym (eqb-true t 0 e)) }
-  sound (suc j) t e = ⊎-elim (sound j t) (λ q. one q (sound j)) (either (within sh j t) (round (within sh j) t) e)
+  sound (suc j) t e = ⊎-elim (sound j t) (λ q. one q (sound j)) (either (reachedWithin sh j t) (round (reachedWithin sh j) t) e)
     where
-      one : round (within sh j) t ≡ true → ((s : ℕ) → within sh j s ≡ true → Reachable sh s) → Reachable sh t
+      one : round (reachedWithin sh j) t ≡ true → ((s : ℕ) → reachedWithin sh j s ≡ true → Reachable sh s) → Reachable sh t
       one q ih =
           let (s, ks, w) = any-some _ (sh .size .states) q in
-          let v = both (within sh j s) _ w in
+          let v = both (reachedWithin sh j s) _ w in
           let (x, kx, l) = any-some _ (sh .size .inputs) (v .1) in
           let r = ih s (v .0) in
           record { inputs = r .inputs ++ x ∷ []; leads = one-more (r .inputs) s x t (r .leads) l }
@@ -230,4 +230,4 @@ module _ (sh : Sheet) where
   -- every state that is found is reached by a sequence
   pub reached-each : allReached sh ≡ true → (t : ℕ) → t < sh .size .states → Reachable sh t
   unfolding allReached
-  reached-each e t k = sound (sh .size .states) t (all-each (within sh (sh .size .states)) (sh .size .states) e t k)
+  reached-each e t k = sound (sh .size .states) t (all-each (reachedWithin sh (sh .size .states)) (sh .size .states) e t k)

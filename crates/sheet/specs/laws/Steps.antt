@@ -8,7 +8,7 @@ use lib.ListN.{length, getD}
 use lib.Dec.{leb, ltb, eqb}
 use borrow.Author.Tests.{leb-true, leb-false, ltb-true, ltb-false, eqb-true, eqb-false, ne-eqb, not-false}
 use Rattle.sheet.specs.Sheet.{Sheet, allReached, openPairs}
-use Rattle.sheet.specs.Reading.{accepted, refused, Reading, Command, size, rule, fault, test, press, end, Progress, Outcome, go, stop, unsized, sized, ruled, faulted, testing, during, allowed, width, rowAt, sizeAt, firstBroken, refusal, advance, refuseOr, finishing, doing, step, resume, from, blank, reading}
+use Rattle.sheet.specs.Reading.{accepted, refused, Reading, Command, size, rule, fault, test, press, end, Progress, Outcome, go, stop, unsized, sized, ruled, faulted, testing, during, allowed, width, rowAt, sizeAt, firstBroken, refusal, advance, refuseOr, finishing, doing, oneCommand, resume, from, blank, reading}
 use Rattle.sheet.specs.laws.Basics.{never, both, broken-most, unbroken}
 
 -- a command with the byte b stands at a place, in one of its phases, with its operands, and breaks no rule
@@ -113,8 +113,8 @@ module _ (p : Progress) (s : List ℕ) (at : ℕ) where
   done b k6 e a k = ends (stands 6 _ _ end e a k (refusal-end (p .sheet)))
 
   -- every outcome of one command is one of these
-  pub case : Case p s at (step p s at)
-  unfolding step
+  pub case : Case p s at (oneCommand p s at)
+  unfolding oneCommand
   case = here (leb (length s) at) refl
     where
       b : ℕ
@@ -184,7 +184,7 @@ module _ (Inv : Progress → ℕ → Type 0) (s : List ℕ) where
     ending-from : (fuel : ℕ) (p : Progress) (at : ℕ) → length s < fuel + at → at ≤ length s → Inv p at → Ending Inv s (from fuel p s at)
     unfolding from
     ending-from zero p at k h i = absurd (omega arith)
-    ending-from (suc fuel) p at k h i = one (step p s at) (case p s at) (λ q e. ending-from fuel q e)
+    ending-from (suc fuel) p at k h i = one (oneCommand p s at) (case p s at) (λ q e. ending-from fuel q e)
       where
         one : (o : Outcome) → Case p s at o → ((q : Progress) (e : ℕ) → length s < fuel + e → e ≤ length s → Inv q e → Ending Inv s (from fuel q s e))
             → Ending Inv s (resume o (λ q e. from fuel q s e))

@@ -1,4 +1,4 @@
-use Rattle.sheet.specs.Sheet.{Sheet, within}
+use Rattle.sheet.specs.Sheet.{Sheet, reachedWithin}
 use Rattle.sheet.specs.Held.{Leads}
 use Prim.Native.Nat.{_-_, _≤_}
 use Rattle.sheet.proofs.EndLaws as laws
@@ -24,7 +24,7 @@ all-marked-requires : tie.Need-all-marked-requires Inv-loop μ-loop
 all-marked-requires c κs = c .before .before .pre .states
 
 returns : tie.Need-returns Inv-loop μ-loop
-returns c = λ sh e h. laws.reached-early sh _ _ e (omega arith) (sym (c .before .all-marked .ensures (within sh _) (c .before .before .before .loop .inv .1 sh e h .seen)) ∙ c .if1 .taken)
+returns c = λ sh e h. laws.reached-early sh _ _ e (omega arith) (sym (c .before .all-marked .ensures (reachedWithin sh _) (c .before .before .before .loop .inv .1 sh e h .seen)) ∙ c .if1 .taken)
 
 round-requires : tie.Need-round-requires Inv-loop μ-loop
 round-requires c κs = c .before .before .before .before .pre
@@ -40,14 +40,14 @@ loop-again c = (
   omega arith,
   λ sh e h.
       let r = c .before .before .before .before .loop .inv .1 sh e h in
-      laws.rounds-more (c .before .before .before .before .before .args .size) sh _ e (r .seen) (c .round .ensures (sh .rules) (r .before) (within sh _) h (r .done) (r .seen) (r .follows)),
+      laws.rounds-more (c .before .before .before .before .before .args .size) sh _ e (r .seen) (c .round .ensures (sh .rules) (r .before) (reachedWithin sh _) h (r .done) (r .seen) (r .follows)),
 )
 
 all-marked-requires-2 : tie.Need-all-marked-requires-2 Inv-loop μ-loop
 all-marked-requires-2 c κs = c .before .before .pre .states
 
 returns-2 : tie.Need-returns-2 Inv-loop μ-loop
-returns-2 c = λ sh e h. laws.reached-late sh _ _ _ e (omega arith) (c .all-marked2 .ensures (within sh _) (c .before .before .loop .inv .1 sh e h .seen))
+returns-2 c = λ sh e h. laws.reached-late sh _ _ _ e (omega arith) (c .all-marked2 .ensures (reachedWithin sh _) (c .before .before .loop .inv .1 sh e h .seen))
 
 pub all-reached-spec : {M : Type 1} → statement M
 all-reached-spec =
