@@ -13,8 +13,3 @@ pub mod FitsLaw
 pub mod Operating
 pub mod SuiteBytes
 pub mod Opened
-pub mod BlockLaw
-pub mod PackedLaw
-pub mod SearchLaw
-pub mod SurviveLaw
-pub mod JudgingLaw

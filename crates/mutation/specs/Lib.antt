@@ -1,11 +1,7 @@
 pub mod Answers
 pub mod Operate
-pub mod Judging
 pub mod Tables
 pub mod Sites
 pub mod Mutants
 pub mod Tests
 pub mod Fits
-pub mod Block
-pub mod Search
-pub mod Survive

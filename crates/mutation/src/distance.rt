@@ -71,7 +71,7 @@ const SQUARES: [u16; 16] = [
     256,
 ];
 
-pub(crate) fn bound(n: usize) -> u16
+pub fn bound(n: usize) -> u16
     requires { ⌜ (0 < n) × (n ≤ 16) ⌝ }
     ensures { λ r. ⌜ r ≡ n * n ⌝ }
 {
@@ -208,7 +208,7 @@ fn unmarked() -> [u16; 256]
 
 // Conforming, or the shortest, then smallest, distinguishing sequence, written at the front of buf. Each turn asks whether the
 // states to start from are j + 1 apart before it finds out which others are.
-pub(crate) fn distinguish<'a, 'b>(
+pub fn distinguish<'a, 'b>(
     so: &'a [u8; 256],
     sn: &'a [u8; 256],
     mo: &'b [u8; 256],

@@ -1,5 +1,4 @@
-// Mutants of a sheet (01: boards): run one, find the first test that it fails, compare it with the specification; and judge the
-// sheet's test suite (01: list).
+// Mutants of a sheet (01: boards): run one, find the first test that it fails, compare it with the specification.
 ghost use mathlib.Core.Path.{_≡_};
 ghost use Prim.Native.Nat.{ℕ};
 ghost use lib.ListN.{length};
@@ -11,16 +10,18 @@ ghost use Rattle.mutation.specs.Operate.{ToldFailed, ToldCompared};
 mod distance;
 mod moves;
 mod respond;
-mod search;
 mod sites;
 mod suite;
-mod survive;
-mod verdict;
 
 use sheet::Reading;
-pub use verdict::Judged;
-pub use verdict::judge;
-pub use verdict::judge_counting;
+
+// For the crate `judging` alone.
+pub use distance::bound;
+pub use distance::distinguish;
+pub use moves::blank;
+pub use moves::wide;
+pub use sites::Sites;
+pub use sites::number;
 
 // What Run answers.
 pub enum Ran {
@@ -43,13 +44,13 @@ pub enum Compared {
 }
 
 // A refusal's number and place.
-struct Refusal {
-    number: u8,
-    place: usize,
+pub struct Refusal {
+    pub number: u8,
+    pub place: usize,
 }
 
 // Why a sheet is refused on reading; nothing is said of an accepted one.
-fn refusal_of(reading: Reading) -> Refusal
+pub fn refusal_of(reading: Reading) -> Refusal
     ensures { λ r. ⌜ ((number place : ℕ) → reading ≡ read.Refused number place → (r .number ≡ number) × (r .place ≡ place)) ⌝ }
 {
     match reading {

@@ -28,7 +28,7 @@ pub(crate) struct Machine {
 }
 
 // A byte as a number of the machine's width.
-pub(crate) fn wide(x: u8) -> usize
+pub fn wide(x: u8) -> usize
     ensures { λ r. ⌜ r ≡ x ⌝ }
 {
     x as usize
@@ -148,7 +148,7 @@ fn fill<'a>(
 }
 
 // A table of noughts.
-pub(crate) fn blank() -> [u8; 256]
+pub fn blank() -> [u8; 256]
     ensures { λ r. ⌜ r ≡ replicate 256 0 ⌝ }
 {
     [0u8; 256]

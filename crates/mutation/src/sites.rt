@@ -9,10 +9,10 @@ ghost use Rattle.mutation.specs.Sites.{openAt, openChoices, Numbered};
 
 // By pair, at state * 16 + input: which byte of a mutant it uses, 255 for none. By byte: how many choices it has, 1 past the
 // last. And how many bytes a mutant has.
-pub(crate) struct Sites {
-    pub(crate) site: [u8; 256],
-    pub(crate) slots: [u16; 32],
-    pub(crate) count: usize,
+pub struct Sites {
+    pub site: [u8; 256],
+    pub slots: [u16; 32],
+    pub count: usize,
 }
 
 // Whether bytes are a mutant of a sheet: 13 for another length, 14 for a choice that is too high.
@@ -45,7 +45,7 @@ fn no_slots() -> [u16; 32]
 }
 
 // Numbers the suspects of n states and k inputs: past the last state there is none.
-pub(crate) fn number(choices: &[u16; 256], n: usize, k: usize) -> Sites
+pub fn number(choices: &[u16; 256], n: usize, k: usize) -> Sites
     requires { ⌜ (n ≤ 16) × (length (openChoices n k (now choices) 256) ≤ 32) ⌝ }
     ensures { λ r. ⌜ Numbered n k (now (choices .entry)) r ⌝ }
 {

@@ -1,0 +1,232 @@
+-- Judge: what the search finds is the judgement.
+use Prim.Native.Nat.{ℕ, suc, _+_, _-_, _*_, _<_, _≤_}
+use native.Mathlib.Omega.{arith}
+use mathlib.Core.Path.{_≡_, refl, sym, _∙_, ap, subst}
+use mathlib.Core.List.{List, [], _∷_, _++_, append-assoc}
+use borrow.Author.Tests.{lt-ltb, le-ltb}
+use lib.ListN.{length, take, drop, replicate, length-append, length-drop}
+use lib.Seq.{take-all, drop-at, take-at}
+use Rattle.sheet.specs.declared.Row.{Row}
+use Rattle.sheet.specs.declared.Summary.{Summary}
+use Rattle.sheet.specs.declared.Tables.{Tables}
+use Rattle.sheet.specs.declared.Loaded.{Loaded}
+use Rattle.sheet.specs.declared.Reading.the-variants as read
+use Rattle.sheet.specs.Sheet.{Sheet}
+use Rattle.sheet.specs.Reading.{accepted, refused, Reading, reading, summaryOf}
+use Rattle.sheet.specs.Encode.{rowBytes, sizeBytes, machineBytes, testBytes, body, encode}
+use Rattle.sheet.specs.Tables.{loadedOf}
+use Rattle.sheet.specs.WellFormed.{WellFormed}
+use Rattle.sheet.specs.laws.Accepted.{well-formed}
+use Rattle.sheet.specs.laws.Encoded.{encoded}
+use Rattle.model.specs.Mutant.{slots}
+use Rattle.model.specs.Suite.{Judgement, complete, survivor, judgeOf}
+use Rattle.model.specs.Operations.{judging}
+use Rattle.model.specs.Verdict.{Complete, JudgedMeans}
+use Rattle.model.specs.laws.OperationLaw.{mutant-length}
+use Rattle.model.specs.laws.Demands.{judged-told, complete-told}
+use Rattle.engine.specs.Machine.{statesOf, suiteBytes}
+use Rattle.engine.specs.Packing.{Packed}
+use Rattle.mutation.specs.declared.sites.Sites.{Sites}
+use Rattle.judging.specs.declared.verdict.Judged.{Judged}
+use Rattle.judging.specs.declared.verdict.Judged.the-variants as judged
+use Rattle.mutation.specs.Mutants.{Placed}
+use Rattle.mutation.specs.Sites.{openChoices, Numbered}
+use Rattle.judging.specs.Search.{NoneFrom, Kept, Shown, Searching}
+use Rattle.judging.specs.Judging.{judgingOf, Judges, ReadFrom, SaysOf, ToldJudged}
+use Rattle.mutation.proofs.FitsLaw.{read-states, read-inputs, read-few, read-sited, read-ruled}
+use Rattle.judging.proofs.PackedLaw.{block-for}
+use Rattle.judging.proofs.SearchLaw.{prefix-start, none-judged, first-judged}
+
+-- ---- where the tests start
+
+row-length : (b : ℕ) (l : List Row) → length (rowBytes b l) ≡ 5 * length l
+unfolding rowBytes
+row-length b [] = refl
+row-length b (r ∷ l) = omega (arith, row-length b l)
+
+machine-length : (sh : Sheet) → length (machineBytes sh) ≡ 4 + 5 * length (sh .rules) + 5 * length (sh .faults)
+unfolding machineBytes sizeBytes
+machine-length sh =
+    length-append (sizeBytes (sh .size)) (rowBytes 2 (sh .rules) ++ rowBytes 3 (sh .faults))
+    ∙ omega (arith, length-append (rowBytes 2 (sh .rules)) (rowBytes 3 (sh .faults)), row-length 2 (sh .rules), row-length 3 (sh .faults))
+
+tests-from : (sh : Sheet) → drop (4 + 5 * length (sh .rules) + 5 * length (sh .faults)) (encode sh) ≡ suiteBytes (sh .tests)
+unfolding encode body
+tests-from sh =
+    ap (λ (l : List ℕ). drop (4 + 5 * length (sh .rules) + 5 * length (sh .faults)) l) (append-assoc (machineBytes sh) (testBytes (sh .tests)) (6 ∷ []))
+    ∙ drop-at (machineBytes sh) (suiteBytes (sh .tests)) (4 + 5 * length (sh .rules) + 5 * length (sh .faults)) (machine-length sh)
+
+encode-length : (sh : Sheet) → 4 + 5 * length (sh .rules) + 5 * length (sh .faults) ≤ length (encode sh)
+unfolding encode body
+encode-length sh =
+    omega (arith, length-append (machineBytes sh ++ testBytes (sh .tests)) (6 ∷ []), length-append (machineBytes sh) (testBytes (sh .tests)), machine-length sh)
+
+-- ---- a sheet that was read
+
+module _ {sh : Sheet} {size : Summary} {tables : Tables} {s : List ℕ} (rd : ReadFrom sh size tables s) where
+  -- its tests start within it
+  pub place-in : 4 + 5 * size .rules + 5 * size .faults ≤ length s
+  unfolding summaryOf
+  place-in = rw (rd .read .summary, rd .bytes) (encode-length sh)
+
+  -- and go to its end
+  suite-from : take (length s - (4 + 5 * size .rules + 5 * size .faults)) (drop (4 + 5 * size .rules + 5 * size .faults) s) ≡ suiteBytes (sh .tests)
+  unfolding summaryOf
+  suite-from =
+      let place = 4 + 5 * size .rules + 5 * size .faults in
+      take-all (length s - place) (drop place s) (omega (arith, length-drop place s))
+      ∙ rw (rd .read .summary, rd .bytes) (tests-from sh)
+
+  module _ (n k : ℕ) (en : n ≡ size .states) (ek : k ≡ size .inputs) where
+    pub few-open : (n ≤ 16) × (length (openChoices n k (tables .choices) 256) ≤ 32)
+    few-open = read-few sh size tables (rd .read) n k en ek
+
+    pub some-state : 0 < n
+    some-state = rw (en ∙ read-states sh size tables (rd .read)) (rd .read .formed .size .states .some)
+
+    module _ (r : Sites) (num : Numbered n k (tables .choices) r) where
+      pub counted : r .count ≡ length (slots sh)
+      counted = read-sited sh size tables (rd .read) n k en ek r num .count-is
+
+      -- what the search starts with
+      pub searching-start : (m : List ℕ) → Packed m (tables .output) (tables .target) (r .site) (tables .first) (tables .mutated) (tables .diverted) (r .slots) (size .states) (size .inputs) →
+          Searching sh m (take (length s - (4 + 5 * size .rules + 5 * size .faults)) (drop (4 + 5 * size .rules + 5 * size .faults) s)) (replicate 32 256) 0 (r .count)
+      unfolding Placed
+      searching-start m f =
+          let sited = read-sited sh size tables (rd .read) n k en ek r num in
+          let ruled = read-ruled sh size tables (rd .read) n k en ek in
+          record {
+            formed = rd .read .formed;
+            block =
+                block-for sh (rd .read .formed) (tables .output) (tables .target) (r .site) (tables .first) (tables .mutated) (tables .diverted) (r .slots) (size .states) (size .inputs) m
+                (ruled .outputs) (ruled .targets) (ruled .firsts) (ruled .mutates) (ruled .diverts) (sited .placed) (sited .sizes-are)
+                (read-states sh size tables (rd .read)) (read-inputs sh size tables (rd .read)) f;
+            suite = suite-from;
+            prefix = prefix-start sh (rd .read .formed);
+            count = sited .count-is;
+          }
+
+    -- the packed states are the sheet's
+    pub packed-square : {m bytes p : List ℕ} {i count : ℕ} → Searching sh m bytes p i count → statesOf m * statesOf m ≡ n * n
+    packed-square w = rw (w .block .states, en ∙ read-states sh size tables (rd .read)) refl
+
+  -- ---- the answers
+
+  module _ (board sequence : List ℕ) where
+    -- no room for the mutant
+    pub judges-no-board : (count : ℕ) → count ≡ length (slots sh) → length board < count →
+        Judges (judgingOf sh (length board) (length sequence)) (judged.Refused 16 0) board board sequence sequence
+    unfolding judgingOf
+    judges-no-board count e l =
+        let h = lt-ltb (length board) (length (slots sh)) (omega arith) in
+        record { answer = rw h refl; board = rw h refl; sequence = rw h refl }
+
+    -- none for the sequence
+    pub judges-no-sequence : (count n : ℕ) → count ≡ length (slots sh) → n ≡ size .states → count ≤ length board → length sequence < n * n →
+        Judges (judgingOf sh (length board) (length sequence)) (judged.Refused 16 1) board board sequence sequence
+    unfolding judgingOf
+    judges-no-sequence count n e en lb l =
+        let es : n ≡ sh .size .states = en ∙ read-states sh size tables (rd .read) in
+        let h = le-ltb (length board) (length (slots sh)) (omega arith) in
+        let g = lt-ltb (length sequence) (sh .size .states * sh .size .states) (rw es at l) in
+        record { answer = rw (h, g) refl; board = rw (h, g) refl; sequence = rw (h, g) refl }
+
+    -- room for both
+    pub room : (count n : ℕ) → count ≡ length (slots sh) → n ≡ size .states → count ≤ length board → n * n ≤ length sequence →
+        judgingOf sh (length board) (length sequence) ≡ accepted (judgeOf sh)
+    unfolding judgingOf
+    room count n e en lb l =
+        let es : n ≡ sh .size .states = en ∙ read-states sh size tables (rd .read) in
+        let h = le-ltb (length board) (length (slots sh)) (omega arith) in
+        let g = le-ltb (length sequence) (sh .size .states * sh .size .states) (rw es at l) in
+        rw (h, g) refl
+
+-- ---- what the search found
+
+module _ {sh : Sheet} {p board board′ sequence sequence′ : List ℕ} where
+  -- no survivor
+  pub judges-complete : NoneFrom sh p 0 × Kept board board′ sequence sequence′ → Judges (accepted (judgeOf sh)) judged.Complete board board′ sequence sequence′
+  judges-complete f = let h = none-judged sh p (f .0) in record { answer = rw h refl; board = rw h (f .1 .board); sequence = rw h (f .1 .sequence) }
+
+  -- the first survivor, with what compare shows
+  pub judges-survivor : {d : ℕ} → Shown sh p 0 d board board′ sequence sequence′ → Judges (accepted (judgeOf sh)) (judged.Survivor d) board board′ sequence sequence′
+  judges-survivor s =
+      let h = first-judged sh p (s .survivor) (s .inputs) (s .first) in
+      record { answer = rw h (ap judged.Survivor (s .long)); board = rw h (s .board); sequence = rw h (s .sequence) }
+
+-- ---- the sheet as it was loaded
+
+-- accepted
+pub loaded-read : (s : List ℕ) (l : Loaded) (size : Summary) → l ≡ loadedOf (reading s) → l .reading ≡ read.Accepted size →
+    (sh : Sheet) × ReadFrom sh size (l .tables) s × (reading s ≡ accepted sh)
+loaded-read s l size e er = go (reading s) refl e
+  where
+    go : (r : Reading) → reading s ≡ r → l ≡ loadedOf r → (sh : Sheet) × ReadFrom sh size (l .tables) s × (reading s ≡ accepted sh)
+    go (accepted sh) es el =
+        let same : read.Accepted size ≡ read.Accepted (summaryOf sh) = sym er ∙ ap (λ (t : Loaded). t .reading) el in
+        (sh, record { read = record { formed = well-formed s sh es; summary = cc; tabled = ap (λ (t : Loaded). t .tables) el }; bytes = sym (encoded s sh es) }, es)
+    go (refused number place) es el =
+        let same : read.Accepted size ≡ read.Refused number place = sym er ∙ ap (λ (t : Loaded). t .reading) el in
+        absurd (let z : _≡_ {A = ℕ} 0 1 = cc in omega arith)
+
+-- refused
+loaded-refused : (s : List ℕ) (l : Loaded) (number place : ℕ) → l ≡ loadedOf (reading s) → l .reading ≡ read.Refused number place → reading s ≡ refused number place
+loaded-refused s l number place e er = go (reading s) refl e
+  where
+    go : (r : Reading) → reading s ≡ r → l ≡ loadedOf r → r ≡ refused number place
+    go (accepted sh) es el =
+        let same : read.Refused number place ≡ read.Accepted (summaryOf sh) = sym er ∙ ap (λ (t : Loaded). t .reading) el in
+        absurd (let z : _≡_ {A = ℕ} 0 1 = cc in omega arith)
+    go (refused n q) es el =
+        let same : read.Refused number place ≡ read.Refused n q = sym er ∙ ap (λ (t : Loaded). t .reading) el in
+        cc
+
+-- ---- what it tells
+
+module _ (s board sequence : List ℕ) where
+  -- a sheet refused on reading: the same number and place, and nothing is written
+  pub judge-refused : (l : Loaded) (number place : ℕ) (r : Judged) → l ≡ loadedOf (reading s) → l .reading ≡ read.Refused number place → r ≡ judged.Refused number place →
+      Judges (judging s (length board) (length sequence)) r board board sequence sequence × ToldJudged s (length board) (length sequence) r board sequence
+  unfolding judging ToldJudged
+  judge-refused l number place r e er ea =
+      let h = loaded-refused s l number place e er in (
+        record { answer = rw h ea; board = rw h refl; sequence = rw h refl },
+        λ sh es. let same : _≡_ {A = Reading} (accepted sh) (refused number place) = sym es ∙ h in absurd (let z : _≡_ {A = ℕ} 0 1 = cc in omega arith),
+      )
+
+  judging-is : (sh : Sheet) → reading s ≡ accepted sh → (rb rs : ℕ) → judging s rb rs ≡ judgingOf sh rb rs
+  unfolding judging judgingOf
+  judging-is sh e rb rs = rw e refl
+
+  says : (sh : Sheet) → WellFormed sh → (j : Judgement) → JudgedMeans sh j → (judgeOf sh ≡ complete → Complete sh) × (Complete sh → judgeOf sh ≡ complete) → judgeOf sh ≡ j →
+      (r : Judged) (board′ sequence′ : List ℕ) → Judges (accepted j) r board board′ sequence sequence′ → SaysOf sh r board′ sequence′
+  says sh wf complete means only-every ej r board′ sequence′ js =
+      record {
+        means = rw (js .answer) means;
+        only = λ h. only-every .0 ej;
+        every = λ h. js .answer;
+      }
+  says sh wf (survivor b xs) means only-every ej r board′ sequence′ js =
+      let long = mutant-length sh b (means .0 .survives .is) in
+      let eb : take (length (slots sh)) board′ ≡ b = rw (js .board) (take-at b (drop (length b) board) (length (slots sh)) long) in
+      let es : take (length xs) sequence′ ≡ xs = rw (js .sequence) (take-at xs (drop (length xs) sequence) (length xs) refl) in
+      record {
+        means = rw (js .answer) (rw (eb, es) means);
+        only = λ h. let same : judged.Survivor (length xs) ≡ judged.Complete = sym (js .answer) ∙ h in absurd (let z : _≡_ {A = ℕ} 0 1 = cc in omega arith);
+        every = λ h. let same = sym ej ∙ only-every .1 h in absurd (let z : _≡_ {A = ℕ} 0 1 = cc in omega arith);
+      }
+
+  -- an accepted one
+  pub judge-accepted : (sh : Sheet) → reading s ≡ accepted sh → (r : Judged) (board′ sequence′ : List ℕ) →
+      Judges (judgingOf sh (length board) (length sequence)) r board board′ sequence sequence′ →
+      Judges (judging s (length board) (length sequence)) r board board′ sequence sequence′ × ToldJudged s (length board) (length sequence) r board′ sequence′
+  unfolding ToldJudged judgingOf
+  judge-accepted sh e r board′ sequence′ js = (rw (judging-is sh e (length board) (length sequence)) js, told)
+    where
+      told : (sh′ : Sheet) → reading s ≡ accepted sh′ → length (slots sh′) ≤ length board → sh′ .size .states * sh′ .size .states ≤ length sequence → SaysOf sh′ r board′ sequence′
+      told sh′ e′ lb ls =
+          let same : sh ≡ sh′ = (let z : _≡_ {A = Reading} (accepted sh) (accepted sh′) = sym e ∙ e′ in cc) in
+          let js′ = subst (λ (t : Sheet). Judges (judgingOf t (length board) (length sequence)) r board board′ sequence sequence′) same js in
+          let h = le-ltb (length board) (length (slots sh′)) lb in
+          let g = le-ltb (length sequence) (sh′ .size .states * sh′ .size .states) ls in
+          says sh′ (well-formed s sh′ e′) (judgeOf sh′) (judged-told s sh′ e′) (complete-told s sh′ e′) refl r board′ sequence′ (rw (h, g) at js′)

@@ -1,0 +1,70 @@
+-- `find`: what the quick search finds; where it gave up, with both buffers as they were, what the thorough one finds.
+use borrow.Author.Needs.{needs}
+use Prim.Native.Nat.{ℕ}
+use native.Mathlib.Omega.{arith}
+use mathlib.Core.Path.{_≡_}
+use Rattle.judging.proofs.SearchLaw.{kept-room}
+use Rattle.judging.proofs.verdict.find.Statement.{statement}
+use Rattle.judging.proofs.verdict.find.Tie as tie
+
+find-quickly-requires : tie.Need-find-quickly-requires
+find-quickly-requires c κs = search needs
+
+enum-told : tie.Need-enum-told
+enum-told c = search needs
+
+enum-known-length : tie.Need-enum-known-length
+enum-known-length c = search needs
+
+enum-told-2 : tie.Need-enum-told-2
+enum-told-2 c = search needs
+
+find-thoroughly-requires : tie.Need-find-thoroughly-requires
+find-thoroughly-requires c κs = (c .before .before .before .before .before .before .before .before .before .before .before .before .before .before .before .before .pre .0, kept-room (rw (c .before .before .before .enum-told2 .given .1) at (c .before .before .before .before .before .before .before .before .before .find-quickly .ensures (c .before .before .before .before .before .before .before .before .before .before .before .before .before .before .before .before .pre .0 .0) (c .before .before .before .before .before .before .before .before .before .before .before .before .before .before .before .before .pre .0 .1))) (c .before .before .before .before .before .before .before .before .before .before .before .before .before .before .before .before .pre .1))
+
+same-length : tie.Need-same-length
+same-length c = search needs
+
+same-length-2 : tie.Need-same-length-2
+same-length-2 c = search needs
+
+returns : tie.Need-returns
+returns c = (λ sh w. rw (c .enum-told .given .1) at (c .before .before .before .before .before .before .find-quickly .ensures sh w), λ e. let z : _≡_ {A = ℕ} 0 1 = cc in omega arith)
+
+same-length-3 : tie.Need-same-length-3
+same-length-3 c = search needs
+
+same-length-4 : tie.Need-same-length-4
+same-length-4 c = search needs
+
+returns-2 : tie.Need-returns-2
+returns-2 c = (λ sh w. rw (c .before .length .given .1) at (c .before .before .before .before .before .before .before .find-quickly .ensures sh w), λ e. let z : _≡_ {A = ℕ} 0 1 = cc in omega arith)
+
+same-length-5 : tie.Need-same-length-5
+same-length-5 c = search needs
+
+same-length-6 : tie.Need-same-length-6
+same-length-6 c = search needs
+
+returns-3 : tie.Need-returns-3
+returns-3 c =
+    (λ sh w. let k = rw (c .before .before .before .before .before .before .before .before .enum-told2 .given .1) at (c .before .before .before .before .before .before .before .before .before .before .before .before .before .before .find-quickly .ensures sh w) in rw (← k .board, ← k .sequence) (c .before .before .before .before .find-thoroughly .ensures .0 sh w), c .before .before .before .before .find-thoroughly .ensures .1)
+
+pub find-spec : {M : Type 1} → statement M
+find-spec =
+    tie.close
+    (tie.spec
+    find-quickly-requires
+    enum-told
+    enum-known-length
+    enum-told-2
+    find-thoroughly-requires
+    same-length
+    same-length-2
+    returns
+    same-length-3
+    same-length-4
+    returns-2
+    same-length-5
+    same-length-6
+    returns-3)

@@ -1,0 +1,57 @@
+-- `find_thoroughly`: the search with a store, which does not give up.
+use borrow.Author.Needs.{needs}
+use native.Mathlib.Omega.{arith}
+use Prim.Native.Nat.{ℕ}
+use mathlib.Core.Path.{_≡_}
+use lib.ListN.{length, length-replicate}
+use Rattle.engine.specs.Store.{entries, freshSets}
+use Rattle.judging.proofs.SearchLaw.{asked}
+use Rattle.judging.proofs.verdict.find_thoroughly.Statement.{statement}
+use Rattle.judging.proofs.verdict.find_thoroughly.Tie as tie
+
+-- a store has entries
+full : length freshSets ≡ 0 → ⊥
+full e = omega (arith, e, length-replicate {A = ℕ} entries 1)
+
+fresh-sets-requires : tie.Need-fresh-sets-requires
+fresh-sets-requires c κs = search needs
+
+fresh-values-requires : tie.Need-fresh-values-requires
+fresh-values-requires c κs = search needs
+
+unsettled-requires : tie.Need-unsettled-requires
+unsettled-requires c κs = search needs
+
+slice-aggregate-search : tie.Need-slice-aggregate-search
+slice-aggregate-search c = search needs
+
+slice-aggregate-search-2 : tie.Need-slice-aggregate-search-2
+slice-aggregate-search-2 c = search needs
+
+search-requires : tie.Need-search-requires
+search-requires c κs =
+    let w = c .before .before .before .before .before .before .before .before .before .before .before .pre .0 .1 in
+    ((c .before .before .before .before .before .before .before .before .before .before .before .pre .0 .0, rw (c .before .before .before .before .before .unsettled .ensures) w), (rw (c .before .before .before .before .before .before .before .fresh-sets .ensures) (c .before .before .before .before .before .before .fresh-values .ensures _ _ (asked w .0)), c .before .before .before .before .before .before .before .before .before .before .before .pre .1))
+
+same-length : tie.Need-same-length
+same-length c = search needs
+
+same-length-2 : tie.Need-same-length-2
+same-length-2 c = search needs
+
+returns : tie.Need-returns
+returns c = (λ sh w. rw (c .before .before .before .before .before .before .before .before .before .before .before .before .unsettled .ensures) at (c .before .before .before .before .before .before .search .ensures .0 sh (rw (c .before .before .before .before .before .before .before .before .before .before .before .before .unsettled .ensures) w)), λ e. full (rw (c .before .before .before .before .before .before .before .before .before .before .before .before .before .before .fresh-sets .ensures) at (c .before .before .before .before .before .before .search .ensures .1 .1 e)))
+
+pub find-thoroughly-spec : {M : Type 1} → statement M
+find-thoroughly-spec =
+    tie.close
+    (tie.spec
+    fresh-sets-requires
+    fresh-values-requires
+    unsettled-requires
+    slice-aggregate-search
+    slice-aggregate-search-2
+    search-requires
+    same-length
+    same-length-2
+    returns)

@@ -1,0 +1,59 @@
+-- `judge_counting`: refused as reading refuses, or the judgement of the sheet that was read.
+use mathlib.Core.Path.{refl, ap₂}
+use borrow.Author.Needs.{needs}
+use Rattle.judging.specs.declared.verdict.Judged.the-variants.{Refused}
+use Rattle.judging.proofs.JudgingLaw.{loaded-read, judge-refused, judge-accepted}
+use Rattle.judging.proofs.verdict.judge_counting.Statement.{statement}
+use Rattle.judging.proofs.verdict.judge_counting.Tie as tie
+
+load-requires : tie.Need-load-requires
+load-requires c κs = search needs
+
+enum-known-reading : tie.Need-enum-known-reading
+enum-known-reading c = search needs
+
+enum-told : tie.Need-enum-told
+enum-told c = search needs
+
+refusal-of-requires : tie.Need-refusal-of-requires
+refusal-of-requires c κs = search needs
+
+returns : tie.Need-returns
+returns c =
+    let a = c .before .before .before .before .before .before .before .before .args in
+    let g = c .before .enum-told .given in
+    let z = c .refusal-of .ensures (g .0 .0) (g .0 .1 .0) (g .1) in
+    let x = judge-refused (a .sheet .now) (a .board .now) (a .sequence .now) (c .before .before .before .before .load .result) (g .0 .0) (g .0 .1 .0) _ (c .before .before .before .before .load .ensures) (g .1) (ap₂ Refused (z .0) (z .1)) in
+    (x .0 .answer, (x .0 .board, (x .0 .sequence, (x .1, refl))))
+
+judge-read-requires : tie.Need-judge-read-requires
+judge-read-requires c κs =
+    let x = loaded-read (c .before .before .before .before .before .before .before .before .before .before .before .args .sheet .now) (c .before .before .before .before .before .before .before .load .result) _ (c .before .before .before .before .before .before .before .load .ensures) (c .before .before .before .before .reading .given .1) in
+    (x .0, x .1)
+
+same-length : tie.Need-same-length
+same-length c = search needs
+
+same-length-2 : tie.Need-same-length-2
+same-length-2 c = search needs
+
+returns-2 : tie.Need-returns-2
+returns-2 c =
+    let a = c .before .before .before .before .before .before .before .before .before .before .before .before .before .before .before .before .args in
+    let x = loaded-read (a .sheet .now) (c .before .before .before .before .before .before .before .before .before .before .before .before .load .result) _ (c .before .before .before .before .before .before .before .before .before .before .before .before .load .ensures) (c .before .before .before .before .before .before .before .before .before .reading .given .1) in
+    let y = judge-accepted (a .sheet .now) (a .board .now) (a .sequence .now) (x .0) (x .2) _ _ _ (c .before .before .before .before .judge-read .ensures .0 (x .0) (x .1)) in
+    (y .0 .answer, (y .0 .board, (y .0 .sequence, (y .1, c .before .before .before .before .judge-read .ensures .1))))
+
+pub judge-counting-spec : {M : Type 1} → statement M
+judge-counting-spec =
+    tie.close
+    (tie.spec
+    load-requires
+    enum-known-reading
+    enum-told
+    refusal-of-requires
+    returns
+    judge-read-requires
+    same-length
+    same-length-2
+    returns-2)

@@ -1,0 +1,89 @@
+-- What judge answers and writes.
+use Prim.Native.Nat.{ℕ, _*_, _≤_}
+use mathlib.Core.Path.{_≡_}
+use mathlib.Core.List.{List, []}
+use lib.Dec.{ltb}
+use lib.ListN.{length, take}
+use Rattle.sheet.specs.declared.Summary.{Summary}
+use Rattle.sheet.specs.declared.Tables.{Tables}
+use Rattle.sheet.specs.Sheet.{Sheet}
+use Rattle.sheet.specs.Reading.{Result, accepted, refused, reading}
+use Rattle.sheet.specs.Encode.{encode}
+use Rattle.model.specs.Mutant.{slots}
+use Rattle.model.specs.Suite.{Judgement, complete, survivor, judgeOf}
+use Rattle.model.specs.Operations.{refuseIf}
+use Rattle.model.specs.Implementation.{Guaranteed}
+use Rattle.model.specs.Verdict.{Complete, FirstSurvivor, ShortestOf}
+use Rattle.judging.specs.declared.verdict.Judged.{Judged}
+use Rattle.judging.specs.declared.verdict.Judged.the-variants as judged
+use Rattle.mutation.specs.Answers.{overlay}
+use Rattle.mutation.specs.Fits.{Read}
+
+-- 01's numbers and values for each case
+abbrev pub judgementAnswer : Judgement → Judged
+judgementAnswer complete = judged.Complete
+judgementAnswer (survivor b xs) = judged.Survivor (length xs)
+
+abbrev pub judgedAnswer : Result Judgement → Judged
+judgedAnswer (accepted j) = judgementAnswer j
+judgedAnswer (refused number place) = judged.Refused number place
+
+-- what judge writes: the survivor's choices, and its distinguishing sequence
+abbrev pub survivorIn : Judgement → List ℕ
+survivorIn complete = []
+survivorIn (survivor b xs) = b
+
+abbrev pub sequenceIn : Judgement → List ℕ
+sequenceIn complete = []
+sequenceIn (survivor b xs) = xs
+
+abbrev pub boardWrites : Result Judgement → List ℕ
+boardWrites (accepted j) = survivorIn j
+boardWrites (refused number place) = []
+
+abbrev pub sequenceWrites : Result Judgement → List ℕ
+sequenceWrites (accepted j) = sequenceIn j
+sequenceWrites (refused number place) = []
+
+-- the judgement of an accepted sheet, with room in both buffers
+unfoldable pub judgingOf : Sheet → ℕ → ℕ → Result Judgement
+judgingOf sh boardRoom sequenceRoom =
+    refuseIf (ltb boardRoom (length (slots sh))) 16 0
+    (refuseIf (ltb sequenceRoom (sh .size .states * sh .size .states)) 16 1 (accepted (judgeOf sh)))
+
+-- an answer, and what it leaves in both buffers
+pub record Judges (result : Result Judgement) (r : Judged) (oldBoard newBoard oldSequence newSequence : List ℕ) : Type 0 where
+  pub answer : r ≡ judgedAnswer result
+  pub board : newBoard ≡ overlay (boardWrites result) oldBoard
+  pub sequence : newSequence ≡ overlay (sequenceWrites result) oldSequence
+
+-- a number lent for a measurement: as it was on a refusal; otherwise free
+abbrev pub Measured : Judged → ℕ → ℕ → Type 0
+Measured judged.Complete old new = Unit {0}
+Measured (judged.Survivor d) old new = Unit {0}
+Measured (judged.Refused number place) old new = new ≡ old
+
+-- the sheet that was read, with what reading it told
+pub record ReadFrom (sh : Sheet) (size : Summary) (tables : Tables) (s : List ℕ) : Type 0 where
+  pub read : Read sh size tables
+  pub bytes : s ≡ encode sh
+
+-- demand 3, of the answer and the buffers: complete, with the lasting guarantee; or the first survivor stands at the board
+-- buffer's front, and its shortest distinguishing sequence at the sequence buffer's
+abbrev pub JudgedSays : Sheet → Judged → List ℕ → List ℕ → Type 0
+JudgedSays sh judged.Complete board sequence = Complete sh × Guaranteed sh
+JudgedSays sh (judged.Survivor d) board sequence =
+    FirstSurvivor sh (take (length (slots sh)) board) × ShortestOf sh (take (length (slots sh)) board) (take d sequence)
+JudgedSays sh (judged.Refused number place) board sequence = ⊥
+
+-- and exactly: it answers complete where, and only where, every nonconforming mutant fails some test
+pub record SaysOf (sh : Sheet) (r : Judged) (board sequence : List ℕ) : Type 0 where
+  pub means : JudgedSays sh r board sequence
+  pub only : r ≡ judged.Complete → Complete sh
+  pub every : Complete sh → r ≡ judged.Complete
+
+-- of an accepted sheet with room in both buffers
+unfoldable pub ToldJudged : List ℕ → ℕ → ℕ → Judged → List ℕ → List ℕ → Type 0
+ToldJudged s boardRoom sequenceRoom r board sequence =
+    (sh : Sheet) → reading s ≡ accepted sh → length (slots sh) ≤ boardRoom → sh .size .states * sh .size .states ≤ sequenceRoom →
+    SaysOf sh r board sequence

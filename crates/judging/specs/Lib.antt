@@ -1,0 +1,4 @@
+pub mod Judging
+pub mod Block
+pub mod Search
+pub mod Survive
