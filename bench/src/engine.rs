@@ -204,33 +204,32 @@ impl Engine<'_> {
         Outcome::Refuted(all)
     }
 
-    /// Choices of some survivors with this prefix, if there are any. It is first attempted
-    /// quickly, until the quick attempts have had their share of nodes.
+    /// Choices of some survivors with this prefix, if there are any.
     fn survivor(&mut self, prefix: &Partial) -> Option<Partial> {
-        let mut quick = Attempts {
-            machine: self.machine,
-            nodes: self.nodes,
-            limit: QUICK,
-        };
-        let outcome = quick.attempt(prefix);
-        self.nodes = quick.nodes;
-        let outcome = outcome.unwrap_or_else(|| {
-            self.trail = members(settled(prefix)).collect();
-            self.refute(&mut prefix.clone())
-        });
-        outcome.survivor()
+        self.trail = members(settled(prefix)).collect();
+        self.refute(&mut prefix.clone()).survivor()
     }
 }
 
+/// The judgement by quick attempts alone, or by the thorough engine where they give up.
 pub fn judge(sheet: &[u8]) -> Result<Judgement, Refusal> {
     let tables = plain::load(sheet)?;
     let machine = Machine::new(&tables);
+    let mut quick = Attempts {
+        machine: &machine,
+        nodes: 0,
+        limit: QUICK,
+        witness: None,
+    };
+    if let Some(board) = quick.first_survivor() {
+        return Judgement::new(&tables, board, quick.nodes);
+    }
     let mut engine = Engine {
         machine: &machine,
         store: Store::new(),
         trail: Vec::new(),
-        nodes: 0,
+        nodes: quick.nodes,
     };
-    let board = machine.first_survivor(|prefix| engine.survivor(prefix));
-    Judgement::new(&tables, board, engine.nodes)
+    let board = machine.first_survivor(quick.witness, |prefix| Some(engine.survivor(prefix)));
+    Judgement::new(&tables, board.flatten(), engine.nodes)
 }

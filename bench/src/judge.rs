@@ -2,9 +2,9 @@
 
 use crate::table::Table;
 use ranthelo_bench::families::{self, Family};
+use ranthelo_bench::machine::Judgement;
 use ranthelo_bench::{engine, first_engine, plain, timing};
-use ranthelo_tests::enumeration::Survivor;
-use ranthelo_tests::library::judge;
+use ranthelo_tests::library::{judge, reading};
 use ranthelo_tests::listed;
 use std::hint::black_box;
 
@@ -17,6 +17,9 @@ const KEPT: [(&str, &[u8]); 5] = [
     ("h2, kept", include_bytes!("../machines/h2.sheet")),
     ("h5, kept", include_bytes!("../machines/h5.sheet")),
 ];
+
+/// More nodes than the first engine takes on any easy sheet.
+const FEW: u64 = 4096;
 
 pub fn measure(table: &mut Table) {
     one(table, "P1", &listed::p1());
@@ -50,7 +53,7 @@ fn one(table: &mut Table, case: &str, sheet: &[u8]) {
     let verdict = judge::checked_judge(sheet, 32, 256, open_pairs);
     assert_eq!(verdict.as_ref(), Ok(&judgement.survivor));
     let (mine, other) = (library(sheet), judgement.nodes);
-    let first = beside_first(sheet, &judgement.survivor);
+    let first = beside_first(sheet, &judgement);
     let note = format!("{mine:>8} {other:>10}{first}");
     table.measure_with_note(
         "judge",
@@ -74,15 +77,18 @@ fn library(sheet: &[u8]) -> u32 {
     nodes
 }
 
-/// On an easy sheet, for which the first engine takes fewer nodes than the quick attempts may,
-/// its time and the library's ratio to it.
-fn beside_first(sheet: &[u8], survivor: &Option<Survivor>) -> String {
-    let first = |sheet| first_engine::judge(sheet, engine::QUICK);
-    let Some(judgement) = first(sheet) else {
+/// On an easy sheet, for which the quick attempts suffice, the time of the first engine and the
+/// library's ratio to it. Both without the time that it takes them to read the sheet.
+fn beside_first(sheet: &[u8], judgement: &Judgement) -> String {
+    let first = |sheet| first_engine::judge(sheet, FEW);
+    if judgement.nodes >= engine::QUICK {
+        return String::new();
+    }
+    let Some(other) = first(sheet) else {
         return String::new();
     };
-    assert_eq!(&judgement.survivor, survivor);
-    let (mine, other) = timing::compare(
+    assert_eq!(other.survivor, judgement.survivor);
+    let judging = timing::compare(
         || {
             black_box(library(black_box(sheet)));
         },
@@ -90,5 +96,16 @@ fn beside_first(sheet: &[u8], survivor: &Option<Survivor>) -> String {
             black_box(first(black_box(sheet)));
         },
     );
+    let reading = timing::compare(
+        || {
+            let mut answer = [0; 9];
+            reading::read(black_box(sheet), &mut answer);
+            black_box(answer);
+        },
+        || {
+            black_box(plain::read(black_box(sheet)).ok());
+        },
+    );
+    let (mine, other) = (judging.0 - reading.0, judging.1 - reading.1);
     format!(" {:>12} {:>5.2}", timing::shown(other), mine / other)
 }

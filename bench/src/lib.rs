@@ -4,7 +4,7 @@
 pub mod engine;
 pub mod families;
 pub mod first_engine;
-mod machine;
+pub mod machine;
 pub mod plain;
 mod quick;
 pub mod timing;

@@ -147,25 +147,33 @@ impl Machine {
     }
 
     /// The first survivor in dictionary order, from a function that gives the choices of some
-    /// survivors with a prefix. It is not asked for prefixes of a survivor known already.
+    /// survivors with a prefix and may give up. It is not asked for prefixes of a survivor known
+    /// already. None if it gives up.
     pub fn first_survivor(
         &self,
-        mut survivor: impl FnMut(&Partial) -> Option<Partial>,
-    ) -> Option<Vec<u8>> {
+        known: Option<Partial>,
+        mut survivor: impl FnMut(&Partial) -> Option<Option<Partial>>,
+    ) -> Option<Option<Vec<u8>>> {
         let mut prefix = [UNSETTLED; 32];
-        let mut known = survivor(&prefix)?;
+        let known = match known {
+            Some(known) => Some(known),
+            None => survivor(&prefix)?,
+        };
+        let Some(mut known) = known else {
+            return Some(None);
+        };
         let suspects = self.counts.len();
         for i in 0..suspects {
             prefix[i] = 0;
             while known[i] != UNSETTLED && prefix[i] < known[i] {
-                match survivor(&prefix) {
+                match survivor(&prefix)? {
                     Some(earlier) => known = earlier,
                     None => prefix[i] += 1,
                 }
             }
         }
         let board = prefix[..suspects].iter().map(|&choice| choice as u8);
-        Some(board.collect())
+        Some(Some(board.collect()))
     }
 }
 

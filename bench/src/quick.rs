@@ -27,6 +27,8 @@ pub struct Attempts<'a> {
     pub nodes: u64,
     /// With so many nodes it gives up.
     pub limit: u64,
+    /// The latest survivor found.
+    pub witness: Option<Partial>,
 }
 
 impl Attempts<'_> {
@@ -92,8 +94,20 @@ impl Attempts<'_> {
         Some(Outcome::Refuted(all & !(1 << suspect)))
     }
 
-    /// What is found from this prefix; none if it gives up.
-    pub fn attempt(&mut self, prefix: &Partial) -> Option<Outcome> {
-        self.refute(&mut prefix.clone(), Place::default())
+    /// Choices of some survivors with this prefix, if there are any; none if it gives up.
+    fn survivor(&mut self, prefix: &Partial) -> Option<Option<Partial>> {
+        let Outcome::Survives(found) = self.refute(&mut prefix.clone(), Place::default())? else {
+            return Some(None);
+        };
+        self.witness = Some(found);
+        let settled = prefix.iter().filter(|&&choice| choice != UNSETTLED);
+        let whole = settled.count() == self.machine.counts.len();
+        (whole || self.nodes < self.limit).then_some(self.witness)
+    }
+
+    /// The first survivor of all, if there is one; none if it gives up.
+    pub fn first_survivor(&mut self) -> Option<Option<Vec<u8>>> {
+        let machine = self.machine;
+        machine.first_survivor(None, |prefix| self.survivor(prefix))
     }
 }
