@@ -258,18 +258,18 @@ pub fn explore(
     sets: &mut [u32],
     values: &mut [u16],
     notes: &mut Notes,
-    p: [u16; 32],
+    p: &[u16; 32],
     dead: Outcome,
     left: u8,
 ) -> Outcome
-    requires { ⌜ Wf (now tables) × Partial (now tables) p × SuiteOk (now tables) (now bytes) × OutcomeOk (now tables) (now bytes) p dead × (length p ≡ 32) × StoreOk (now tables) (now bytes) (now sets) (now values) ⌝ }
-    ensures { λ r. ⌜ OutcomeOk (now (tables .entry)) (now (bytes .entry)) p r × StoreOk (now (tables .entry)) (now (bytes .entry)) (now (sets .exit)) (now (values .exit)) ⌝ }
+    requires { ⌜ Wf (now tables) × Partial (now tables) (now p) × SuiteOk (now tables) (now bytes) × OutcomeOk (now tables) (now bytes) (now p) dead × (length (now p) ≡ 32) × StoreOk (now tables) (now bytes) (now sets) (now values) ⌝ }
+    ensures { λ r. ⌜ OutcomeOk (now (tables .entry)) (now (bytes .entry)) (now (p .entry)) r × StoreOk (now (tables .entry)) (now (bytes .entry)) (now (sets .exit)) (now (values .exit)) ⌝ }
 {
     if let Outcome::Refuted(known) = dead {
         return Outcome::Refuted(known);
     }
     let mut wanted = [4294967295u32; 512];
-    let seen = look(tables, bytes, sets, values, notes, left, &p, &mut wanted);
+    let seen = look(tables, bytes, sets, values, notes, left, p, &mut wanted);
     if let Looked::No(used) = seen {
         return Outcome::Refuted(used);
     }
@@ -280,9 +280,9 @@ pub fn explore(
     let mut all = empty();
     let mut c: u16 = 0;
     while c < n {
-        let killed = kill(tables, bytes, &p, &wanted, k, i, c);
-        let q = choose(&p, i, c);
-        let told = explore(tables, bytes, sets, values, notes, q, killed, left - 1);
+        let killed = kill(tables, bytes, p, &wanted, k, i, c);
+        let q = choose(p, i, c);
+        let told = explore(tables, bytes, sets, values, notes, &q, killed, left - 1);
         let Outcome::Refuted(used) = told else {
             return Outcome::Open;
         };
@@ -293,7 +293,7 @@ pub fn explore(
         c += 1;
     }
     let rest = without(all, i);
-    learn(tables, bytes, sets, values, notes, &p, rest);
+    learn(tables, bytes, sets, values, notes, p, rest);
     Outcome::Refuted(rest)
 }
 
@@ -323,7 +323,7 @@ pub fn no_survivor(
         sets,
         values,
         notes,
-        prefix,
+        &prefix,
         Outcome::Open,
         32,
     );

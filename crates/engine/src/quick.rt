@@ -101,23 +101,23 @@ pub fn probe(
     tables: &[u8; 1603],
     bytes: &[u8],
     notes: &mut Notes,
-    p: [u16; 32],
+    p: &[u16; 32],
     from: Cursor,
     left: u8,
 ) -> Outcome
-    requires { ⌜ Wf (now tables) × Partial (now tables) p × CursorOk (now tables) (now bytes) p from × (length p ≡ 32) ⌝ }
-    ensures { λ r. ⌜ OutcomeOk (now (tables .entry)) (now (bytes .entry)) p r ⌝ }
+    requires { ⌜ Wf (now tables) × Partial (now tables) (now p) × CursorOk (now tables) (now bytes) (now p) from × (length (now p) ≡ 32) ⌝ }
+    ensures { λ r. ⌜ OutcomeOk (now (tables .entry)) (now (bytes .entry)) (now (p .entry)) r ⌝ }
 {
     if spent(notes) {
         return Outcome::Open;
     }
     tick(notes);
-    let seen = glance(tables, bytes, &p, from);
+    let seen = glance(tables, bytes, p, from);
     if let Glanced::No(used) = seen {
         return Outcome::Refuted(used);
     }
     let Glanced::Split(i, here) = seen else {
-        keep(notes, &p);
+        keep(notes, p);
         return Outcome::Open;
     };
     if left == 0 {
@@ -127,8 +127,8 @@ pub fn probe(
     let mut all = empty();
     let mut c: u16 = 0;
     while c < n {
-        let q = choose(&p, i, c);
-        let Outcome::Refuted(used) = probe(tables, bytes, notes, q, here, left - 1) else {
+        let q = choose(p, i, c);
+        let Outcome::Refuted(used) = probe(tables, bytes, notes, &q, here, left - 1) else {
             return Outcome::Open;
         };
         if !has(used, i) {
@@ -150,7 +150,7 @@ pub fn refuted_quickly(
     requires { ⌜ Wf (now tables) × SuiteOk (now tables) (now bytes) × Partial (now tables) prefix × (length prefix ≡ 32) ⌝ }
     ensures { λ r. ⌜ NoneIf (now (tables .entry)) (now (bytes .entry)) prefix r ⌝ }
 {
-    let Outcome::Refuted(_) = probe(tables, bytes, notes, prefix, start(), 32) else {
+    let Outcome::Refuted(_) = probe(tables, bytes, notes, &prefix, start(), 32) else {
         return false;
     };
     true

@@ -26,24 +26,24 @@ use Rattle.engine.proofs.tables.choose.Reads as choose-reads
 use Rattle.engine.proofs.branch.+explore.{statement}
 use Rattle.engine.proofs.branch.+explore.Tie.{close}
 
-abbrev μ-explore : Measures 5 explore-kinds.ps ℕ
+abbrev μ-explore : Measures 6 explore-kinds.ps ℕ
 μ-explore κs a = a .1 .1 .1 .1 .1 .1 .1 .0
 
-abbrev explore-at : ℕ → In 5 explore-kinds.ps
-explore-at t = and 5 explore-kinds.ps (is 5 explore-kinds.ps μ-explore t) explore.Pre
+abbrev explore-at : ℕ → In 6 explore-kinds.ps
+explore-at t = and 6 explore-kinds.ps (is 6 explore-kinds.ps μ-explore t) explore.Pre
 
-abbrev explore-below : ℕ → In 5 explore-kinds.ps
-explore-below t = and 5 explore-kinds.ps (falls 5 explore-kinds.ps _<_ μ-explore t) explore.Pre
+abbrev explore-below : ℕ → In 6 explore-kinds.ps
+explore-below t = and 6 explore-kinds.ps (falls 6 explore-kinds.ps _<_ μ-explore t) explore.Pre
 
 abbrev cs : ℕ → explore-lts.Claims
 cs t = (look-reads.Asked, look-reads.Learnt, choices-reads.Asked, choices-reads.Learnt, empty-reads.Asked, empty-reads.Learnt, kill-reads.Asked, kill-reads.Learnt, choose-reads.Asked, choose-reads.Learnt, explore-below t, explore.Post, has-reads.Asked, has-reads.Learnt, join-reads.Asked, join-reads.Learnt, without-reads.Asked, without-reads.Learnt, learn-reads.Asked, learn-reads.Learnt)
 
 abbrev explore-Inv-loop : explore-lts.InvT-loop
-explore-Inv-loop tables bytes sets₀ values₀ notes₀ left p wanted i k n all₀ c₀ sets values notes all c =
+explore-Inv-loop tables bytes sets₀ values₀ notes₀ p left wanted i k n all₀ c₀ sets values notes all c =
     Trying tables bytes p i n all c × SplitOk tables p i k × (0 < left) × StoreOk tables bytes sets values × (length sets ≡ length sets₀) × (length values ≡ length values₀)
 
 abbrev explore-μ-loop : explore-lts.MeasureT-loop
-explore-μ-loop tables bytes sets₀ values₀ notes₀ left p wanted i k n all₀ c₀ sets values notes all c = n - c
+explore-μ-loop tables bytes sets₀ values₀ notes₀ p left wanted i k n all₀ c₀ sets values notes all c = n - c
 
 explore-enum-known-dead : (t : ℕ) → explore-lts.Need-enum-known-dead (cs t) (explore-at t) explore.Post explore-Inv-loop explore-μ-loop
 explore-enum-known-dead t c = search needs
@@ -55,7 +55,7 @@ explore-enum-told : (t : ℕ) → explore-lts.Need-enum-told (cs t) (explore-at 
 explore-enum-told t c = search needs
 
 explore-look-requires : (t : ℕ) → explore-lts.Need-look-requires (cs t) (explore-at t) explore.Post explore-Inv-loop explore-μ-loop
-explore-look-requires t c κs = let a = c .before .before .before .before .before .before .before .before .before .before .pre .1 in (a .5, a .0, a .1, a .2, wants-none, a .4)
+explore-look-requires t c κs = let a = c .before .before .before .before .before .before .before .before .before .pre .1 in (a .5, a .0, a .1, a .2, wants-none, a .4)
 
 explore-enum-known-seen : (t : ℕ) → explore-lts.Need-enum-known-seen (cs t) (explore-at t) explore.Post explore-Inv-loop explore-μ-loop
 explore-enum-known-seen t c = search needs
@@ -67,7 +67,7 @@ explore-same-length-2 : (t : ℕ) → explore-lts.Need-same-length-2 (cs t) (exp
 explore-same-length-2 t c = search needs
 
 explore-returns-2 : (t : ℕ) → explore-lts.Need-returns-2 (cs t) (explore-at t) explore.Post explore-Inv-loop explore-μ-loop
-explore-returns-2 t c = (rw (c .before .seen .given .1) at (c .before .before .before .look .ensures .0), c .before .before .before .before .before .before .before .before .before .before .before .before .before .before .pre .1 .5)
+explore-returns-2 t c = (rw (c .before .seen .given .1) at (c .before .before .before .look .ensures .0), c .before .before .before .before .before .before .before .before .before .before .before .before .before .pre .1 .5)
 
 explore-enum-known-seen-2 : (t : ℕ) → explore-lts.Need-enum-known-seen-2 (cs t) (explore-at t) explore.Post explore-Inv-loop explore-μ-loop
 explore-enum-known-seen-2 t c = search needs
@@ -92,11 +92,11 @@ explore-empty-requires t c κs = search needs
 explore-loop-holds : (t : ℕ) → explore-lts.Need-loop-holds (cs t) (explore-at t) explore.Post explore-Inv-loop explore-μ-loop
 explore-loop-holds t c =
     let ok = rw (c .before .before .before .seen2 .given .1) at (c .before .before .before .before .before .before .look .ensures .0) in
-    let a = c .before .before .before .before .before .before .before .before .before .before .before .before .before .before .before .before .before .pre .1 in
+    let a = c .before .before .before .before .before .before .before .before .before .before .before .before .before .before .before .before .pre .1 in
     (trying-none (a .0) (ok .0 .low) (a .4) (c .before .choices .ensures), ok .0, ok .1, a .5, refl, refl)
 
 explore-kill-requires : (t : ℕ) → explore-lts.Need-kill-requires (cs t) (explore-at t) explore.Post explore-Inv-loop explore-μ-loop
-explore-kill-requires t c κs = let a = c .before .before .before .before .before .before .before .before .before .before .before .before .before .before .before .before .before .before .before .before .before .pre .1 in let inv = c .before .before .before .loop .inv in (a .0, c .before .before .before .before .before .before .before .before .before .before .look .ensures .1, inv .1, a .4, omega (arith, c .before .before .loop-test .taken, inv .0 .all))
+explore-kill-requires t c κs = let a = c .before .before .before .before .before .before .before .before .before .before .before .before .before .before .before .before .before .before .before .pre .1 in let inv = c .before .before .loop .inv in (a .0, c .before .before .before .before .before .before .before .before .before .look .ensures .1, inv .1, a .4, omega (arith, c .before .loop-test .taken, inv .0 .all))
 
 explore-choose-requires : (t : ℕ) → explore-lts.Need-choose-requires (cs t) (explore-at t) explore.Post explore-Inv-loop explore-μ-loop
 explore-choose-requires t c κs = search needs
@@ -106,10 +106,10 @@ explore-sub-explore t c = search needs
 
 explore-explore-requires : (t : ℕ) → explore-lts.Need-explore-requires (cs t) (explore-at t) explore.Post explore-Inv-loop explore-μ-loop
 explore-explore-requires t c κs =
-    let pre = c .before .before .before .before .before .before .before .before .before .before .before .before .before .before .before .before .before .before .before .before .before .before .before .before .before .before .before .pre in
-    let inv = c .before .before .before .before .before .before .before .before .before .loop .inv in
-    let is = c .before .before .before .choose .ensures in
-    (omega (arith, pre .0, inv .2), (pre .1 .0, trying-partial (inv .0) (c .before .before .before .before .before .before .before .before .loop-test .taken) is (pre .1 .1), pre .1 .2, rw is (c .before .before .before .before .before .kill .ensures), trying-long (inv .0) is, inv .3))
+    let pre = c .before .before .before .before .before .before .before .before .before .before .before .before .before .before .before .before .before .before .before .before .before .before .before .before .before .pre in
+    let inv = c .before .before .before .before .before .before .before .before .loop .inv in
+    let is = c .before .before .before .before .choose .ensures in
+    (omega (arith, pre .0, inv .2), (pre .1 .0, trying-partial (inv .0) (c .before .before .before .before .before .before .before .loop-test .taken) is (pre .1 .1), pre .1 .2, rw is (c .before .before .before .before .before .kill .ensures), trying-long (inv .0) is, inv .3))
 
 explore-enum-known-told : (t : ℕ) → explore-lts.Need-enum-known-told (cs t) (explore-at t) explore.Post explore-Inv-loop explore-μ-loop
 explore-enum-known-told t c = search needs
@@ -136,7 +136,7 @@ explore-same-length-8 : (t : ℕ) → explore-lts.Need-same-length-8 (cs t) (exp
 explore-same-length-8 t c = search needs
 
 explore-returns-5 : (t : ℕ) → explore-lts.Need-returns-5 (cs t) (explore-at t) explore.Post explore-Inv-loop explore-μ-loop
-explore-returns-5 t c = (trying-skips (c .before .before .before .before .before .before .before .before .before .before .before .before .before .before .before .before .before .before .before .loop .inv .0) (c .before .before .before .before .before .before .before .before .before .before .before .before .before .choose .ensures) (c .before .has .ensures .1 (not-true _ (c .if1 .taken))) (rw (c .before .before .before .told .given .1) at (c .before .before .before .before .before .before .before .before .before .explore .ensures .0)), c .before .before .before .before .before .before .before .before .before .explore .ensures .1)
+explore-returns-5 t c = (trying-skips (c .before .before .before .before .before .before .before .before .before .before .before .before .before .before .before .before .before .before .loop .inv .0) (c .before .before .before .before .before .before .before .before .before .before .before .before .before .before .choose .ensures) (c .before .has .ensures .1 (not-true _ (c .if1 .taken))) (rw (c .before .before .before .told .given .1) at (c .before .before .before .before .before .before .before .before .before .explore .ensures .0)), c .before .before .before .before .before .before .before .before .before .explore .ensures .1)
 
 explore-join-requires : (t : ℕ) → explore-lts.Need-join-requires (cs t) (explore-at t) explore.Post explore-Inv-loop explore-μ-loop
 explore-join-requires t c κs = search needs
@@ -149,14 +149,14 @@ explore-loop-less t c = search needs
 
 explore-loop-again : (t : ℕ) → explore-lts.Need-loop-again (cs t) (explore-at t) explore.Post explore-Inv-loop explore-μ-loop
 explore-loop-again t c =
-    let inv = c .before .before .before .before .before .before .before .before .before .before .before .before .before .before .before .before .before .before .before .before .loop .inv in
-    (trying-more (inv .0) (c .before .before .before .before .before .before .before .before .before .before .before .before .before .before .before .before .before .before .before .loop-test .taken) (c .before .before .before .before .before .before .before .before .before .before .before .before .before .before .choose .ensures) (rw (c .before .before .before .before .told .given .1) at (c .before .before .before .before .before .before .before .before .before .before .explore .ensures .0)) (c .join .ensures), inv .1, inv .2, c .before .before .before .before .before .before .before .before .before .before .explore .ensures .1, omega arith, omega arith)
+    let inv = c .before .before .before .before .before .before .before .before .before .before .before .before .before .before .before .before .before .before .before .loop .inv in
+    (trying-more (inv .0) (c .before .before .before .before .before .before .before .before .before .before .before .before .before .before .before .before .before .before .loop-test .taken) (c .before .before .before .before .before .before .before .before .before .before .before .before .before .before .before .choose .ensures) (rw (c .before .before .before .before .told .given .1) at (c .before .before .before .before .before .before .before .before .before .before .explore .ensures .0)) (c .join .ensures), inv .1, inv .2, c .before .before .before .before .before .before .before .before .before .before .explore .ensures .1, omega arith, omega arith)
 
 explore-without-requires : (t : ℕ) → explore-lts.Need-without-requires (cs t) (explore-at t) explore.Post explore-Inv-loop explore-μ-loop
 explore-without-requires t c κs = search needs
 
 explore-learn-requires : (t : ℕ) → explore-lts.Need-learn-requires (cs t) (explore-at t) explore.Post explore-Inv-loop explore-μ-loop
-explore-learn-requires t c κs = let inv = c .before .before .before .before .before .before .loop .inv in (inv .3, trying-all (inv .0) (c .before .before .before .before .before .loop-test .left) (c .before .before .before .before .without .ensures), inv .0 .long)
+explore-learn-requires t c κs = let inv = c .before .before .before .before .before .loop .inv in (inv .3, trying-all (inv .0) (c .before .before .before .before .loop-test .left) (c .before .before .before .without .ensures), inv .0 .long)
 
 explore-same-length-9 : (t : ℕ) → explore-lts.Need-same-length-9 (cs t) (explore-at t) explore.Post explore-Inv-loop explore-μ-loop
 explore-same-length-9 t c = search needs
@@ -165,7 +165,7 @@ explore-same-length-10 : (t : ℕ) → explore-lts.Need-same-length-10 (cs t) (e
 explore-same-length-10 t c = search needs
 
 explore-returns-6 : (t : ℕ) → explore-lts.Need-returns-6 (cs t) (explore-at t) explore.Post explore-Inv-loop explore-μ-loop
-explore-returns-6 t c = (trying-all (c .before .before .before .before .before .before .before .before .before .before .before .loop .inv .0) (c .before .before .before .before .before .before .before .before .before .before .loop-test .left) (c .before .before .before .before .before .before .before .before .before .without .ensures), c .before .before .before .before .learn .ensures)
+explore-returns-6 t c = (trying-all (c .before .before .before .before .before .before .before .before .before .before .loop .inv .0) (c .before .before .before .before .before .before .before .before .before .loop-test .left) (c .before .before .before .before .before .before .before .before .without .ensures), c .before .before .before .before .learn .ensures)
 
 pub +explore-spec : {M : Type 1} → statement M
 +explore-spec = close μ-explore λ t. explore-lts.spec (cs t)

@@ -22,23 +22,23 @@ use Rattle.engine.proofs.tables.choose.Reads as choose-reads
 use Rattle.engine.proofs.quick.+probe.{statement}
 use Rattle.engine.proofs.quick.+probe.Tie.{close}
 
-abbrev μ-probe : Measures 3 probe-kinds.ps ℕ
+abbrev μ-probe : Measures 4 probe-kinds.ps ℕ
 μ-probe κs a = a .1 .1 .1 .1 .1 .0
 
-abbrev probe-at : ℕ → In 3 probe-kinds.ps
-probe-at t = and 3 probe-kinds.ps (is 3 probe-kinds.ps μ-probe t) probe.Pre
+abbrev probe-at : ℕ → In 4 probe-kinds.ps
+probe-at t = and 4 probe-kinds.ps (is 4 probe-kinds.ps μ-probe t) probe.Pre
 
-abbrev probe-below : ℕ → In 3 probe-kinds.ps
-probe-below t = and 3 probe-kinds.ps (falls 3 probe-kinds.ps _<_ μ-probe t) probe.Pre
+abbrev probe-below : ℕ → In 4 probe-kinds.ps
+probe-below t = and 4 probe-kinds.ps (falls 4 probe-kinds.ps _<_ μ-probe t) probe.Pre
 
 abbrev cs : ℕ → probe-lts.Claims
 cs t = (spent-reads.Asked, spent-reads.Learnt, tick-reads.Asked, tick-reads.Learnt, glance-reads.Asked, glance-reads.Learnt, keep-reads.Asked, keep-reads.Learnt, choices-reads.Asked, choices-reads.Learnt, empty-reads.Asked, empty-reads.Learnt, choose-reads.Asked, choose-reads.Learnt, probe-below t, probe.Post, has-reads.Asked, has-reads.Learnt, join-reads.Asked, join-reads.Learnt, without-reads.Asked, without-reads.Learnt)
 
 abbrev probe-Inv-loop : probe-lts.InvT-loop
-probe-Inv-loop tables bytes notes₀ left p i here n all₀ c₀ notes all c = Trying tables bytes p i n all c
+probe-Inv-loop tables bytes notes₀ p left i here n all₀ c₀ notes all c = Trying tables bytes p i n all c
 
 abbrev probe-μ-loop : probe-lts.MeasureT-loop
-probe-μ-loop tables bytes notes₀ left p i here n all₀ c₀ notes all c = n - c
+probe-μ-loop tables bytes notes₀ p left i here n all₀ c₀ notes all c = n - c
 
 probe-spent-requires : (t : ℕ) → probe-lts.Need-spent-requires (cs t) (probe-at t) probe.Post probe-Inv-loop probe-μ-loop
 probe-spent-requires t c κs = search needs
@@ -81,7 +81,7 @@ probe-empty-requires t c κs = search needs
 probe-loop-holds : (t : ℕ) → probe-lts.Need-loop-holds (cs t) (probe-at t) probe.Post probe-Inv-loop probe-μ-loop
 probe-loop-holds t c =
     let ok = rw (c .before .before .before .before .seen2 .given .1) at (c .before .before .before .before .before .before .before .glance .ensures) in
-    trying-none (c .before .before .before .before .before .before .before .before .before .before .before .before .before .before .before .pre .1 .0) (ok .low) (c .before .before .before .before .before .before .before .before .before .before .before .before .before .before .before .pre .1 .3) (c .before .choices .ensures)
+    trying-none (c .before .before .before .before .before .before .before .before .before .before .before .before .before .before .pre .1 .0) (ok .low) (c .before .before .before .before .before .before .before .before .before .before .before .before .before .before .pre .1 .3) (c .before .choices .ensures)
 
 probe-choose-requires : (t : ℕ) → probe-lts.Need-choose-requires (cs t) (probe-at t) probe.Post probe-Inv-loop probe-μ-loop
 probe-choose-requires t c κs = search needs
@@ -92,9 +92,9 @@ probe-sub-probe t c = search needs
 probe-probe-requires : (t : ℕ) → probe-lts.Need-probe-requires (cs t) (probe-at t) probe.Post probe-Inv-loop probe-μ-loop
 probe-probe-requires t c κs =
     let ok = rw (c .before .before .before .before .before .before .before .before .before .seen2 .given .1) at (c .before .before .before .before .before .before .before .before .before .before .before .before .glance .ensures) in
-    let pre = c .before .before .before .before .before .before .before .before .before .before .before .before .before .before .before .before .before .before .before .before .pre in
+    let pre = c .before .before .before .before .before .before .before .before .before .before .before .before .before .before .before .before .before .before .before .pre in
     let tr = c .before .before .before .before .loop .inv in
-    let is = c .before .choose .ensures in
+    let is = c .before .before .choose .ensures in
     (omega (arith, pre .0, c .before .before .before .before .before .before .before .if2 .left), (pre .1 .0, trying-partial tr (c .before .before .before .loop-test .taken) is (pre .1 .1), rw is (cursor-settle _ (c .before .before .before .before .loop .c) (ok .unsettled) (ok .on)), trying-long tr is))
 
 probe-enum-known-used : (t : ℕ) → probe-lts.Need-enum-known-used (cs t) (probe-at t) probe.Post probe-Inv-loop probe-μ-loop
@@ -110,7 +110,7 @@ probe-has-requires : (t : ℕ) → probe-lts.Need-has-requires (cs t) (probe-at 
 probe-has-requires t c κs = search needs
 
 probe-returns-6 : (t : ℕ) → probe-lts.Need-returns-6 (cs t) (probe-at t) probe.Post probe-Inv-loop probe-μ-loop
-probe-returns-6 t c = trying-skips (c .before .before .before .before .before .before .before .before .before .before .loop .inv) (c .before .before .before .before .before .before .before .choose .ensures) (c .before .has .ensures .1 (not-true _ (c .if3 .taken))) (rw (c .before .before .before .used .given .1) at (c .before .before .before .before .before .probe .ensures))
+probe-returns-6 t c = trying-skips (c .before .before .before .before .before .before .before .before .before .before .loop .inv) (c .before .before .before .before .before .before .before .before .choose .ensures) (c .before .has .ensures .1 (not-true _ (c .if3 .taken))) (rw (c .before .before .before .used .given .1) at (c .before .before .before .before .before .probe .ensures))
 
 probe-join-requires : (t : ℕ) → probe-lts.Need-join-requires (cs t) (probe-at t) probe.Post probe-Inv-loop probe-μ-loop
 probe-join-requires t c κs = search needs
@@ -122,7 +122,7 @@ probe-loop-less : (t : ℕ) → probe-lts.Need-loop-less (cs t) (probe-at t) pro
 probe-loop-less t c = search needs
 
 probe-loop-again : (t : ℕ) → probe-lts.Need-loop-again (cs t) (probe-at t) probe.Post probe-Inv-loop probe-μ-loop
-probe-loop-again t c = trying-more (c .before .before .before .before .before .before .before .before .before .before .before .loop .inv) (c .before .before .before .before .before .before .before .before .before .before .loop-test .taken) (c .before .before .before .before .before .before .before .before .choose .ensures) (rw (c .before .before .before .before .used .given .1) at (c .before .before .before .before .before .before .probe .ensures)) (c .join .ensures)
+probe-loop-again t c = trying-more (c .before .before .before .before .before .before .before .before .before .before .before .loop .inv) (c .before .before .before .before .before .before .before .before .before .before .loop-test .taken) (c .before .before .before .before .before .before .before .before .before .choose .ensures) (rw (c .before .before .before .before .used .given .1) at (c .before .before .before .before .before .before .probe .ensures)) (c .join .ensures)
 
 probe-without-requires : (t : ℕ) → probe-lts.Need-without-requires (cs t) (probe-at t) probe.Post probe-Inv-loop probe-μ-loop
 probe-without-requires t c κs = search needs

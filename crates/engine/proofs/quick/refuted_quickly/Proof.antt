@@ -7,7 +7,7 @@ start-requires : tie.Need-start-requires
 start-requires c κs = search needs
 
 probe-requires : tie.Need-probe-requires
-probe-requires c κs = let a = c .before .before .before .pre in (a .0, a .2, c .start .ensures _ _ _ (a .0) (a .1), a .3)
+probe-requires c κs = let a = c .before .before .before .before .pre in (a .0, a .2, c .start .ensures _ _ _ (a .0) (a .1), a .3)
 
 enum-told : tie.Need-enum-told
 enum-told c = search needs
