@@ -1,12 +1,12 @@
 -- One bit of a number, what the operations on bits do to it, and so to sets.
 use mathlib.Core.Path.{_≡_, refl, sym, ap, _∙_}
 use mathlib.Core.Logic.{_⊎_, inl, inr}
-use Prim.Native.Nat.{ℕ, zero, suc, _+_, _*_, _/_, _%_, _^_, _<_, max}
-use native.Mathlib.Nat.{div-eq-of-lt, mul-div-mul-right, pow-suc, pow-zero, div-one, zero-lt-suc}
+use Prim.Native.Nat.{ℕ, zero, suc, _*_, _/_, _%_, _^_, _<_, max}
+use native.Mathlib.Nat.{div-eq-of-lt, mul-div-mul-right, pow-suc, div-one, zero-lt-suc}
 use native.Mathlib.Omega.{arith}
 use native.Mathlib.Decide.{ℕ-discrete}
 use lib.Bits.{bitOr, bitXor, or-step, xor-step, or-shr, xor-shr, differ}
-use lib.Pow.{pow-pos, pow-lt, shl-exact}
+use lib.Pow.{pow-lt, shl-exact}
 use Rattle.engine.specs.Sets.{Has, With, Joined, Without}
 
 or-odd : (a b : ℕ) → bitOr a b % 2 ≡ max (a % 2) (b % 2)

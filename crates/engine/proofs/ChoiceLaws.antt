@@ -1,17 +1,15 @@
 -- The transitions of a pair, and the move of a mutant.
-use mathlib.Core.Path.{_≡_, refl, sym, ap, _∙_, subst}
-use mathlib.Core.Bool.{Bool, true, false, cond}
-use mathlib.Core.Option.{Option, none, some}
-use mathlib.Core.List.{List, [], _∷_}
-use Prim.Native.Nat.{ℕ, _+_, _-_, _*_, _/_, _%_, _<_, _≤_}
+use mathlib.Core.Path.{_≡_, ap, _∙_}
+use mathlib.Core.Option.{some}
+use mathlib.Core.List.{List}
+use Prim.Native.Nat.{ℕ, _+_, _-_, _/_, _%_, _<_, _≤_}
 use native.Mathlib.Omega.{arith}
 use native.Mathlib.Nat.{mod-lt}
 use native.Mathlib.Decide.{ℕ-discrete, decLt}
 use borrow.Author.Tests.{eq-eqb, ne-eqb, lt-ltb, le-ltb}
 use lib.ListN.{getD}
-use lib.Dec.{eqb, ltb}
 use Rattle.model.specs.Machine.{Move}
-use Rattle.engine.specs.Machine.{Wf, Ranged, pair, ruleOutput, ruleTarget, siteAt, firstFault, mutated, diverted, choicesOf, statesOf, inputsOf, choicesAt, choiceOf, chosen, ruleOf, stepOf}
+use Rattle.engine.specs.Machine.{Wf, pair, ruleOutput, ruleTarget, siteAt, firstFault, mutated, diverted, choicesOf, statesOf, inputsOf, choicesAt, choiceOf, chosen, ruleOf, stepOf}
 use Rattle.engine.specs.declared.tables.Step.{Step}
 use Rattle.engine.specs.Answers.{StepIs}
 

@@ -1,9 +1,8 @@
 -- A place in the suite, and how a command moves it.
 use mathlib.Core.Path.{_≡_, refl, sym, ap, _∙_, subst}
-use mathlib.Core.Bool.{cond}
 use mathlib.Core.Option.{Option, none, some, Option·some-injective}
 use mathlib.Core.List.{List, [], _∷_, _++_, append-assoc}
-use Prim.Native.Nat.{ℕ, suc, _+_, _*_, _<_, _≤_}
+use Prim.Native.Nat.{ℕ, suc, _+_, _<_}
 use native.Mathlib.Omega.{arith}
 use native.Mathlib.Numerals.{add-one}
 use lib.ListN.{length, getD, drop, length-drop}
@@ -11,9 +10,9 @@ use lib.Seq.{drop-cons}
 use Rattle.sheet.specs.Lists.{maybe}
 use Rattle.sheet.specs.Encode.{pressBytes, testBytes}
 use Rattle.model.specs.Machine.{Move, outputsFrom, specifiedFrom, prepend}
-use Rattle.engine.specs.Sets.{Has, HasAll}
-use Rattle.engine.specs.Machine.{Wf, Partial, Settled, Agree, SuiteOk, Specified, PassesAll, AllSpecified, pair, ruleOutput, ruleTarget, siteAt, statesOf, inputsOf, choiceOf, ruleOf, stepOf, startOf, suiteBytes, testsOf}
-use Rattle.engine.specs.Answers.{Steps, Fails, CursorOk, Further, Behind, Blocked, StuckOk, Wanted}
+use Rattle.engine.specs.Sets.{Has}
+use Rattle.engine.specs.Machine.{Wf, Agree, SuiteOk, PassesAll, AllSpecified, pair, ruleOutput, ruleTarget, statesOf, inputsOf, choiceOf, ruleOf, stepOf, startOf, suiteBytes, testsOf}
+use Rattle.engine.specs.Answers.{Steps, Fails, CursorOk, Further, Behind, Blocked, StuckOk}
 use Rattle.engine.specs.declared.walk.Cursor.{Cursor}
 use Rattle.engine.proofs.ChoiceLaws.{RuleAt, rule-at, step-open}
 use Rattle.engine.proofs.Steps.{agree-less, place-low}

@@ -1,11 +1,11 @@
 -- What the functions require can be met: one state, one input, a rule, no suspect, one test.
-use mathlib.Core.Path.{_≡_, refl}
-use mathlib.Core.List.{List, [], _∷_}
-use Prim.Native.Nat.{ℕ, _+_, _<_, _≤_}
+use mathlib.Core.Path.{_≡_}
+use mathlib.Core.List.{[], _∷_}
+use Prim.Native.Nat.{ℕ}
 use native.Mathlib.Omega.{arith}
-use lib.ListN.{getD, replicate, getD-replicate}
+use lib.ListN.{replicate, getD-replicate}
 use Rattle.sheet.specs.Encode.{testBytes, pressBytes}
-use Rattle.engine.specs.Machine.{suiteBytes, testsOf}
+use Rattle.engine.specs.Machine.{testsOf}
 use Rattle.engine.specs.Packing.{Sound}
 use Rattle.engine.proofs.Suites.{tests-same}
 

@@ -3,7 +3,7 @@ use mathlib.Core.Path.{_≡_, refl, sym, ap, ap₂, _∙_, subst, subst₂}
 use mathlib.Core.Option.{some}
 use mathlib.Core.List.{List, [], _∷_}
 use mathlib.Core.Logic.{_⊎_, inl, inr}
-use Prim.Native.Nat.{ℕ, suc, _+_, _*_, _/_, _%_, _<_, _≤_}
+use Prim.Native.Nat.{ℕ, _+_, _/_, _%_, _<_, _≤_}
 use native.Mathlib.Omega.{arith}
 use native.Mathlib.Decide.{ℕ-discrete}
 use borrow.Author.Count.{below-more}
@@ -11,13 +11,13 @@ use lib.ListN.{getD, length, set, length-set}
 use lib.Seq.{getD-set-same, getD-set-other}
 use Rattle.model.specs.Machine.{Move, outputsFrom, specifiedFrom, ConformingFrom}
 use Rattle.engine.specs.Sets.{Has, HasAll}
-use Rattle.engine.specs.Machine.{Ranged, Partial, Wf, Settled, Agree, pair, siteAt, ruleOutput, ruleTarget, statesOf, inputsOf, choicesOf, choicesAt, choiceOf, ruleOf, stepOf, startOf, pairOf}
+use Rattle.engine.specs.Machine.{Ranged, Partial, Wf, Settled, Agree, pair, ruleOutput, ruleTarget, statesOf, inputsOf, choicesOf, choicesAt, choiceOf, ruleOf, stepOf, startOf}
 use Rattle.engine.specs.declared.tables.Step.{Step}
 use Rattle.engine.specs.Answers.{Steps, StepIs, Blocked}
 use Rattle.engine.specs.Product.{Listed, Covered, Fined, FinedAll, Conforms, KeptOk}
 use Rattle.engine.proofs.ChoiceLaws.{choice-at, choice-low, step-open}
 use Rattle.engine.proofs.Steps.{agree-less, place-low}
-use Rattle.engine.proofs.Cursors.{PressSpec, press-specified, press-given, nothing-same}
+use Rattle.engine.proofs.Cursors.{press-specified, press-given, nothing-same}
 
 pub listed-at : {list : List ℕ} {n : ℕ} (i z : ℕ) → i < n → getD list i 0 ≡ z → Listed list n z
 listed-at i z l e = record { index = i; low = l; is = e }

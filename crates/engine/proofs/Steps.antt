@@ -1,13 +1,13 @@
 -- One step of all mutants that agree with a settled part.
-use mathlib.Core.Path.{_≡_, refl, sym, ap, _∙_, subst}
+use mathlib.Core.Path.{_≡_, sym, ap, _∙_, subst}
 use mathlib.Core.List.{List}
-use Prim.Native.Nat.{ℕ, _+_, _*_, _<_}
+use Prim.Native.Nat.{ℕ, _<_}
 use native.Mathlib.Omega.{arith}
 use native.Mathlib.Decide.{ℕ-discrete}
 use lib.ListN.{getD}
 use Rattle.model.specs.Machine.{Move}
 use Rattle.engine.specs.Sets.{Has, HasAll, With}
-use Rattle.engine.specs.Machine.{Wf, Partial, Settled, Agree, pair, siteAt, statesOf, inputsOf, choicesOf, choicesAt, choiceOf, stepOf}
+use Rattle.engine.specs.Machine.{Wf, Partial, Settled, Agree, pair, siteAt, statesOf, inputsOf, choicesAt, choiceOf, stepOf}
 use Rattle.engine.specs.declared.tables.Step.{Step}
 use Rattle.engine.specs.Answers.{Steps, StepIs, Blocked}
 use Rattle.engine.proofs.ChoiceLaws.{choice-low, choice-lone, choice-at, step-closed, step-open}

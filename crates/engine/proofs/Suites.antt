@@ -1,5 +1,5 @@
 -- The tests that commands say are the tests that they were made from.
-use mathlib.Core.Path.{_≡_, refl, sym, ap, _∙_, subst}
+use mathlib.Core.Path.{_≡_, refl, ap, _∙_}
 use mathlib.Core.List.{List, [], _∷_, _++_, append-assoc}
 use Prim.Native.Nat.{ℕ}
 use Rattle.sheet.specs.Encode.{pressBytes, testBytes}

@@ -1,13 +1,13 @@
 -- What each answer promises, by cases.
 use mathlib.Core.Path.{_≡_}
 use mathlib.Core.Option.{some}
-use mathlib.Core.List.{List, [], _∷_, _++_}
+use mathlib.Core.List.{List, _++_}
 use mathlib.Core.Logic.{_⊎_}
 use Prim.Native.Nat.{ℕ, _+_, _*_, _<_, _≤_}
 use lib.ListN.{length, getD, drop, set}
 use Rattle.sheet.specs.Encode.{pressBytes}
 use Rattle.model.specs.Machine.{outputsFrom, specifiedFrom}
-use Rattle.engine.specs.Sets.{Has, HasAll}
+use Rattle.engine.specs.Sets.{HasAll}
 use Rattle.engine.specs.Machine.{Wf, Agree, Settled, pair, siteAt, statesOf, choicesAt, choiceOf, ruleOf, stepOf, PassesAll, AllSpecified, suiteBytes, testsOf}
 use Rattle.engine.specs.declared.tables.Step.{Step}
 use Rattle.engine.specs.declared.walk.Taken.{Taken}

@@ -10,9 +10,9 @@ use crate::tables::wide;
 ghost use mathlib.Core.Path.{_≡_};
 ghost use mathlib.Core.List.{List};
 ghost use Prim.Native.Nat.{ℕ, _+_, _*_, _<_, _≤_};
-ghost use lib.ListN.{length, getD};
+ghost use lib.ListN.{length};
 ghost use Rattle.engine.specs.Machine.{Wf, Partial, Settled, SuiteOk, statesOf, inputsOf};
-ghost use Rattle.engine.specs.Answers.{TakenOk, CursorOk, Further, MovedOk, RanOk, Behind, WantsOk, Noted, StrodeOk};
+ghost use Rattle.engine.specs.Answers.{TakenOk, CursorOk, MovedOk, RanOk, Behind, WantsOk, Noted, StrodeOk};
 
 // What the settled part of a mutant does at a state on an input: an output, a next state and the suspects used so far, with
 // this one; or the unsettled suspect met.

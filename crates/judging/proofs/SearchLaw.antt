@@ -4,17 +4,17 @@ use native.Mathlib.Decide.{ℕ-discrete, decLt}
 use native.Mathlib.Omega.{arith}
 use mathlib.Core.Path.{_≡_, refl, sym, _∙_, ap, subst}
 use mathlib.Core.Logic.{inl, inr, by-cases}
-use mathlib.Core.Bool.{Bool, true, false}
+use mathlib.Core.Bool.{Bool, true}
 use mathlib.Core.Option.{Option, none, some}
 use mathlib.Core.List.{List, [], _∷_}
 use borrow.Author.Count.{below-more}
 use lib.ListN.{length, getD, take, set, length-set, replicate, length-replicate, getD-replicate, List·getD-eq-default}
 use lib.Seq.{getD-set-same, getD-set-other, getD-take, length-take-le, ext-getD}
-use Rattle.sheet.specs.Lists.{maybe, Before}
+use Rattle.sheet.specs.Lists.{Before}
 use Rattle.sheet.specs.Sheet.{Sheet}
 use Rattle.sheet.specs.WellFormed.{WellFormed}
 use Rattle.model.specs.Mutant.{slots, IsMutant}
-use Rattle.model.specs.Suite.{Place, firstFailedOf, Passes, compareOf, complete, survivor, judgeOf}
+use Rattle.model.specs.Suite.{Passes, compareOf, complete, survivor, judgeOf}
 use Rattle.model.specs.laws.JudgeLaw.{judge-none, judge-first}
 use Rattle.model.specs.laws.SuspectLaw.{slot-count}
 use Rattle.model.specs.laws.OperationLaw.{mutant-length, in-range-at, in-range}

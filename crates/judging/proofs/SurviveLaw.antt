@@ -31,7 +31,7 @@ use Rattle.engine.specs.Machine.{pair, ruleOutput, ruleTarget, siteAt, choicesO
 use Rattle.engine.specs.Answers.{StepIs}
 use Rattle.engine.specs.declared.tables.Step.{Step}
 use Rattle.mutation.specs.declared.Compared.{Compared}
-use Rattle.mutation.specs.declared.Compared.the-variants.{Conforms, Differs, Refused}
+use Rattle.mutation.specs.declared.Compared.the-variants.{Differs}
 use Rattle.judging.specs.declared.survive.Searched.the-variants.{Nothing, First}
 use Rattle.mutation.specs.Answers.{overlay, comparedOf, found}
 use Rattle.mutation.specs.Tables.{ruleIn, moveIn, movesIn, tables, Valid}

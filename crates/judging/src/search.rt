@@ -6,7 +6,7 @@ use engine::choices;
 use engine::no_survivor;
 use engine::spent;
 ghost use mathlib.Core.Path.{_≡_};
-ghost use Prim.Native.Nat.{ℕ, _+_, _-_, _≤_, _<_};
+ghost use Prim.Native.Nat.{_+_, _-_, _<_};
 ghost use lib.ListN.{length};
 ghost use Rattle.sheet.specs.Sheet.{Sheet};
 ghost use Rattle.engine.specs.Store.{StoreOk};

@@ -1,13 +1,13 @@
 -- What a mutant does at a state and an input, by the byte that it uses there.
 use Prim.Native.Nat.{ℕ, zero, _<_}
 use native.Mathlib.Omega.{arith}
-use mathlib.Core.Path.{_≡_, refl, sym, _∙_}
+use mathlib.Core.Path.{_≡_, refl, _∙_}
 use mathlib.Core.Bool.{Bool, true, false, cond, _&&_}
 use mathlib.Core.Option.{Option, none, some}
 use mathlib.Core.List.{List}
 use borrow.Author.Tests.{lt-ltb, ltb-true}
 use lib.Dec.{ltb}
-use lib.ListN.{length, getD}
+use lib.ListN.{getD}
 use Rattle.sheet.specs.Lists.{maybe}
 use Rattle.sheet.specs.Sheet.{Sheet, choicesAt, isOpen}
 use Rattle.sheet.specs.WellFormed.{WellFormed}

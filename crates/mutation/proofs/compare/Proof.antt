@@ -1,5 +1,5 @@
 -- `compare`: a refusal of reading, or the operation on the accepted sheet.
-use mathlib.Core.Path.{_≡_, sym, _∙_, ap, ap₂}
+use mathlib.Core.Path.{sym, _∙_, ap, ap₂}
 use lib.ListN.{length}
 use Rattle.mutation.specs.declared.Compared.the-variants.{Refused}
 use Rattle.mutation.specs.Answers.{overlay, comparedAnswer, comparedWrites}
@@ -7,11 +7,6 @@ use Rattle.mutation.proofs.Opened.{opened, closed-by, comparing-on, com
 use borrow.Author.Needs.{needs}
 use Rattle.mutation.proofs.compare.Statement.{statement}
 use Rattle.mutation.proofs.compare.Tie as tie
-use Rattle.mutation.proofs.compare.Reads as reads
-use Rattle.mutation.proofs.compare.Lts as lts
-use Rattle.mutation.proofs.distance.compare_accepted.Reads as compare-accepted-reads
-use Rattle.mutation.proofs.refusal_of.Reads as refusal-of-reads
-use Rattle.sheet.proofs.load.Reads as load-reads
 
 load-requires : tie.Need-load-requires
 load-requires c κs = search needs

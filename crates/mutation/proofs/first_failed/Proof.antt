@@ -1,17 +1,11 @@
 -- `first_failed`: a refusal of reading, or the operation on the accepted sheet.
-use mathlib.Core.Path.{_≡_, sym, _∙_, ap, ap₂}
-use lib.ListN.{length}
+use mathlib.Core.Path.{sym, _∙_, ap, ap₂}
 use Rattle.mutation.specs.declared.Failed.the-variants.{Refused}
 use Rattle.mutation.specs.Answers.{failedAnswer}
 use Rattle.mutation.proofs.Opened.{opened, closed-by, failing-on, failing-refused, told-failed}
 use borrow.Author.Needs.{needs}
 use Rattle.mutation.proofs.first_failed.Statement.{statement}
 use Rattle.mutation.proofs.first_failed.Tie as tie
-use Rattle.mutation.proofs.first_failed.Reads as reads
-use Rattle.mutation.proofs.first_failed.Lts as lts
-use Rattle.mutation.proofs.refusal_of.Reads as refusal-of-reads
-use Rattle.mutation.proofs.suite.first_failed_accepted.Reads as first-failed-accepted-reads
-use Rattle.sheet.proofs.load.Reads as load-reads
 
 load-requires : tie.Need-load-requires
 load-requires c κs = search needs

@@ -5,8 +5,6 @@ use native.Mathlib.Omega.{arith}
 use borrow.Author.Needs.{needs}
 use Rattle.mutation.proofs.refusal_of.Statement.{statement}
 use Rattle.mutation.proofs.refusal_of.Tie as tie
-use Rattle.mutation.proofs.refusal_of.Reads as reads
-use Rattle.mutation.proofs.refusal_of.Lts as lts
 
 enum-known-reading : tie.Need-enum-known-reading
 enum-known-reading c = search needs

@@ -1,5 +1,5 @@
 -- `run`: a refusal of reading, or the operation on the accepted sheet.
-use mathlib.Core.Path.{_≡_, sym, _∙_, ap, ap₂}
+use mathlib.Core.Path.{sym, _∙_, ap, ap₂}
 use lib.ListN.{length}
 use Rattle.mutation.specs.declared.Ran.the-variants.{Refused}
 use Rattle.mutation.specs.Answers.{overlay, ranAnswer, ranWrites}
@@ -7,11 +7,6 @@ use Rattle.mutation.proofs.Opened.{opened, closed-by, running-on, runni
 use borrow.Author.Needs.{needs}
 use Rattle.mutation.proofs.run.Statement.{statement}
 use Rattle.mutation.proofs.run.Tie as tie
-use Rattle.mutation.proofs.run.Reads as reads
-use Rattle.mutation.proofs.run.Lts as lts
-use Rattle.mutation.proofs.refusal_of.Reads as refusal-of-reads
-use Rattle.mutation.proofs.respond.run_accepted.Reads as run-accepted-reads
-use Rattle.sheet.proofs.load.Reads as load-reads
 
 load-requires : tie.Need-load-requires
 load-requires c κs = search needs

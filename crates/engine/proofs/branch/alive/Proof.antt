@@ -1,15 +1,7 @@
 use borrow.Author.Needs.{needs}
-use Prim.Native.Nat.{ℕ, _+_, _-_, _*_, _<_, _≤_}
+use Prim.Native.Nat.{_-_, _≤_}
 use Rattle.engine.proofs.branch.alive.Statement.{statement}
 use Rattle.engine.proofs.branch.alive.Tie as tie
-use Rattle.engine.proofs.branch.alive.Reads as reads
-use Rattle.engine.proofs.branch.alive.Lts as lts
-use Rattle.engine.proofs.branch.plus.Reads as plus-reads
-use Rattle.engine.proofs.tables.choices.Reads as choices-reads
-use Rattle.engine.proofs.tables.pair_of.Reads as pair-of-reads
-use Rattle.engine.proofs.tables.rule_target.Reads as rule-target-reads
-use Rattle.engine.proofs.tables.states.Reads as states-reads
-use Rattle.engine.proofs.tables.transition.Reads as transition-reads
 
 abbrev Inv-loop : tie.InvT-loop
 Inv-loop tables i want k count sum₀ c₀ sum c = c ≤ count

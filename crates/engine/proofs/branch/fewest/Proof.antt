@@ -1,12 +1,7 @@
 use borrow.Author.Needs.{needs}
-use Prim.Native.Nat.{ℕ, _+_, _-_, _*_, _<_, _≤_}
+use Prim.Native.Nat.{_-_, _≤_}
 use Rattle.engine.proofs.branch.fewest.Statement.{statement}
 use Rattle.engine.proofs.branch.fewest.Tie as tie
-use Rattle.engine.proofs.branch.fewest.Reads as reads
-use Rattle.engine.proofs.branch.fewest.Lts as lts
-use Rattle.engine.proofs.branch.alive.Reads as alive-reads
-use Rattle.engine.proofs.branch.wish.Reads as wish-reads
-use Rattle.engine.proofs.sets.has.Reads as has-reads
 
 abbrev Inv-loop : tie.InvT-loop
 Inv-loop tables wanted waits best₀ least₀ i₀ best least i = i ≤ 32

@@ -3,12 +3,6 @@ use native.Mathlib.Omega.{arith}
 use Rattle.engine.proofs.Tries.{killed}
 use Rattle.engine.proofs.branch.kill.Statement.{statement}
 use Rattle.engine.proofs.branch.kill.Tie as tie
-use Rattle.engine.proofs.branch.kill.Reads as reads
-use Rattle.engine.proofs.branch.kill.Lts as lts
-use Rattle.engine.proofs.branch.killer.Reads as killer-reads
-use Rattle.engine.proofs.sets.with.Reads as with-reads
-use Rattle.engine.proofs.tables.transition.Reads as transition-reads
-use Rattle.engine.proofs.walk.slot.Reads as slot-reads
 
 transition-requires : tie.Need-transition-requires
 transition-requires c κs = c .before .pre .2 .pair

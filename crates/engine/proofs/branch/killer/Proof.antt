@@ -1,15 +1,10 @@
 use borrow.Author.Needs.{needs}
-use Prim.Native.Nat.{ℕ, _+_, _-_, _*_, _<_, _≤_}
+use Prim.Native.Nat.{_-_, _≤_}
 use native.Mathlib.Omega.{arith}
-use mathlib.Core.Logic.{_⊎_, inl, inr, ⊎-elim}
-use mathlib.Core.Path.{_≡_, refl, sym, ap, _∙_}
+use mathlib.Core.Logic.{_⊎_, ⊎-elim}
 use Rattle.engine.specs.Refute.{KillerOk}
 use Rattle.engine.proofs.branch.killer.Statement.{statement}
 use Rattle.engine.proofs.branch.killer.Tie as tie
-use Rattle.engine.proofs.branch.killer.Reads as reads
-use Rattle.engine.proofs.branch.killer.Lts as lts
-use Rattle.engine.proofs.branch.suits.Reads as suits-reads
-use Rattle.engine.proofs.walk.slot.Reads as slot-reads
 
 abbrev Inv-loop : tie.InvT-loop
 Inv-loop wanted i output best₀ old₀ o₀ best old o = (o ≤ 16) × KillerOk wanted i output best

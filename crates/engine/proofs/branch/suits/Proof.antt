@@ -1,12 +1,9 @@
 use borrow.Author.Needs.{needs}
 use native.Mathlib.Omega.{arith}
-use Prim.Native.Nat.{ℕ, _+_, _-_, _*_, _<_, _≤_}
-use mathlib.Core.Path.{_≡_, refl, sym, ap, _∙_}
+use Prim.Native.Nat.{ℕ, _-_}
+use mathlib.Core.Path.{_≡_}
 use Rattle.engine.proofs.branch.suits.Statement.{statement}
 use Rattle.engine.proofs.branch.suits.Tie as tie
-use Rattle.engine.proofs.branch.suits.Reads as reads
-use Rattle.engine.proofs.branch.suits.Lts as lts
-use Rattle.engine.proofs.walk.better.Reads as better-reads
 
 returns : tie.Need-returns
 returns c = λ e. absurd (let z : _≡_ {A = ℕ} 0 1 = cc in omega arith)

@@ -1,10 +1,7 @@
 use borrow.Author.Needs.{needs}
-use Prim.Native.Nat.{ℕ, _+_, _-_, _*_, _<_, _≤_}
+use Prim.Native.Nat.{_-_, _≤_}
 use Rattle.engine.proofs.branch.wish.Statement.{statement}
 use Rattle.engine.proofs.branch.wish.Tie as tie
-use Rattle.engine.proofs.branch.wish.Reads as reads
-use Rattle.engine.proofs.branch.wish.Lts as lts
-use Rattle.engine.proofs.walk.slot.Reads as slot-reads
 
 abbrev Inv-loop : tie.InvT-loop
 Inv-loop wanted i want₀ o₀ want o = o ≤ 16

@@ -2,9 +2,6 @@ use borrow.Author.Needs.{needs}
 use Prim.Native.Nat.{_≤_, _-_}
 use Rattle.engine.proofs.notes.keep.Statement.{statement}
 use Rattle.engine.proofs.notes.keep.Tie as tie
-use Rattle.engine.proofs.notes.keep.Reads as reads
-use Rattle.engine.proofs.notes.keep.Lts as lts
-use Rattle.engine.proofs.notes.as_note.Reads as as-note-reads
 
 abbrev Inv-loop : tie.InvT-loop
 Inv-loop notes₀ p j₀ notes j = j ≤ 32

@@ -2,9 +2,6 @@ use borrow.Author.Needs.{needs}
 use Prim.Native.Nat.{_≤_}
 use Rattle.engine.proofs.notes.settled_before.Statement.{statement}
 use Rattle.engine.proofs.notes.settled_before.Tie as tie
-use Rattle.engine.proofs.notes.settled_before.Reads as reads
-use Rattle.engine.proofs.notes.settled_before.Lts as lts
-use Rattle.engine.proofs.tables.wide.Reads as wide-reads
 
 abbrev Inv-loop : tie.InvT-loop
 Inv-loop notes₀ left p at₀ j₀ notes at j = j ≤ 32

@@ -2,9 +2,6 @@ use borrow.Author.Needs.{needs}
 use Prim.Native.Nat.{_≤_, _-_}
 use Rattle.engine.proofs.notes.witnessed.Statement.{statement}
 use Rattle.engine.proofs.notes.witnessed.Tie as tie
-use Rattle.engine.proofs.notes.witnessed.Reads as reads
-use Rattle.engine.proofs.notes.witnessed.Lts as lts
-use Rattle.engine.proofs.notes.meets.Reads as meets-reads
 
 abbrev Inv-loop : tie.InvT-loop
 Inv-loop notes p j₀ j = j ≤ 32

@@ -1,19 +1,10 @@
 use borrow.Author.Needs.{needs}
-use Prim.Native.Nat.{ℕ, _+_, _-_, _*_, _<_, _≤_}
+use Prim.Native.Nat.{_-_}
 use native.Mathlib.Omega.{arith}
-use mathlib.Core.Path.{_≡_, refl, sym, ap, _∙_}
-use borrow.Author.Tests.{not-true, not-false, eqb-true}
+use borrow.Author.Tests.{not-false}
 use Rattle.engine.proofs.Pairs.{AnyTo, any-none, any-low, any-more, any-all}
 use Rattle.engine.proofs.product.any.Statement.{statement}
 use Rattle.engine.proofs.product.any.Tie as tie
-use Rattle.engine.proofs.product.any.Reads as reads
-use Rattle.engine.proofs.product.any.Lts as lts
-use Rattle.engine.proofs.product.listed.Reads as listed-reads
-use Rattle.engine.proofs.tables.choices.Reads as choices-reads
-use Rattle.engine.proofs.tables.place.Reads as place-reads
-use Rattle.engine.proofs.tables.rule_output.Reads as rule-output-reads
-use Rattle.engine.proofs.tables.rule_target.Reads as rule-target-reads
-use Rattle.engine.proofs.tables.transition.Reads as transition-reads
 
 abbrev Inv-loop : tie.InvT-loop
 Inv-loop tables p list index n used s q x i k wants next at count c₀ c = AnyTo tables list n s q x i c

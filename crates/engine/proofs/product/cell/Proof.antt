@@ -1,18 +1,9 @@
 use borrow.Author.Needs.{needs}
 use native.Mathlib.Omega.{arith}
-use mathlib.Core.Path.{_≡_, refl, sym, ap, _∙_}
-use borrow.Author.Tests.{not-true, not-false, eqb-true}
+use borrow.Author.Tests.{not-false}
 use Rattle.engine.proofs.Pairs.{fined-none, fined-step}
 use Rattle.engine.proofs.product.cell.Statement.{statement}
 use Rattle.engine.proofs.product.cell.Tie as tie
-use Rattle.engine.proofs.product.cell.Reads as reads
-use Rattle.engine.proofs.product.cell.Lts as lts
-use Rattle.engine.proofs.product.any.Reads as any-reads
-use Rattle.engine.proofs.product.listed.Reads as listed-reads
-use Rattle.engine.proofs.tables.place.Reads as place-reads
-use Rattle.engine.proofs.tables.rule_output.Reads as rule-output-reads
-use Rattle.engine.proofs.tables.rule_target.Reads as rule-target-reads
-use Rattle.engine.proofs.walk.take.Reads as take-reads
 
 place-requires : tie.Need-place-requires
 place-requires c κs = (c .pre .2, omega (arith, c .pre .4, c .pre .0 .few-inputs))

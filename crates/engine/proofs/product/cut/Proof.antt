@@ -3,10 +3,6 @@ use native.Mathlib.Omega.{arith}
 use Rattle.engine.proofs.Pairs.{kept-cut}
 use Rattle.engine.proofs.product.cut.Statement.{statement}
 use Rattle.engine.proofs.product.cut.Tie as tie
-use Rattle.engine.proofs.product.cut.Reads as reads
-use Rattle.engine.proofs.product.cut.Lts as lts
-use Rattle.engine.proofs.sets.has.Reads as has-reads
-use Rattle.engine.proofs.tables.wide.Reads as wide-reads
 
 returns : tie.Need-returns
 returns c = search needs

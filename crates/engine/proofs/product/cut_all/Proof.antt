@@ -1,11 +1,8 @@
 use borrow.Author.Needs.{needs}
-use Prim.Native.Nat.{ℕ, _+_, _-_, _*_, _<_, _≤_}
+use Prim.Native.Nat.{_-_, _≤_}
 use Rattle.engine.specs.Product.{KeptOk}
 use Rattle.engine.proofs.product.cut_all.Statement.{statement}
 use Rattle.engine.proofs.product.cut_all.Tie as tie
-use Rattle.engine.proofs.product.cut_all.Reads as reads
-use Rattle.engine.proofs.product.cut_all.Lts as lts
-use Rattle.engine.proofs.product.cut.Reads as cut-reads
 
 abbrev Inv-loop : tie.InvT-loop
 Inv-loop tables base rest₀ j₀ rest j = (j ≤ 32) × KeptOk tables base (rest .p) (rest .used)

@@ -1,14 +1,11 @@
 use borrow.Author.Needs.{needs}
 use native.Mathlib.Omega.{arith}
-use mathlib.Core.Path.{_≡_, refl, sym, ap, _∙_}
-use borrow.Author.Tests.{not-true, not-false, eqb-true}
-use Prim.Native.Nat.{ℕ, _+_, _-_, _*_, _<_, _≤_}
+use mathlib.Core.Path.{_≡_, sym, _∙_}
+use borrow.Author.Tests.{eqb-true}
+use Prim.Native.Nat.{ℕ, _-_}
 use Rattle.engine.proofs.Pairs.{listed-at}
 use Rattle.engine.proofs.product.listed.Statement.{statement}
 use Rattle.engine.proofs.product.listed.Tie as tie
-use Rattle.engine.proofs.product.listed.Reads as reads
-use Rattle.engine.proofs.product.listed.Lts as lts
-use Rattle.engine.proofs.tables.wide.Reads as wide-reads
 
 element-copy-out-wide : tie.Need-element-copy-out-wide
 element-copy-out-wide c = search needs

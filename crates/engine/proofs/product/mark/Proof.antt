@@ -1,10 +1,7 @@
 use borrow.Author.Needs.{needs}
-use Prim.Native.Nat.{ℕ, _+_, _-_, _*_, _<_, _≤_}
+use Prim.Native.Nat.{_-_, _≤_}
 use Rattle.engine.proofs.product.mark.Statement.{statement}
 use Rattle.engine.proofs.product.mark.Tie as tie
-use Rattle.engine.proofs.product.mark.Reads as reads
-use Rattle.engine.proofs.product.mark.Lts as lts
-use Rattle.engine.proofs.product.mark_row.Reads as mark-row-reads
 
 abbrev Inv-loop : tie.InvT-loop
 Inv-loop tables p list₀ index₀ all end₀ h₀ list index end h = h ≤ 256

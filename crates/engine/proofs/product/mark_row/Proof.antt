@@ -1,11 +1,7 @@
 use borrow.Author.Needs.{needs}
-use Prim.Native.Nat.{ℕ, _+_, _-_, _*_, _<_, _≤_}
+use Prim.Native.Nat.{_-_, _≤_}
 use Rattle.engine.proofs.product.mark_row.Statement.{statement}
 use Rattle.engine.proofs.product.mark_row.Tie as tie
-use Rattle.engine.proofs.product.mark_row.Reads as reads
-use Rattle.engine.proofs.product.mark_row.Lts as lts
-use Rattle.engine.proofs.product.mark_cell.Reads as mark-cell-reads
-use Rattle.engine.proofs.tables.inputs.Reads as inputs-reads
 
 abbrev Inv-loop : tie.InvT-loop
 Inv-loop tables p list₀ index₀ all s q n last end₀ x₀ list index end x = x ≤ last

@@ -1,12 +1,7 @@
 use borrow.Author.Needs.{needs}
-use Prim.Native.Nat.{ℕ, _+_, _-_, _*_, _<_, _≤_}
+use Prim.Native.Nat.{_-_, _<_}
 use Rattle.engine.proofs.product.mark_some.Statement.{statement}
 use Rattle.engine.proofs.product.mark_some.Tie as tie
-use Rattle.engine.proofs.product.mark_some.Reads as reads
-use Rattle.engine.proofs.product.mark_some.Lts as lts
-use Rattle.engine.proofs.product.visit.Reads as visit-reads
-use Rattle.engine.proofs.tables.some_place.Reads as some-place-reads
-use Rattle.engine.proofs.tables.transition.Reads as transition-reads
 
 abbrev Inv-loop : tie.InvT-loop
 Inv-loop tables list₀ index₀ at low high wants next n end₀ c₀ list index end c = at < 256

@@ -1,15 +1,7 @@
 use borrow.Author.Needs.{needs}
-use native.Mathlib.Omega.{arith}
-use mathlib.Core.Path.{_≡_, refl, sym, subst, _∙_}
-use mathlib.Core.Logic.{_⊎_, inl, inr, ⊎-elim}
-use Prim.Native.Nat.{ℕ, _+_, _-_, _*_, _<_, _≤_}
-use lib.ListN.{getD, length}
+use Prim.Native.Nat.{_-_, _≤_}
 use Rattle.engine.proofs.product.meet.Statement.{statement}
 use Rattle.engine.proofs.product.meet.Tie as tie
-use Rattle.engine.proofs.product.meet.Reads as reads
-use Rattle.engine.proofs.product.meet.Lts as lts
-use Rattle.engine.proofs.product.mark.Reads as mark-reads
-use Rattle.engine.proofs.product.open_at.Reads as open-at-reads
 
 abbrev Inv-loop : tie.InvT-loop
 Inv-loop tables p list end h₀ h = (h ≤ 256) × (end ≤ 256)

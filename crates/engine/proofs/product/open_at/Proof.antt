@@ -1,14 +1,7 @@
 use borrow.Author.Needs.{needs}
-use Prim.Native.Nat.{ℕ, _+_, _-_, _*_, _<_, _≤_}
+use Prim.Native.Nat.{_-_, _≤_}
 use Rattle.engine.proofs.product.open_at.Statement.{statement}
 use Rattle.engine.proofs.product.open_at.Tie as tie
-use Rattle.engine.proofs.product.open_at.Reads as reads
-use Rattle.engine.proofs.product.open_at.Lts as lts
-use Rattle.engine.proofs.tables.inputs.Reads as inputs-reads
-use Rattle.engine.proofs.tables.rule_target.Reads as rule-target-reads
-use Rattle.engine.proofs.tables.site.Reads as site-reads
-use Rattle.engine.proofs.tables.some_place.Reads as some-place-reads
-use Rattle.engine.proofs.tables.wide.Reads as wide-reads
 
 abbrev Inv-loop : tie.InvT-loop
 Inv-loop tables p s q end x₀ x = x ≤ end

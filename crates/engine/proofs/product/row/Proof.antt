@@ -1,14 +1,8 @@
 use borrow.Author.Needs.{needs}
-use Prim.Native.Nat.{ℕ, _+_, _-_, _*_, _<_, _≤_}
-use native.Mathlib.Omega.{arith}
-use mathlib.Core.Path.{_≡_, refl, sym, ap, _∙_}
+use Prim.Native.Nat.{_-_}
 use Rattle.engine.proofs.Pairs.{RowTo, row-none, row-more, row-all}
 use Rattle.engine.proofs.product.row.Statement.{statement}
 use Rattle.engine.proofs.product.row.Tie as tie
-use Rattle.engine.proofs.product.row.Reads as reads
-use Rattle.engine.proofs.product.row.Lts as lts
-use Rattle.engine.proofs.product.cell.Reads as cell-reads
-use Rattle.engine.proofs.tables.inputs.Reads as inputs-reads
 
 abbrev Inv-loop : tie.InvT-loop
 Inv-loop tables p list index n used s q end all₀ x₀ all x = RowTo tables p list n used all s q x

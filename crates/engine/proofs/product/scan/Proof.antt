@@ -1,20 +1,10 @@
 use borrow.Author.Needs.{needs}
-use Prim.Native.Nat.{ℕ, _+_, _-_, _*_, _<_, _≤_}
+use Prim.Native.Nat.{_-_}
 use native.Mathlib.Omega.{arith}
-use mathlib.Core.Path.{_≡_, refl, sym, ap, _∙_}
-use borrow.Author.Tests.{not-true, not-false, eqb-true}
+use borrow.Author.Tests.{not-false}
 use Rattle.engine.proofs.Pairs.{ScanTo, scan-none, scan-more, conforms}
 use Rattle.engine.proofs.product.scan.Statement.{statement}
 use Rattle.engine.proofs.product.scan.Tie as tie
-use Rattle.engine.proofs.product.scan.Reads as reads
-use Rattle.engine.proofs.product.scan.Lts as lts
-use Rattle.engine.proofs.product.listed.Reads as listed-reads
-use Rattle.engine.proofs.product.lower.Reads as lower-reads
-use Rattle.engine.proofs.product.row.Reads as row-reads
-use Rattle.engine.proofs.product.upper.Reads as upper-reads
-use Rattle.engine.proofs.sets.empty.Reads as empty-reads
-use Rattle.engine.proofs.tables.states.Reads as states-reads
-use Rattle.engine.proofs.tables.wide.Reads as wide-reads
 
 abbrev Inv-loop : tie.InvT-loop
 Inv-loop tables p list index n all₀ h₀ all h = ScanTo tables p list n all h

@@ -1,18 +1,9 @@
-use Prim.Native.Nat.{ℕ, _+_, _-_, _*_, _<_, _≤_}
+use Prim.Native.Nat.{_-_, _≤_}
 use borrow.Author.Needs.{needs}
-use native.Mathlib.Omega.{arith}
-use mathlib.Core.Path.{_≡_, refl, sym, subst, _∙_}
-use mathlib.Core.Logic.{_⊎_, inl, inr, ⊎-elim}
-use lib.ListN.{getD, length}
 use Rattle.engine.specs.Product.{KeptOk}
 use Rattle.engine.proofs.Pairs.{kept-none}
 use Rattle.engine.proofs.product.shrink.Statement.{statement}
 use Rattle.engine.proofs.product.shrink.Tie as tie
-use Rattle.engine.proofs.product.shrink.Reads as reads
-use Rattle.engine.proofs.product.shrink.Lts as lts
-use Rattle.engine.proofs.product.cut_all.Reads as cut-all-reads
-use Rattle.engine.proofs.notes.latest.Reads as latest-reads
-use Rattle.engine.proofs.product.spare.Reads as spare-reads
 
 abbrev Inv-loop : tie.InvT-loop
 Inv-loop tables base notes left used kept₀ d₀ kept d = (d ≤ 32) × KeptOk tables base (kept .p) (kept .used)

@@ -1,17 +1,9 @@
-use Prim.Native.Nat.{ℕ, _+_, _-_, _*_, _<_, _≤_}
+use Prim.Native.Nat.{_-_}
 use borrow.Author.Needs.{needs}
 use native.Mathlib.Omega.{arith}
-use mathlib.Core.Path.{_≡_, refl, sym, subst, _∙_}
-use mathlib.Core.Logic.{_⊎_, inl, inr, ⊎-elim}
-use lib.ListN.{getD, length}
 use Rattle.engine.proofs.Pairs.{kept-part, kept-spare}
 use Rattle.engine.proofs.product.spare.Statement.{statement}
 use Rattle.engine.proofs.product.spare.Tie as tie
-use Rattle.engine.proofs.product.spare.Reads as reads
-use Rattle.engine.proofs.product.spare.Lts as lts
-use Rattle.engine.proofs.product.over.Reads as over-reads
-use Rattle.engine.proofs.sets.has.Reads as has-reads
-use Rattle.engine.proofs.tables.wide.Reads as wide-reads
 
 returns : tie.Need-returns
 returns c = search needs

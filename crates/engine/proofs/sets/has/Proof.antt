@@ -3,8 +3,6 @@ use borrow.Author.Tests.{eqb-true, eqb-false}
 use Rattle.engine.specs.Sets.{Has}
 use Rattle.engine.proofs.sets.has.Statement.{statement}
 use Rattle.engine.proofs.sets.has.Tie as tie
-use Rattle.engine.proofs.sets.has.Reads as reads
-use Rattle.engine.proofs.sets.has.Lts as lts
 
 -- src/sets.rt:18:6
 shr-result : tie.Need-shr-result

@@ -1,8 +1,6 @@
 use Rattle.engine.proofs.Bits.{join-both}
 use Rattle.engine.proofs.sets.join.Statement.{statement}
 use Rattle.engine.proofs.sets.join.Tie as tie
-use Rattle.engine.proofs.sets.join.Reads as reads
-use Rattle.engine.proofs.sets.join.Lts as lts
 
 returns : tie.Need-returns
 returns c = join-both (c .args .a) (c .args .b)

@@ -2,8 +2,6 @@ use borrow.Author.Needs.{needs}
 use Rattle.engine.proofs.Bits.{with-one}
 use Rattle.engine.proofs.sets.with.Statement.{statement}
 use Rattle.engine.proofs.sets.with.Tie as tie
-use Rattle.engine.proofs.sets.with.Reads as reads
-use Rattle.engine.proofs.sets.with.Lts as lts
 
 shl-result : tie.Need-shl-result
 shl-result c = search needs

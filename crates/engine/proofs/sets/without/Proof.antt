@@ -2,9 +2,6 @@ use borrow.Author.Needs.{needs}
 use Rattle.engine.proofs.Bits.{without-one, without-none}
 use Rattle.engine.proofs.sets.without.Statement.{statement}
 use Rattle.engine.proofs.sets.without.Tie as tie
-use Rattle.engine.proofs.sets.without.Reads as reads
-use Rattle.engine.proofs.sets.without.Lts as lts
-use Rattle.engine.proofs.sets.has.Reads as has-reads
 
 has-requires : tie.Need-has-requires
 has-requires c κs = search needs

@@ -1,13 +1,10 @@
 use borrow.Author.Needs.{needs}
 use native.Mathlib.Omega.{arith}
-use borrow.Author.Tests.{not-true, not-false, eqb-true}
-use mathlib.Core.Path.{_≡_, refl, sym, ap, _∙_}
-use Prim.Native.Nat.{ℕ, _+_, _-_, _*_, _<_, _≤_}
+use borrow.Author.Tests.{not-true}
+use mathlib.Core.Path.{_≡_}
+use Prim.Native.Nat.{ℕ, _-_}
 use Rattle.engine.proofs.store.agrees.Statement.{statement}
 use Rattle.engine.proofs.store.agrees.Tie as tie
-use Rattle.engine.proofs.store.agrees.Reads as reads
-use Rattle.engine.proofs.store.agrees.Lts as lts
-use Rattle.engine.proofs.sets.has.Reads as has-reads
 
 has-requires : tie.Need-has-requires
 has-requires c κs = search needs

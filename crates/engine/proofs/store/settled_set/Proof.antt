@@ -1,10 +1,7 @@
 use borrow.Author.Needs.{needs}
-use Prim.Native.Nat.{ℕ, _+_, _-_, _*_, _<_, _≤_}
+use Prim.Native.Nat.{_-_, _≤_}
 use Rattle.engine.proofs.store.settled_set.Statement.{statement}
 use Rattle.engine.proofs.store.settled_set.Tie as tie
-use Rattle.engine.proofs.store.settled_set.Reads as reads
-use Rattle.engine.proofs.store.settled_set.Lts as lts
-use Rattle.engine.proofs.store.bit.Reads as bit-reads
 
 abbrev Inv-loop : tie.InvT-loop
 Inv-loop p set₀ j₀ set j = j ≤ 32

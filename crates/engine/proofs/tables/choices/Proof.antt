@@ -1,11 +1,6 @@
 use borrow.Author.Needs.{needs}
-use mathlib.Core.Path.{ap}
 use Rattle.engine.proofs.tables.choices.Statement.{statement}
 use Rattle.engine.proofs.tables.choices.Tie as tie
-use Rattle.engine.proofs.tables.choices.Reads as reads
-use Rattle.engine.proofs.tables.choices.Lts as lts
-use Rattle.engine.proofs.tables.more.Reads as more-reads
-use Rattle.engine.proofs.tables.wide.Reads as wide-reads
 
 wide-requires : tie.Need-wide-requires
 wide-requires c κs = search needs

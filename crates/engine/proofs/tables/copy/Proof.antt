@@ -1,13 +1,11 @@
 use borrow.Author.Needs.{needs}
-use Prim.Native.Nat.{ℕ, _+_, _-_, _*_, _<_, _≤_}
+use Prim.Native.Nat.{_-_, _≤_}
 use native.Mathlib.Omega.{arith}
-use mathlib.Core.Path.{_≡_, refl, sym, ap, _∙_}
+use mathlib.Core.Path.{refl}
 use Rattle.engine.proofs.Packs.{fill-none, fill-more, fill-all}
 use Rattle.engine.specs.Packing.{Copied}
 use Rattle.engine.proofs.tables.copy.Statement.{statement}
 use Rattle.engine.proofs.tables.copy.Tie as tie
-use Rattle.engine.proofs.tables.copy.Reads as reads
-use Rattle.engine.proofs.tables.copy.Lts as lts
 
 abbrev Inv-loop : tie.InvT-loop
 Inv-loop tables₀ base from k₀ tables k = Copied tables₀ tables base from k × (base ≤ 1280)

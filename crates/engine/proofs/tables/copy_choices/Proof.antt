@@ -1,14 +1,10 @@
 use borrow.Author.Needs.{needs}
-use Prim.Native.Nat.{ℕ, _+_, _-_, _*_, _<_, _≤_}
+use Prim.Native.Nat.{_-_}
 use native.Mathlib.Omega.{arith}
-use mathlib.Core.Path.{_≡_, refl, sym, ap, _∙_}
 use Rattle.engine.proofs.Packs.{fill-none, fill-more, fill-all}
 use Rattle.engine.specs.Packing.{ChoicesCopied}
 use Rattle.engine.proofs.tables.copy_choices.Statement.{statement}
 use Rattle.engine.proofs.tables.copy_choices.Tie as tie
-use Rattle.engine.proofs.tables.copy_choices.Reads as reads
-use Rattle.engine.proofs.tables.copy_choices.Lts as lts
-use Rattle.engine.proofs.tables.last.Reads as last-reads
 
 abbrev Inv-loop : tie.InvT-loop
 Inv-loop tables₀ choices i₀ tables i = ChoicesCopied tables₀ tables choices i

@@ -1,14 +1,10 @@
 use borrow.Author.Needs.{needs}
-use Prim.Native.Nat.{ℕ, _+_, _-_, _*_, _<_, _≤_}
+use Prim.Native.Nat.{_-_}
 use native.Mathlib.Omega.{arith}
-use mathlib.Core.Path.{_≡_, refl, sym, ap, _∙_}
 use Rattle.engine.proofs.Packs.{fill-none, fill-more, fill-all}
 use Rattle.engine.specs.Packing.{FirstCopied}
 use Rattle.engine.proofs.tables.copy_first.Statement.{statement}
 use Rattle.engine.proofs.tables.copy_first.Tie as tie
-use Rattle.engine.proofs.tables.copy_first.Reads as reads
-use Rattle.engine.proofs.tables.copy_first.Lts as lts
-use Rattle.engine.proofs.tables.narrow.Reads as narrow-reads
 
 abbrev Inv-loop : tie.InvT-loop
 Inv-loop tables₀ first k₀ tables k = FirstCopied tables₀ tables first k

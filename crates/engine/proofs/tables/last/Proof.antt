@@ -2,9 +2,6 @@ use borrow.Author.Needs.{needs}
 use native.Mathlib.Omega.{arith}
 use Rattle.engine.proofs.tables.last.Statement.{statement}
 use Rattle.engine.proofs.tables.last.Tie as tie
-use Rattle.engine.proofs.tables.last.Reads as reads
-use Rattle.engine.proofs.tables.last.Lts as lts
-use Rattle.engine.proofs.tables.narrow.Reads as narrow-reads
 
 returns : tie.Need-returns
 returns c = search needs

@@ -1,15 +1,10 @@
 use borrow.Author.Needs.{needs}
-use Prim.Native.Nat.{ℕ, _+_, _-_, _*_, _<_, _≤_}
+use Prim.Native.Nat.{_-_, _≤_}
 use native.Mathlib.Omega.{arith}
-use mathlib.Core.Path.{_≡_, refl, sym, ap, _∙_}
 use Rattle.engine.proofs.Packs.{located-none, located-more}
 use Rattle.engine.specs.Packing.{Located}
 use Rattle.engine.proofs.tables.locate.Statement.{statement}
 use Rattle.engine.proofs.tables.locate.Tie as tie
-use Rattle.engine.proofs.tables.locate.Reads as reads
-use Rattle.engine.proofs.tables.locate.Lts as lts
-use Rattle.engine.proofs.tables.pair_at.Reads as pair-at-reads
-use Rattle.engine.proofs.tables.wide.Reads as wide-reads
 
 abbrev Inv-loop : tie.InvT-loop
 Inv-loop tables₀ site k₀ tables k = Located tables₀ tables × (k ≤ 256)

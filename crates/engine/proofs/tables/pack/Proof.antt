@@ -3,12 +3,6 @@ use native.Mathlib.Omega.{arith}
 use Rattle.engine.proofs.Packs.{packed}
 use Rattle.engine.proofs.tables.pack.Statement.{statement}
 use Rattle.engine.proofs.tables.pack.Tie as tie
-use Rattle.engine.proofs.tables.pack.Reads as reads
-use Rattle.engine.proofs.tables.pack.Lts as lts
-use Rattle.engine.proofs.tables.copy.Reads as copy-reads
-use Rattle.engine.proofs.tables.copy_first.Reads as copy-first-reads
-use Rattle.engine.proofs.tables.copy_choices.Reads as copy-choices-reads
-use Rattle.engine.proofs.tables.locate.Reads as locate-reads
 
 copy-requires : tie.Need-copy-requires
 copy-requires c κs = (c .before .pre, omega arith)

@@ -1,17 +1,8 @@
 use borrow.Author.Needs.{needs}
 use mathlib.Core.Path.{refl}
-use native.Mathlib.Omega.{arith}
 use Rattle.engine.proofs.ChoiceLaws.{is-unruled, is-rule, is-fault, is-none}
 use Rattle.engine.proofs.tables.transition.Statement.{statement}
 use Rattle.engine.proofs.tables.transition.Tie as tie
-use Rattle.engine.proofs.tables.transition.Reads as reads
-use Rattle.engine.proofs.tables.transition.Lts as lts
-use Rattle.engine.proofs.tables.rule_output.Reads as rule-output-reads
-use Rattle.engine.proofs.tables.rule_target.Reads as rule-target-reads
-use Rattle.engine.proofs.tables.states.Reads as states-reads
-use Rattle.engine.proofs.tables.unruled.Reads as unruled-reads
-use Rattle.engine.proofs.tables.wide.Reads as wide-reads
-use Rattle.engine.proofs.tables.wide16.Reads as wide16-reads
 
 rule-target-requires : tie.Need-rule-target-requires
 rule-target-requires c κs = search needs

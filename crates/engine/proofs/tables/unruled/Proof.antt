@@ -1,11 +1,9 @@
 use borrow.Author.Needs.{needs}
-use native.Mathlib.Nat.{div-le-self, mod-lt}
+use native.Mathlib.Nat.{div-le-self}
 use native.Mathlib.Omega.{arith}
-use native.Mathlib.Nat.{div-le-self, mod-lt, mod-le}
+use native.Mathlib.Nat.{div-le-self, mod-le}
 use Rattle.engine.proofs.tables.unruled.Statement.{statement}
 use Rattle.engine.proofs.tables.unruled.Tie as tie
-use Rattle.engine.proofs.tables.unruled.Reads as reads
-use Rattle.engine.proofs.tables.unruled.Lts as lts
 
 returns : tie.Need-returns
 returns c = search needs

@@ -1,16 +1,8 @@
 use borrow.Author.Needs.{needs}
 use native.Mathlib.Omega.{arith}
-use mathlib.Core.Path.{_≡_, refl, sym, _∙_}
-use Rattle.engine.proofs.Cursors.{inside, begins, press, PressAt, wrong, moves, stuck}
+use Rattle.engine.proofs.Cursors.{inside, begins, press, wrong, moves, stuck}
 use Rattle.engine.proofs.walk.advance.Statement.{statement}
 use Rattle.engine.proofs.walk.advance.Tie as tie
-use Rattle.engine.proofs.walk.advance.Reads as reads
-use Rattle.engine.proofs.walk.advance.Lts as lts
-use Rattle.engine.proofs.sets.empty.Reads as empty-reads
-use Rattle.engine.proofs.tables.place.Reads as place-reads
-use Rattle.engine.proofs.tables.rule_output.Reads as rule-output-reads
-use Rattle.engine.proofs.tables.rule_target.Reads as rule-target-reads
-use Rattle.engine.proofs.walk.take.Reads as take-reads
 
 shared-slice-read-command : tie.Need-shared-slice-read-command
 shared-slice-read-command c = inside (c .before .before .pre .2)

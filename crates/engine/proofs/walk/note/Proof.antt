@@ -1,13 +1,8 @@
 use borrow.Author.Needs.{needs}
-use mathlib.Core.Logic.{_⊎_, inl, inr, ⊎-elim}
-use mathlib.Core.Path.{_≡_, refl, sym, _∙_}
-use lib.ListN.{set}
+use mathlib.Core.Logic.{inl, inr}
+use mathlib.Core.Path.{refl}
 use Rattle.engine.proofs.walk.note.Statement.{statement}
 use Rattle.engine.proofs.walk.note.Tie as tie
-use Rattle.engine.proofs.walk.note.Reads as reads
-use Rattle.engine.proofs.walk.note.Lts as lts
-use Rattle.engine.proofs.walk.better.Reads as better-reads
-use Rattle.engine.proofs.walk.slot.Reads as slot-reads
 
 returns : tie.Need-returns
 returns c = inl refl

@@ -1,14 +1,11 @@
 use borrow.Author.Needs.{needs}
-use Prim.Native.Nat.{ℕ, _+_, _-_, _*_, _<_, _≤_}
-use lib.ListN.{length, getD}
+use Prim.Native.Nat.{_-_, _≤_}
+use lib.ListN.{length}
 use native.Mathlib.Omega.{arith}
 use Rattle.engine.proofs.Cursors.{behind-inside, behind-press, behind-cursor}
 use Rattle.engine.specs.Answers.{Behind}
 use Rattle.engine.proofs.walk.skip.Statement.{statement}
 use Rattle.engine.proofs.walk.skip.Tie as tie
-use Rattle.engine.proofs.walk.skip.Reads as reads
-use Rattle.engine.proofs.walk.skip.Lts as lts
-use Rattle.engine.proofs.sets.empty.Reads as empty-reads
 
 abbrev Inv-loop : tie.InvT-loop
 Inv-loop tables bytes p from waits at₀ at = Behind tables bytes at × (from ≤ at)

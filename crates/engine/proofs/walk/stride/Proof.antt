@@ -3,12 +3,6 @@ use native.Mathlib.Omega.{arith}
 use Rattle.engine.proofs.Wants.{wants-noted}
 use Rattle.engine.proofs.walk.stride.Statement.{statement}
 use Rattle.engine.proofs.walk.stride.Tie as tie
-use Rattle.engine.proofs.walk.stride.Reads as reads
-use Rattle.engine.proofs.walk.stride.Lts as lts
-use Rattle.engine.proofs.sets.with.Reads as with-reads
-use Rattle.engine.proofs.walk.advance.Reads as advance-reads
-use Rattle.engine.proofs.walk.note.Reads as note-reads
-use Rattle.engine.proofs.walk.skip.Reads as skip-reads
 
 advance-requires : tie.Need-advance-requires
 advance-requires c κs = search needs

@@ -3,13 +3,6 @@ use native.Mathlib.Omega.{arith}
 use Rattle.engine.proofs.Steps.{took-closed, took-open, met}
 use Rattle.engine.proofs.walk.take.Statement.{statement}
 use Rattle.engine.proofs.walk.take.Tie as tie
-use Rattle.engine.proofs.walk.take.Reads as reads
-use Rattle.engine.proofs.walk.take.Lts as lts
-use Rattle.engine.proofs.sets.with.Reads as with-reads
-use Rattle.engine.proofs.tables.place.Reads as place-reads
-use Rattle.engine.proofs.tables.site.Reads as site-reads
-use Rattle.engine.proofs.tables.transition.Reads as transition-reads
-use Rattle.engine.proofs.tables.wide.Reads as wide-reads
 
 place-requires : tie.Need-place-requires
 place-requires c κs = search needs

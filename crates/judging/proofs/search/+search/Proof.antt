@@ -9,7 +9,6 @@ use borrow.Fn.Kinds.{In}
 use borrow.Fn.PlainCycle.{Measures, is, falls, and}
 use Rattle.sheet.specs.Sheet.{Sheet}
 use Rattle.engine.specs.Store.{StoreOk}
-use Rattle.judging.specs.declared.survive.Searched.{Searched}
 use Rattle.judging.specs.declared.survive.Searched.the-variants.{Nothing, First, GaveUp}
 use Rattle.judging.specs.Search.{Searching, Tried, Kept}
 use Rattle.judging.proofs.SearchLaw.{asked, refuted, settled-prefix, next-low, searching-set, none-tried, one-tried, all-tried, one-found, kept, kept-more, kept-room}

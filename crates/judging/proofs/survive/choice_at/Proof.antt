@@ -1,13 +1,9 @@
 use borrow.Author.Needs.{needs}
-use mathlib.Core.Path.{_∙_, ap}
+use mathlib.Core.Path.{_∙_}
 use native.Mathlib.Omega.{arith}
 use Rattle.judging.proofs.SurviveLaw.{chosen-none, chosen-at}
 use Rattle.judging.proofs.survive.choice_at.Statement.{statement}
 use Rattle.judging.proofs.survive.choice_at.Tie as tie
-use Rattle.judging.proofs.survive.choice_at.Reads as reads
-use Rattle.judging.proofs.survive.choice_at.Lts as lts
-use Rattle.engine.proofs.site.Reads as site-reads
-use Rattle.mutation.proofs.wide.Reads as wide-reads
 
 site-requires : tie.Need-site-requires
 site-requires c κs = search needs

@@ -1,6 +1,6 @@
 -- `passes`: the walk from here says what the whole walk says.
 use borrow.Author.Needs.{needs}
-use Prim.Native.Nat.{_+_, _-_, _≤_}
+use Prim.Native.Nat.{_-_, _≤_}
 use mathlib.Core.Path.{_≡_, refl, sym, _∙_}
 use native.Mathlib.Omega.{arith}
 use lib.ListN.{length, drop}
@@ -8,9 +8,6 @@ use Rattle.judging.specs.Survive.{walkOf}
 use Rattle.judging.proofs.SurviveLaw.{walk-press, walk-wrong, walk-reset, walk-end}
 use Rattle.judging.proofs.survive.passes.Statement.{statement}
 use Rattle.judging.proofs.survive.passes.Tie as tie
-use Rattle.judging.proofs.survive.passes.Reads as reads
-use Rattle.judging.proofs.survive.passes.Lts as lts
-use Rattle.judging.proofs.survive.slot_at.Reads as slot-at-reads
 
 abbrev Inv-loop : tie.InvT-loop
 Inv-loop bytes so sn mo mn at₀ s₀ q₀ at s q =

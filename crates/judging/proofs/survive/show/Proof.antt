@@ -1,6 +1,6 @@
 -- `show`: a survivor where all outputs along the tests are right and compare finds a difference.
 use borrow.Author.Needs.{needs}
-use Prim.Native.Nat.{ℕ, _*_, _≤_}
+use Prim.Native.Nat.{ℕ}
 use mathlib.Core.Path.{_≡_, _∙_}
 use borrow.Author.Tests.{not-true, not-false}
 use native.Mathlib.Omega.{arith}

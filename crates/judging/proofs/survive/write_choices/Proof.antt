@@ -7,8 +7,6 @@ use lib.ListN.{take, drop}
 use Rattle.judging.proofs.SurviveLaw.{choice-more, choice-room, choices-written}
 use Rattle.judging.proofs.survive.write_choices.Statement.{statement}
 use Rattle.judging.proofs.survive.write_choices.Tie as tie
-use Rattle.judging.proofs.survive.write_choices.Reads as reads
-use Rattle.judging.proofs.survive.write_choices.Lts as lts
 
 abbrev Inv-loop : tie.InvT-loop
 Inv-loop p n board₀ j₀ board j = (j ≤ n) × (board ≡ take j p ++ drop j board₀)

@@ -1,9 +1,7 @@
 -- `judge_read`: room in both buffers, then the judgement of the packed sheet.
 use borrow.Author.Needs.{needs}
 use mathlib.Core.Path.{refl}
-use Prim.Native.Nat.{ℕ}
 use native.Mathlib.Omega.{arith}
-use lib.ListN.{length}
 use Rattle.judging.proofs.JudgingLaw.{place-in, few-open, some-state, counted, searching-start, packed-square, judges-no-board, judges-no-sequence, room}
 use Rattle.judging.proofs.verdict.judge_read.Statement.{statement}
 use Rattle.judging.proofs.verdict.judge_read.Tie as tie

@@ -10,8 +10,6 @@ use borrow.Author.Needs.{needs}
 use Rattle.mutation.proofs.Table.{at}
 use Rattle.mutation.proofs.distance.bound.Statement.{statement}
 use Rattle.mutation.proofs.distance.bound.Tie as tie
-use Rattle.mutation.proofs.distance.bound.Reads as reads
-use Rattle.mutation.proofs.distance.bound.Lts as lts
 
 sub-result : tie.Need-sub-result
 sub-result c = search needs

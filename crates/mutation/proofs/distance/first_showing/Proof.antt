@@ -9,9 +9,6 @@ use Rattle.mutation.specs.Tables.{tables, near}
 use Rattle.model.specs.laws.LeastLaw.{least-unique}
 use Rattle.mutation.proofs.distance.first_showing.Statement.{statement}
 use Rattle.mutation.proofs.distance.first_showing.Tie as tie
-use Rattle.mutation.proofs.distance.first_showing.Reads as reads
-use Rattle.mutation.proofs.distance.first_showing.Lts as lts
-use Rattle.mutation.proofs.distance.shows.Reads as shows-reads
 
 abbrev Inv-loop : tie.InvT-loop
 Inv-loop so sn mo mn dist n k p q j x₀ x =

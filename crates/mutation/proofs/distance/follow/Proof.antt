@@ -11,10 +11,6 @@ use Rattle.model.specs.Compare.{target}
 use Rattle.mutation.specs.Tables.{moveIn}
 use Rattle.mutation.proofs.distance.follow.Statement.{statement}
 use Rattle.mutation.proofs.distance.follow.Tie as tie
-use Rattle.mutation.proofs.distance.follow.Reads as reads
-use Rattle.mutation.proofs.distance.follow.Lts as lts
-use Rattle.mutation.proofs.distance.first_showing.Reads as first-showing-reads
-use Rattle.mutation.proofs.moves.wide.Reads as wide-reads
 
 abbrev Inv-loop : tie.InvT-loop
 Inv-loop so sn mo mn dist n k start d buf₀ p₀ q₀ i₀ left₀ buf p q i left =

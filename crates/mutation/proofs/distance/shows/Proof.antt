@@ -8,8 +8,6 @@ use Rattle.mutation.specs.Tables.{near}
 use Rattle.mutation.proofs.TablesLaw.{shows-none, shows-differ, shows-same, next-below, move-next-below}
 use Rattle.mutation.proofs.distance.shows.Statement.{statement}
 use Rattle.mutation.proofs.distance.shows.Tie as tie
-use Rattle.mutation.proofs.distance.shows.Reads as reads
-use Rattle.mutation.proofs.distance.shows.Lts as lts
 
 mul-a : tie.Need-mul-a
 mul-a c = search needs

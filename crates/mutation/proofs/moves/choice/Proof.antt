@@ -5,9 +5,6 @@ use Rattle.mutation.proofs.MovesLaw.{choice-none, choice-some}
 use borrow.Author.Needs.{needs}
 use Rattle.mutation.proofs.moves.choice.Statement.{statement}
 use Rattle.mutation.proofs.moves.choice.Tie as tie
-use Rattle.mutation.proofs.moves.choice.Reads as reads
-use Rattle.mutation.proofs.moves.choice.Lts as lts
-use Rattle.mutation.proofs.moves.wide.Reads as wide-reads
 
 element-copy-out-wide : tie.Need-element-copy-out-wide
 element-copy-out-wide c = search needs

@@ -3,8 +3,6 @@ use mathlib.Core.Path.{refl}
 use Rattle.model.specs.Mutant.{initial}
 use Rattle.mutation.proofs.moves.initial.Statement.{statement}
 use Rattle.mutation.proofs.moves.initial.Tie as tie
-use Rattle.mutation.proofs.moves.initial.Reads as reads
-use Rattle.mutation.proofs.moves.initial.Lts as lts
 
 returns : tie.Need-returns
 unfolding initial

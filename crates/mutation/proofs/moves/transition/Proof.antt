@@ -4,8 +4,6 @@ use Rattle.mutation.proofs.MovesLaw.{unruled-move, unruled-small, rule-
 use borrow.Author.Needs.{needs}
 use Rattle.mutation.proofs.moves.transition.Statement.{statement}
 use Rattle.mutation.proofs.moves.transition.Tie as tie
-use Rattle.mutation.proofs.moves.transition.Reads as reads
-use Rattle.mutation.proofs.moves.transition.Lts as lts
 
 element-copy-out-if1 : tie.Need-element-copy-out-if1
 element-copy-out-if1 c = search needs

@@ -6,9 +6,6 @@ use lib.ListN.{length, getD}
 use Rattle.mutation.proofs.RespondLaw.{over-at, over-nowhere}
 use Rattle.mutation.proofs.respond.first_over.Statement.{statement}
 use Rattle.mutation.proofs.respond.first_over.Tie as tie
-use Rattle.mutation.proofs.respond.first_over.Reads as reads
-use Rattle.mutation.proofs.respond.first_over.Lts as lts
-use Rattle.mutation.proofs.moves.wide.Reads as wide-reads
 
 abbrev Inv-loop : tie.InvT-loop
 Inv-loop k inputs i₀ i =

@@ -8,9 +8,6 @@ use Rattle.mutation.specs.Tables.{movesIn}
 use Rattle.mutation.proofs.RespondLaw.{Responding, respond-start, respond-more, respond-end, stepped}
 use Rattle.mutation.proofs.respond.respond.Statement.{statement}
 use Rattle.mutation.proofs.respond.respond.Tie as tie
-use Rattle.mutation.proofs.respond.respond.Reads as reads
-use Rattle.mutation.proofs.respond.respond.Lts as lts
-use Rattle.mutation.proofs.moves.wide.Reads as wide-reads
 
 abbrev Inv-loop : tie.InvT-loop
 Inv-loop mo mn n k start inputs buffer₀ s₀ i₀ buffer s i =

@@ -6,8 +6,6 @@ use lib.ListN.{length, getD}
 use Rattle.mutation.proofs.MovesLaw.{high-at, high-nowhere}
 use Rattle.mutation.proofs.sites.first_high.Statement.{statement}
 use Rattle.mutation.proofs.sites.first_high.Tie as tie
-use Rattle.mutation.proofs.sites.first_high.Reads as reads
-use Rattle.mutation.proofs.sites.first_high.Lts as lts
 
 abbrev Inv-loop : tie.InvT-loop
 Inv-loop sizes mutant i₀ i =

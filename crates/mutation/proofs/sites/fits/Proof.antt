@@ -3,9 +3,6 @@ use native.Mathlib.Omega.{arith}
 use Rattle.mutation.proofs.FitsLaw.{fit-length, fit-high, fit-low}
 use Rattle.mutation.proofs.sites.fits.Statement.{statement}
 use Rattle.mutation.proofs.sites.fits.Tie as tie
-use Rattle.mutation.proofs.sites.fits.Reads as reads
-use Rattle.mutation.proofs.sites.fits.Lts as lts
-use Rattle.mutation.proofs.sites.first_high.Reads as first-high-reads
 
 returns : tie.Need-returns
 returns c = let a = c .before .before .args in fit-length (a .sizes .now) (a .count) (a .mutant .now) (c .if1 .taken)

@@ -10,10 +10,6 @@ use Rattle.mutation.specs.Tests.{failedFrom, Tests}
 use Rattle.mutation.proofs.SuiteTables.{laterTests, suite-start, suite-more, suite-failed, suite-end, index-there, test-right}
 use Rattle.mutation.proofs.suite.first_failure.Statement.{statement}
 use Rattle.mutation.proofs.suite.first_failure.Tie as tie
-use Rattle.mutation.proofs.suite.first_failure.Reads as reads
-use Rattle.mutation.proofs.suite.first_failure.Lts as lts
-use Rattle.mutation.proofs.suite.first_wrong.Reads as first-wrong-reads
-use Rattle.mutation.proofs.suite.wide16.Reads as wide16-reads
 
 abbrev Inv-loop : tie.InvT-loop
 Inv-loop sheet starts lengths count so sn mo mn n k start t₀ t =

@@ -8,9 +8,6 @@ use Rattle.mutation.specs.Tests.{Test}
 use Rattle.mutation.proofs.SuiteTables.{Trying, try-start, try-end, index, rule-below, move-below, turn-more, turn-wrong}
 use Rattle.mutation.proofs.suite.first_wrong.Statement.{statement}
 use Rattle.mutation.proofs.suite.first_wrong.Tie as tie
-use Rattle.mutation.proofs.suite.first_wrong.Reads as reads
-use Rattle.mutation.proofs.suite.first_wrong.Lts as lts
-use Rattle.mutation.proofs.moves.wide.Reads as wide-reads
 
 abbrev Inv-loop : tie.InvT-loop
 Inv-loop sheet so sn mo mn n k start at count p₀ q₀ i₀ p q i =
