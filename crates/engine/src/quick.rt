@@ -13,7 +13,6 @@ use crate::sets::has;
 use crate::sets::join;
 use crate::sets::without;
 use crate::tables::choices;
-use crate::tables::choose;
 use crate::tables::wide;
 use crate::walk::Cursor;
 use crate::walk::Moved;
@@ -123,11 +122,13 @@ pub fn probe(
     if left == 0 {
         return Outcome::Open;
     }
+    let j = wide(i);
     let n = choices(tables, i);
     let mut all = empty();
+    let mut q = *p;
     let mut c: u16 = 0;
     while c < n {
-        let q = choose(p, i, c);
+        q[j] = c;
         let Outcome::Refuted(used) = probe(tables, bytes, notes, &q, here, left - 1) else {
             return Outcome::Open;
         };

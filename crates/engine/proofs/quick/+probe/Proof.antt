@@ -4,6 +4,9 @@ use borrow.Author.Tests.{not-true}
 use native.Mathlib.Omega.{arith}
 use Rattle.engine.proofs.Tries.{cursor-settle, Trying, trying-none, trying-partial, trying-long, trying-more, trying-skips, trying-all}
 use Prim.Native.Nat.{ℕ, _-_, _<_}
+use mathlib.Core.Path.{_≡_, refl, _∙_, ap}
+use lib.ListN.{set}
+use lib.Seq.{set-set}
 use borrow.Fn.Kinds.{In}
 use borrow.Fn.PlainCycle.{Measures, is, falls, and}
 use Rattle.engine.proofs.quick.probe.Reads as probe
@@ -18,7 +21,7 @@ use Rattle.engine.proofs.sets.has.Reads as has-reads
 use Rattle.engine.proofs.sets.join.Reads as join-reads
 use Rattle.engine.proofs.sets.without.Reads as without-reads
 use Rattle.engine.proofs.tables.choices.Reads as choices-reads
-use Rattle.engine.proofs.tables.choose.Reads as choose-reads
+use Rattle.engine.proofs.tables.wide.Reads as wide-reads
 use Rattle.engine.proofs.quick.+probe.{statement}
 use Rattle.engine.proofs.quick.+probe.Tie.{close}
 
@@ -32,13 +35,13 @@ abbrev probe-below : ℕ → In 4 probe-kinds.ps
 probe-below t = and 4 probe-kinds.ps (falls 4 probe-kinds.ps _<_ μ-probe t) probe.Pre
 
 abbrev cs : ℕ → probe-lts.Claims
-cs t = (spent-reads.Asked, spent-reads.Learnt, tick-reads.Asked, tick-reads.Learnt, glance-reads.Asked, glance-reads.Learnt, keep-reads.Asked, keep-reads.Learnt, choices-reads.Asked, choices-reads.Learnt, empty-reads.Asked, empty-reads.Learnt, choose-reads.Asked, choose-reads.Learnt, probe-below t, probe.Post, has-reads.Asked, has-reads.Learnt, join-reads.Asked, join-reads.Learnt, without-reads.Asked, without-reads.Learnt)
+cs t = (spent-reads.Asked, spent-reads.Learnt, tick-reads.Asked, tick-reads.Learnt, glance-reads.Asked, glance-reads.Learnt, keep-reads.Asked, keep-reads.Learnt, wide-reads.Asked, wide-reads.Learnt, choices-reads.Asked, choices-reads.Learnt, empty-reads.Asked, empty-reads.Learnt, probe-below t, probe.Post, has-reads.Asked, has-reads.Learnt, join-reads.Asked, join-reads.Learnt, without-reads.Asked, without-reads.Learnt)
 
 abbrev probe-Inv-loop : probe-lts.InvT-loop
-probe-Inv-loop tables bytes notes₀ p left i here n all₀ c₀ notes all c = Trying tables bytes p i n all c
+probe-Inv-loop tables bytes notes₀ p left i here j n all₀ q₀ c₀ notes all q c = Trying tables bytes p i n all c × ((v : ℕ) → set q i v ≡ set p i v)
 
 abbrev probe-μ-loop : probe-lts.MeasureT-loop
-probe-μ-loop tables bytes notes₀ p left i here n all₀ c₀ notes all c = n - c
+probe-μ-loop tables bytes notes₀ p left i here j n all₀ q₀ c₀ notes all q c = n - c
 
 probe-spent-requires : (t : ℕ) → probe-lts.Need-spent-requires (cs t) (probe-at t) probe.Post probe-Inv-loop probe-μ-loop
 probe-spent-requires t c κs = search needs
@@ -70,9 +73,12 @@ probe-returns-3 t c = search needs
 probe-returns-4 : (t : ℕ) → probe-lts.Need-returns-4 (cs t) (probe-at t) probe.Post probe-Inv-loop probe-μ-loop
 probe-returns-4 t c = search needs
 
+probe-wide-requires : (t : ℕ) → probe-lts.Need-wide-requires (cs t) (probe-at t) probe.Post probe-Inv-loop probe-μ-loop
+probe-wide-requires t c κs = search needs
+
 probe-choices-requires : (t : ℕ) → probe-lts.Need-choices-requires (cs t) (probe-at t) probe.Post probe-Inv-loop probe-μ-loop
 probe-choices-requires t c κs =
-    let ok = rw (c .before .before .seen2 .given .1) at (c .before .before .before .before .before .glance .ensures) in
+    let ok = rw (c .before .before .before .seen2 .given .1) at (c .before .before .before .before .before .before .glance .ensures) in
     ok .low
 
 probe-empty-requires : (t : ℕ) → probe-lts.Need-empty-requires (cs t) (probe-at t) probe.Post probe-Inv-loop probe-μ-loop
@@ -80,22 +86,25 @@ probe-empty-requires t c κs = search needs
 
 probe-loop-holds : (t : ℕ) → probe-lts.Need-loop-holds (cs t) (probe-at t) probe.Post probe-Inv-loop probe-μ-loop
 probe-loop-holds t c =
-    let ok = rw (c .before .before .before .before .seen2 .given .1) at (c .before .before .before .before .before .before .before .glance .ensures) in
-    trying-none (c .before .before .before .before .before .before .before .before .before .before .before .before .before .before .pre .1 .0) (ok .low) (c .before .before .before .before .before .before .before .before .before .before .before .before .before .before .pre .1 .3) (c .before .choices .ensures)
+    let ok = rw (c .before .before .before .before .before .before .seen2 .given .1) at (c .before .before .before .before .before .before .before .before .before .glance .ensures) in
+    (trying-none (c .before .before .before .before .before .before .before .before .before .before .before .before .before .before .before .before .pre .1 .0) (ok .low) (c .before .before .before .before .before .before .before .before .before .before .before .before .before .before .before .before .pre .1 .3) (c .before .before .choices .ensures), λ v. refl)
 
-probe-choose-requires : (t : ℕ) → probe-lts.Need-choose-requires (cs t) (probe-at t) probe.Post probe-Inv-loop probe-μ-loop
-probe-choose-requires t c κs = search needs
+probe-mul-q : (t : ℕ) → probe-lts.Need-mul-q (cs t) (probe-at t) probe.Post probe-Inv-loop probe-μ-loop
+probe-mul-q t c = omega (arith, c .before .loop .inv .0 .low, c .before .before .before .before .before .wide .ensures .0)
+
+probe-array-write-q : (t : ℕ) → probe-lts.Need-array-write-q (cs t) (probe-at t) probe.Post probe-Inv-loop probe-μ-loop
+probe-array-write-q t c = omega (arith, c .before .loop .inv .0 .low, c .before .before .before .before .before .wide .ensures .0)
 
 probe-sub-probe : (t : ℕ) → probe-lts.Need-sub-probe (cs t) (probe-at t) probe.Post probe-Inv-loop probe-μ-loop
 probe-sub-probe t c = search needs
 
 probe-probe-requires : (t : ℕ) → probe-lts.Need-probe-requires (cs t) (probe-at t) probe.Post probe-Inv-loop probe-μ-loop
 probe-probe-requires t c κs =
-    let ok = rw (c .before .before .before .before .before .before .before .before .before .seen2 .given .1) at (c .before .before .before .before .before .before .before .before .before .before .before .before .glance .ensures) in
-    let pre = c .before .before .before .before .before .before .before .before .before .before .before .before .before .before .before .before .before .before .before .pre in
-    let tr = c .before .before .before .before .loop .inv in
-    let is = c .before .before .choose .ensures in
-    (omega (arith, pre .0, c .before .before .before .before .before .before .before .if2 .left), (pre .1 .0, trying-partial tr (c .before .before .before .loop-test .taken) is (pre .1 .1), rw is (cursor-settle _ (c .before .before .before .before .loop .c) (ok .unsettled) (ok .on)), trying-long tr is))
+    let ok = rw (c .before .before .before .before .before .before .before .before .before .before .seen2 .given .1) at (c .before .before .before .before .before .before .before .before .before .before .before .before .before .glance .ensures) in
+    let pre = c .before .before .before .before .before .before .before .before .before .before .before .before .before .before .before .before .before .before .before .before .pre in
+    let tr = c .before .before .before .loop .inv .0 in
+    let is = ap (λ (k : ℕ). set (c .before .before .before .loop .q) k (c .before .before .before .loop .c)) (c .before .before .before .before .before .before .before .wide .ensures .0) ∙ c .before .before .before .loop .inv .1 (c .before .before .before .loop .c) in
+    (omega (arith, pre .0, c .before .before .before .before .before .before .before .before .if2 .left), (pre .1 .0, trying-partial tr (c .before .before .loop-test .taken) is (pre .1 .1), rw is (cursor-settle _ (c .before .before .before .loop .c) (ok .unsettled) (ok .on)), trying-long tr is))
 
 probe-enum-known-used : (t : ℕ) → probe-lts.Need-enum-known-used (cs t) (probe-at t) probe.Post probe-Inv-loop probe-μ-loop
 probe-enum-known-used t c = search needs
@@ -110,7 +119,7 @@ probe-has-requires : (t : ℕ) → probe-lts.Need-has-requires (cs t) (probe-at 
 probe-has-requires t c κs = search needs
 
 probe-returns-6 : (t : ℕ) → probe-lts.Need-returns-6 (cs t) (probe-at t) probe.Post probe-Inv-loop probe-μ-loop
-probe-returns-6 t c = trying-skips (c .before .before .before .before .before .before .before .before .before .before .loop .inv) (c .before .before .before .before .before .before .before .before .choose .ensures) (c .before .has .ensures .1 (not-true _ (c .if3 .taken))) (rw (c .before .before .before .used .given .1) at (c .before .before .before .before .before .probe .ensures))
+probe-returns-6 t c = trying-skips (c .before .before .before .before .before .before .before .before .before .loop .inv .0) (ap (λ (k : ℕ). set (c .before .before .before .before .before .before .before .before .before .loop .q) k (c .before .before .before .before .before .before .before .before .before .loop .c)) (c .before .before .before .before .before .before .before .before .before .before .before .before .before .wide .ensures .0) ∙ c .before .before .before .before .before .before .before .before .before .loop .inv .1 (c .before .before .before .before .before .before .before .before .before .loop .c)) (c .before .has .ensures .1 (not-true _ (c .if3 .taken))) (rw (c .before .before .before .used .given .1) at (c .before .before .before .before .before .probe .ensures))
 
 probe-join-requires : (t : ℕ) → probe-lts.Need-join-requires (cs t) (probe-at t) probe.Post probe-Inv-loop probe-μ-loop
 probe-join-requires t c κs = search needs
@@ -122,13 +131,13 @@ probe-loop-less : (t : ℕ) → probe-lts.Need-loop-less (cs t) (probe-at t) pro
 probe-loop-less t c = search needs
 
 probe-loop-again : (t : ℕ) → probe-lts.Need-loop-again (cs t) (probe-at t) probe.Post probe-Inv-loop probe-μ-loop
-probe-loop-again t c = trying-more (c .before .before .before .before .before .before .before .before .before .before .before .loop .inv) (c .before .before .before .before .before .before .before .before .before .before .loop-test .taken) (c .before .before .before .before .before .before .before .before .before .choose .ensures) (rw (c .before .before .before .before .used .given .1) at (c .before .before .before .before .before .before .probe .ensures)) (c .join .ensures)
+probe-loop-again t c = (trying-more (c .before .before .before .before .before .before .before .before .before .before .loop .inv .0) (c .before .before .before .before .before .before .before .before .before .loop-test .taken) (ap (λ (k : ℕ). set (c .before .before .before .before .before .before .before .before .before .before .loop .q) k (c .before .before .before .before .before .before .before .before .before .before .loop .c)) (c .before .before .before .before .before .before .before .before .before .before .before .before .before .before .wide .ensures .0) ∙ c .before .before .before .before .before .before .before .before .before .before .loop .inv .1 (c .before .before .before .before .before .before .before .before .before .before .loop .c)) (rw (c .before .before .before .before .used .given .1) at (c .before .before .before .before .before .before .probe .ensures)) (c .join .ensures), λ v. rw (c .before .before .before .before .before .before .before .before .before .before .before .before .before .before .wide .ensures .0) (set-set (c .before .before .before .before .before .before .before .before .before .before .loop .q) _ (c .before .before .before .before .before .before .before .before .before .before .loop .c) v ∙ c .before .before .before .before .before .before .before .before .before .before .loop .inv .1 v))
 
 probe-without-requires : (t : ℕ) → probe-lts.Need-without-requires (cs t) (probe-at t) probe.Post probe-Inv-loop probe-μ-loop
 probe-without-requires t c κs = search needs
 
 probe-returns-7 : (t : ℕ) → probe-lts.Need-returns-7 (cs t) (probe-at t) probe.Post probe-Inv-loop probe-μ-loop
-probe-returns-7 t c = trying-all (c .before .before .loop .inv) (c .before .loop-test .left) (c .without .ensures)
+probe-returns-7 t c = trying-all (c .before .before .loop .inv .0) (c .before .loop-test .left) (c .without .ensures)
 
 pub +probe-spec : {M : Type 1} → statement M
 +probe-spec = close μ-probe λ t. probe-lts.spec (cs t)
@@ -146,10 +155,12 @@ pub +probe-spec : {M : Type 1} → statement M
     (probe-keep-requires t)
     (probe-returns-3 t)
     (probe-returns-4 t)
+    (probe-wide-requires t)
     (probe-choices-requires t)
     (probe-empty-requires t)
     (probe-loop-holds t)
-    (probe-choose-requires t)
+    (probe-mul-q t)
+    (probe-array-write-q t)
     (probe-sub-probe t)
     (probe-probe-requires t)
     (probe-enum-known-used t)
