@@ -1,10 +1,11 @@
 //! Judge.
 
+use crate::reading;
 use crate::table::Table;
 use ranthelo_bench::families::{self, Family};
 use ranthelo_bench::machine::Judgement;
 use ranthelo_bench::{engine, first_engine, plain, timing};
-use ranthelo_tests::library::{judge, reading};
+use ranthelo_tests::library::judge;
 use ranthelo_tests::listed;
 use std::hint::black_box;
 
@@ -97,14 +98,8 @@ fn beside_first(sheet: &[u8], judgement: &Judgement) -> String {
         },
     );
     let reading = timing::compare(
-        || {
-            let mut answer = [0; 9];
-            reading::read(black_box(sheet), &mut answer);
-            black_box(answer);
-        },
-        || {
-            black_box(plain::read(black_box(sheet)).ok());
-        },
+        || reading::with_library(sheet),
+        || reading::in_plain_rust(sheet),
     );
     let (mine, other) = (judging.0 - reading.0, judging.1 - reading.1);
     format!(" {:>12} {:>5.2}", timing::shown(other), mine / other)

@@ -28,13 +28,17 @@ fn one(table: &mut Table, case: &str, sheet: &[u8]) -> (f64, f64) {
     table.measure(
         "read",
         case,
-        || {
-            let mut answer = [0; 9];
-            reading::read(black_box(sheet), &mut answer);
-            black_box(answer);
-        },
-        || {
-            black_box(plain::read(black_box(sheet)).ok());
-        },
+        || with_library(sheet),
+        || in_plain_rust(sheet),
     )
+}
+
+pub fn with_library(sheet: &[u8]) {
+    let mut answer = [0; 9];
+    reading::read(black_box(sheet), &mut answer);
+    black_box(answer);
+}
+
+pub fn in_plain_rust(sheet: &[u8]) {
+    black_box(plain::read(black_box(sheet)).ok());
 }
