@@ -8,4 +8,3 @@ mod Wants
 mod Pairs
 mod Tries
 pub mod Stores
-mod Example

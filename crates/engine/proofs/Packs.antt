@@ -7,10 +7,7 @@ use native.Mathlib.Omega.{arith}
 use borrow.Author.Count.{below-more}
 use lib.ListN.{length, getD, set, length-set}
 use lib.Seq.{getD-set-same, getD-set-other}
-use native.Mathlib.Decide.{ℕ-discrete}
-use Rattle.engine.specs.Machine.{Wf, siteAt, ruleTarget, firstFault, choicesAt, choicesOf}
-use Rattle.engine.specs.Packing.{Packed, Filled, Copied, FirstCopied, ChoicesCopied, Located, Sound}
-use Rattle.engine.proofs.ChoiceLaws.{choices-none, choices-some}
+use Rattle.engine.specs.Packing.{Packed, Filled, Copied, FirstCopied, ChoicesCopied, Located}
 
 pub fill-none : {m : List ℕ} (base size : ℕ) (Right : ℕ → ℕ → Type 0) → length m ≡ 1603 → Filled m m base size 0 Right
 fill-none base size Right l = record { low = omega arith; long = l; same = λ k h. absurd (omega arith); others = λ j h. refl }
@@ -74,25 +71,3 @@ packed {m₀} {m₁} {m₂} {m₃} {m₄} {m₅} {m₆} {m₇} {m₈} {output} {
 
     before₃ : (j : ℕ) → j < 512 → getD m₃ j 0 ≡ getD m₂ j 0
     before₃ j l = c .others j (inl (omega arith))
-
--- ---- what the layer above shows
-pub sound-wf : {m outs nexts sites firsts faulty ways counts : List ℕ} {n k : ℕ} → Packed m outs nexts sites firsts faulty ways counts n k → Sound nexts sites firsts ways counts n k → Wf m
-sound-wf {m} {outs} {nexts} {sites} {firsts} {faulty} {ways} {counts} {n} {k} p s = record {
-  some-states = rw (p .states) (s .some-states);
-  few-states = rw (p .states) (s .few-states);
-  few-inputs = rw (p .inputs) (s .few-inputs);
-  rules = λ j l z. rw (p .target j l, p .states) (s .rules j l (rw (p .target j l) at z));
-  targets = λ f l. rw (p .diversion f l, p .states) (s .targets f l);
-  faults = λ j c l z lc. go j c l z lc (ℕ-discrete (siteAt m j) 255);
-  sites = λ j l z. rw (p .site j l) (s .low j l (rw (p .site j l) at z));
-  once = λ i j li lj z e. s .once i j li lj (rw (p .site i li) at z) (rw (p .site i li, p .site j lj) at e);
-  choices = λ i l. rw (p .choices i l (s .some-choices i l) (s .few-choices i l)) (s .few-choices i l);
-}
-  where
-    go : (j c : ℕ) → j < 256 → (ruleTarget m j ≡ 255 → ⊥) → c < choicesAt m j → Dec (siteAt m j ≡ 255) → firstFault m j + c ≤ 256
-    go j c l z lc (yes e) = omega (arith, choices-none m j e, p .first j l (s .first j l), s .first j l)
-    go j c l z lc (no t) =
-        let low : siteAt m j < 32 = rw (p .site j l) (s .low j l (rw (p .site j l) at t)) in
-        let count : choicesOf m (siteAt m j) ≡ getD counts (siteAt m j) 0 = p .choices (siteAt m j) low (s .some-choices (siteAt m j) low) (s .few-choices (siteAt m j) low) in
-        let few : getD firsts j 0 + getD counts (siteAt m j) 0 ≤ 257 = rw (p .site j l) (s .faults j l (rw (p .target j l) at z) (rw (p .site j l) at t)) in
-        omega (arith, choices-some m j t, p .first j l (s .first j l), count, few)

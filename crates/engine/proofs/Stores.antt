@@ -1,7 +1,7 @@
 -- The store of refutations.
 use mathlib.Core.Path.{_≡_, refl, sym, _∙_, subst}
 use mathlib.Core.Logic.{_⊎_, inl, inr}
-use mathlib.Core.List.{List, []}
+use mathlib.Core.List.{List}
 use Prim.Native.Nat.{ℕ, _+_, _*_, _<_, _≤_}
 use native.Mathlib.Omega.{arith}
 use native.Mathlib.Decide.{ℕ-discrete, decLt}
@@ -25,9 +25,6 @@ store-none {m} {bytes} wf = record {
       let is : getD b 0 0 ≡ 65535 = a 0 (omega arith) (has-one _ (getD-replicate {A = ℕ} entries e 1 0 le)) ∙ getD-replicate {A = ℕ} (entries * 32) (e * 32 + 0) 65535 0 (omega arith) in
       omega (arith, is, r .at 0 (omega arith), wf .choices 0 (omega arith));
 }
-
-pub store-empty : {m bytes : List ℕ} → StoreOk m bytes [] []
-store-empty = record { long = refl; at = λ e l. absurd (omega arith) }
 
 -- ---- an entry that matches
 pub record MatchTo (p values : List ℕ) (u e n : ℕ) : Type 0 where

@@ -38,18 +38,3 @@ ChoicesCopied old new choices n = Filled old new 1536 32 n (λ i v. 1 ≤ getD c
 pub record Located (old new : List ℕ) : Type 0 where
   pub long : length new ≡ 1603
   pub others : (j : ℕ) → j < 1570 → getD new j 0 ≡ getD old j 0
-
--- what tables have to meet for the engine: by pair the rule's next state (255: no rule), the suspect (255: none), the index of
--- the first fault; by fault its next state; by suspect its number of choices (1 past the last); n states, k inputs
-pub record Sound (nexts sites firsts ways counts : List ℕ) (n k : ℕ) : Type 0 where
-  pub some-states : 1 ≤ n
-  pub few-states : n ≤ 16
-  pub few-inputs : k ≤ 16
-  pub rules : (j : ℕ) → j < 256 → (getD nexts j 0 ≡ 255 → ⊥) → getD nexts j 0 < n
-  pub targets : (f : ℕ) → f < 256 → getD ways f 0 < n
-  pub low : (j : ℕ) → j < 256 → (getD sites j 0 ≡ 255 → ⊥) → getD sites j 0 < 32
-  pub once : (i j : ℕ) → i < 256 → j < 256 → (getD sites i 0 ≡ 255 → ⊥) → getD sites j 0 ≡ getD sites i 0 → j ≡ i
-  pub first : (j : ℕ) → j < 256 → getD firsts j 0 < 256
-  pub some-choices : (i : ℕ) → i < 32 → 1 ≤ getD counts i 0
-  pub few-choices : (i : ℕ) → i < 32 → getD counts i 0 ≤ 256
-  pub faults : (j : ℕ) → j < 256 → (getD nexts j 0 ≡ 255 → ⊥) → (getD sites j 0 ≡ 255 → ⊥) → getD firsts j 0 + getD counts (getD sites j 0) 0 ≤ 257

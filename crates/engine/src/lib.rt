@@ -1,5 +1,5 @@
 // Refuting survivors: no mutant that agrees with a partly settled mutant passes the test suite and is nonconforming. For the
-// crate `mutation` alone.
+// crate `judging` alone.
 mod branch;
 mod notes;
 mod product;

@@ -49,37 +49,7 @@ fn no_block() -> [u8; 1603]
     [0u8; 1603]
 }
 
-// The first survivor of all by a quick search, which may give up: it keeps no refutations.
-fn find_quickly(
-    block: &[u8; 1603],
-    bytes: &[u8],
-    notes: &mut Notes,
-    n: usize,
-    board: &mut [u8],
-    sequence: &mut [u8],
-) -> Searched
-    requires { ⌜ ((sh : Sheet) × Searching sh (now block) (now bytes) (replicate 32 256) 0 n) ⌝ }
-    requires { ⌜ Room (now block) n (now board) (now sequence) ⌝ }
-    ensures { λ r. ⌜ ((sh : Sheet) → Searching sh (now (block .entry)) (now (bytes .entry)) (replicate 32 256) 0 n → Leaves sh (replicate 32 256) 0 r (now (board .entry)) (now (board .exit)) (now (sequence .entry)) (now (sequence .exit))) ⌝ }
-{
-    let mut sets = no_sets();
-    let mut values = no_values();
-    let p = unsettled();
-    search(
-        block,
-        bytes,
-        &mut sets,
-        &mut values,
-        notes,
-        p,
-        0,
-        n,
-        board,
-        sequence,
-    )
-}
-
-// The same by a search with a store of refutations.
+// The first survivor of all by a search with a store of refutations, written to the buffers.
 fn find_thoroughly(
     block: &[u8; 1603],
     bytes: &[u8],
@@ -110,7 +80,7 @@ fn find_thoroughly(
     )
 }
 
-// The first survivor of all, written to the buffers.
+// The same; first by a quick search, which keeps no refutations and may give up.
 fn find(
     block: &[u8; 1603],
     bytes: &[u8],
@@ -124,7 +94,22 @@ fn find(
     ensures { λ r. ⌜ ((sh : Sheet) → Searching sh (now (block .entry)) (now (bytes .entry)) (replicate 32 256) 0 n → Leaves sh (replicate 32 256) 0 r (now (board .entry)) (now (board .exit)) (now (sequence .entry)) (now (sequence .exit))) ⌝ }
     ensures { λ r. ⌜ (r ≡ GaveUp → ⊥) ⌝ }
 {
-    match find_quickly(block, bytes, notes, n, board, sequence) {
+    let mut sets = no_sets();
+    let mut values = no_values();
+    let p = unsettled();
+    let found = search(
+        block,
+        bytes,
+        &mut sets,
+        &mut values,
+        notes,
+        p,
+        0,
+        n,
+        board,
+        sequence,
+    );
+    match found {
         Searched::Nothing => Searched::Nothing,
         Searched::First(length) => Searched::First(length),
         Searched::GaveUp => find_thoroughly(block, bytes, notes, n, board, sequence),

@@ -151,14 +151,6 @@ module _ (sh : Sheet) (wf : WellFormed sh) where
   pub some-nonconforming : (b xs : List ℕ) → compareOf sh b ≡ some xs → Conforming sh b → ⊥
   some-nonconforming b xs e c = conforming-not (against sh b) 0 (initial sh b) xs c (compared-some b xs e .distinguishes)
 
-  -- of a conforming mutant compare finds nothing
-  pub conforming-none : (b : List ℕ) → Conforming sh b → compareOf sh b ≡ none
-  conforming-none b c = go (compareOf sh b) refl
-    where
-      go : (o : Option (List ℕ)) → compareOf sh b ≡ o → o ≡ none
-      go none e = refl
-      go (some xs) e = absurd (some-nonconforming b xs e c)
-
   -- what judge calls complete is complete
   pub judged-complete : judgeOf sh ≡ complete → Complete sh
   unfolding judgeOf Complete

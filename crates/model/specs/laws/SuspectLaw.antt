@@ -4,16 +4,15 @@ use native.Mathlib.Omega.{arith}
 use mathlib.Core.Path.{_≡_, refl, sym, _∙_, ap}
 use mathlib.Core.Bool.{Bool, true, false, cond, _&&_}
 use mathlib.Core.Option.{Option, none, some}
-use mathlib.Core.List.{List, [], _∷_, _++_, map, append-assoc}
+use mathlib.Core.List.{List, [], _∷_, _++_, append-assoc}
 use borrow.Author.Tests.{eqb-true, eq-eqb}
 use lib.Dec.{eqb}
 use lib.ListN.{length, getD, length-append, length-map}
-use lib.Seq.{getD-at}
 use Rattle.sheet.specs.Lists.{All, count, upTo, joined}
 use Rattle.sheet.specs.Sheet.{Sheet, choicesAt, isOpen, openBelow, openPairs}
 use Rattle.model.specs.Mutant.{Suspect, keepOpen, suspects, slots, later, siteIn, siteOf}
 use Rattle.model.specs.laws.Basics.{clash, all-imp, all-append, all-joined, upTo-below}
-use Rattle.model.specs.laws.ListLaw.{map-append, joined-split, length-joined-snoc, getD-map-below, all-at-index}
+use Rattle.model.specs.laws.ListLaw.{joined-split, length-joined-snoc, getD-map-below, all-at-index}
 
 -- the suspects of the state s with inputs below i; those of the states below i
 suspectsAt : Sheet → ℕ → ℕ → List Suspect
@@ -208,16 +207,6 @@ module _ (sh : Sheet) (s x : ℕ) where
       go : (b : Bool) → isOpen sh s x ≡ b → siteOf sh s x ≡ cond b (some (openBefore sh s x)) none
       go true e = site-open ls lx e
       go false e = site-none e
-
-  -- and how many choices that byte has
-  pub slot-choices : s < sh .size .states → x < sh .size .inputs → isOpen sh s x ≡ true →
-      getD (slots sh) (openBefore sh s x) 0 ≡ choicesAt sh s x
-  unfolding slots
-  slot-choices ls lx e =
-      let d = split ls lx e in
-      let f : Suspect → ℕ = λ u. choicesAt sh (u .state) (u .input) in
-      rw (d .is, map-append f (d .earlier) (record { state = s; input = x } ∷ d .rest))
-      (getD-at (map f (d .earlier)) (choicesAt sh s x) (map f (d .rest)) 0 (openBefore sh s x) (length-map (d .earlier) f ∙ d .many))
 
   -- a byte that a pair uses is a byte of the mutant, has the pair's number of choices, and the pair is open
   pub site-is : (i : ℕ) → siteOf sh s x ≡ some i →

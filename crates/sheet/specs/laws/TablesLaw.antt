@@ -1,5 +1,5 @@
 -- The tables of a sheet, entry by entry, and where the faults of a pair stand.
-use Prim.Native.Nat.{ℕ, zero, suc, _+_, _*_, _/_, _%_, _<_, _≤_}
+use Prim.Native.Nat.{ℕ, zero, suc, _+_, _<_, _≤_}
 use mathlib.Core.Path.{_≡_, refl, ap, sym, _∙_}
 use mathlib.Core.Bool.{Bool, true, false, _&&_, cond}
 use mathlib.Core.Logic.{_⊎_, inl, inr}
@@ -12,7 +12,7 @@ use Rattle.sheet.specs.declared.Row.{Row}
 use Rattle.sheet.specs.Lists.{isNone, first, upTo, All, Ascending, Before}
 use Rattle.sheet.specs.Sheet.{Sheet, rowOf, isAt, rowsAt}
 use Rattle.sheet.specs.WellFormed.{WellFormed}
-use Rattle.sheet.specs.Tables.{table, byPair, firstAt, firstFault, noRow}
+use Rattle.sheet.specs.Tables.{table, firstAt, firstFault, noRow}
 use Rattle.sheet.specs.laws.Basics.{both}
 
 map-length : {A : Type 0} (f : A → ℕ) (l : List A) → length (map f l) ≡ length l
@@ -40,12 +40,6 @@ table-length f = map-length f (upTo 256) ∙ upTo-length 256
 
 pub table-at : (f : ℕ → ℕ) (i : ℕ) → i < 256 → getD (table f) i 0 ≡ f i
 table-at f i h = map-at f (upTo 256) i 0 (omega (arith, upTo-length 256)) ∙ ap f (upTo-at 256 i h)
-
-pub byPair-at : (g : ℕ → ℕ → ℕ) (s x : ℕ) → s < 16 → x < 16 → getD (byPair g) (s * 16 + x) 0 ≡ g s x
-byPair-at g s x hs hx =
-    let a : (s * 16 + x) / 16 ≡ s = omega arith in
-    let b : (s * 16 + x) % 16 ≡ x = omega arith in
-    table-at (λ i. g (i / 16) (i % 16)) (s * 16 + x) (omega arith) ∙ (λ i. g (a i) (b i))
 
 pub rows-few : (l : List Row) (s x : ℕ) → length (rowsAt l s x) ≤ length l
 unfolding rowsAt

@@ -7,20 +7,35 @@ use Rattle.judging.proofs.SearchLaw.{kept-room}
 use Rattle.judging.proofs.verdict.find.Statement.{statement}
 use Rattle.judging.proofs.verdict.find.Tie as tie
 
-find-quickly-requires : tie.Need-find-quickly-requires
-find-quickly-requires c κs = search needs
+no-sets-requires : tie.Need-no-sets-requires
+no-sets-requires c κs = search needs
+
+no-values-requires : tie.Need-no-values-requires
+no-values-requires c κs = search needs
+
+unsettled-requires : tie.Need-unsettled-requires
+unsettled-requires c κs = search needs
+
+slice-aggregate-search : tie.Need-slice-aggregate-search
+slice-aggregate-search c = search needs
+
+slice-aggregate-search-2 : tie.Need-slice-aggregate-search-2
+slice-aggregate-search-2 c = search needs
+
+search-requires : tie.Need-search-requires
+search-requires c κs = ((c .before .before .before .before .before .before .before .before .before .before .before .pre .0 .0, rw (c .before .before .before .before .before .unsettled .ensures) (c .before .before .before .before .before .before .before .before .before .before .before .pre .0 .1)), (rw (c .before .before .before .before .before .before .before .no-sets .ensures, c .before .before .before .before .before .before .no-values .ensures .0) (c .before .before .before .before .before .before .no-values .ensures .1 _ _), c .before .before .before .before .before .before .before .before .before .before .before .pre .1))
 
 enum-told : tie.Need-enum-told
 enum-told c = search needs
 
-enum-known-length : tie.Need-enum-known-length
-enum-known-length c = search needs
+enum-known-found : tie.Need-enum-known-found
+enum-known-found c = search needs
 
 enum-told-2 : tie.Need-enum-told-2
 enum-told-2 c = search needs
 
 find-thoroughly-requires : tie.Need-find-thoroughly-requires
-find-thoroughly-requires c κs = (c .before .before .before .before .before .before .before .before .before .before .before .before .before .before .before .before .pre .0, kept-room (rw (c .before .before .before .enum-told2 .given .1) at (c .before .before .before .before .before .before .before .before .before .find-quickly .ensures (c .before .before .before .before .before .before .before .before .before .before .before .before .before .before .before .before .pre .0 .0) (c .before .before .before .before .before .before .before .before .before .before .before .before .before .before .before .before .pre .0 .1))) (c .before .before .before .before .before .before .before .before .before .before .before .before .before .before .before .before .pre .1))
+find-thoroughly-requires c κs = (c .before .before .before .before .before .before .before .before .before .before .before .before .before .before .before .before .before .before .before .before .before .before .before .pre .0, kept-room (rw (c .before .before .before .enum-told2 .given .1) at (c .before .before .before .before .before .before .before .before .before .before .before .search .ensures .0 (c .before .before .before .before .before .before .before .before .before .before .before .before .before .before .before .before .before .before .before .before .before .before .before .pre .0 .0) (rw (c .before .before .before .before .before .before .before .before .before .before .before .before .before .before .before .before .before .unsettled .ensures) (c .before .before .before .before .before .before .before .before .before .before .before .before .before .before .before .before .before .before .before .before .before .before .before .pre .0 .1)))) (c .before .before .before .before .before .before .before .before .before .before .before .before .before .before .before .before .before .before .before .before .before .before .before .pre .1))
 
 same-length : tie.Need-same-length
 same-length c = search needs
@@ -29,7 +44,7 @@ same-length-2 : tie.Need-same-length-2
 same-length-2 c = search needs
 
 returns : tie.Need-returns
-returns c = (λ sh w. rw (c .enum-told .given .1) at (c .before .before .before .before .before .before .find-quickly .ensures sh w), λ e. let z : _≡_ {A = ℕ} 0 1 = cc in omega arith)
+returns c = (λ sh w. rw (c .enum-told .given .1, c .before .before .before .before .before .before .before .before .before .before .before .before .before .before .unsettled .ensures) at (c .before .before .before .before .before .before .before .before .search .ensures .0 sh (rw (c .before .before .before .before .before .before .before .before .before .before .before .before .before .before .unsettled .ensures) w)), λ e. let z : _≡_ {A = ℕ} 0 1 = cc in omega arith)
 
 same-length-3 : tie.Need-same-length-3
 same-length-3 c = search needs
@@ -38,7 +53,7 @@ same-length-4 : tie.Need-same-length-4
 same-length-4 c = search needs
 
 returns-2 : tie.Need-returns-2
-returns-2 c = (λ sh w. rw (c .before .length .given .1) at (c .before .before .before .before .before .before .before .find-quickly .ensures sh w), λ e. let z : _≡_ {A = ℕ} 0 1 = cc in omega arith)
+returns-2 c = (λ sh w. rw (c .before .found .given .1, c .before .before .before .before .before .before .before .before .before .before .before .before .before .before .before .unsettled .ensures) at (c .before .before .before .before .before .before .before .before .before .search .ensures .0 sh (rw (c .before .before .before .before .before .before .before .before .before .before .before .before .before .before .before .unsettled .ensures) w)), λ e. let z : _≡_ {A = ℕ} 0 1 = cc in omega arith)
 
 same-length-5 : tie.Need-same-length-5
 same-length-5 c = search needs
@@ -48,15 +63,20 @@ same-length-6 c = search needs
 
 returns-3 : tie.Need-returns-3
 returns-3 c =
-    (λ sh w. let k = rw (c .before .before .before .before .before .before .before .before .enum-told2 .given .1) at (c .before .before .before .before .before .before .before .before .before .before .before .before .before .before .find-quickly .ensures sh w) in rw (← k .board, ← k .sequence) (c .before .before .before .before .find-thoroughly .ensures .0 sh w), c .before .before .before .before .find-thoroughly .ensures .1)
+    (λ sh w. let k = rw (c .before .before .before .before .before .before .before .before .enum-told2 .given .1) at (c .before .before .before .before .before .before .before .before .before .before .before .before .before .before .before .before .search .ensures .0 sh (rw (c .before .before .before .before .before .before .before .before .before .before .before .before .before .before .before .before .before .before .before .before .before .before .unsettled .ensures) w)) in rw (← k .board, ← k .sequence) (c .before .before .before .before .find-thoroughly .ensures .0 sh w), c .before .before .before .before .find-thoroughly .ensures .1)
 
 pub find-spec : {M : Type 1} → statement M
 find-spec =
     tie.close
     (tie.spec
-    find-quickly-requires
+    no-sets-requires
+    no-values-requires
+    unsettled-requires
+    slice-aggregate-search
+    slice-aggregate-search-2
+    search-requires
     enum-told
-    enum-known-length
+    enum-known-found
     enum-told-2
     find-thoroughly-requires
     same-length
