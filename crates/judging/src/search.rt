@@ -40,10 +40,8 @@ pub(crate) fn search(
     if i == n {
         return show(block, bytes, &p, n, board, sequence);
     }
-    if sets.len() == 0 {
-        if spent(notes) {
-            return Searched::GaveUp;
-        }
+    if sets.len() == 0 && spent(notes) {
+        return Searched::GaveUp;
     }
     let k = choices(block, i as u8);
     let mut c: u16 = 0;
