@@ -20,7 +20,7 @@ use Rattle.model.specs.laws.SuspectLaw.{slot-count}
 use Rattle.model.specs.laws.OperationLaw.{mutant-length, in-range-at, in-range}
 use Rattle.engine.specs.Machine.{choicesOf, suiteBytes, testsOf, Ranged, Partial, SuiteOk, Survivor, Wf}
 use Rattle.engine.specs.Refute.{NoneIf}
-use Rattle.mutation.specs.Answers.{overlay}
+use Rattle.sheet.specs.Lists.{overlay}
 use Rattle.judging.specs.Block.{BlockFor}
 use Rattle.judging.specs.Search.{Begins, Prefix, NoneFrom, FirstFrom, Tried, Kept, Shown, Searching, Room}
 use Rattle.judging.proofs.BlockLaw.{well-formed, ranged, survivor-same, suite-ok, getD-default}

@@ -30,11 +30,12 @@ use Rattle.model.specs.laws.SuiteLaw.{Following, Specified, test-specified, spe
 use Rattle.engine.specs.Machine.{pair, ruleOutput, ruleTarget, siteAt, choicesOf, statesOf, inputsOf, choicesAt, choiceOf, chosen, stepOf, suiteBytes, Wf}
 use Rattle.engine.specs.Answers.{StepIs}
 use Rattle.engine.specs.declared.tables.Step.{Step}
-use Rattle.mutation.specs.declared.Compared.{Compared}
-use Rattle.mutation.specs.declared.Compared.the-variants.{Differs}
+use Rattle.machine.specs.declared.distance.Difference.{Difference}
+use Rattle.machine.specs.declared.distance.Difference.the-variants as difference
 use Rattle.judging.specs.declared.survive.Searched.the-variants.{Nothing, First}
-use Rattle.mutation.specs.Answers.{overlay, comparedOf, found}
-use Rattle.mutation.specs.Tables.{ruleIn, moveIn, movesIn, tables, Valid}
+use Rattle.sheet.specs.Lists.{overlay}
+use Rattle.machine.specs.Differences.{differenceOf, found}
+use Rattle.machine.specs.Tables.{ruleIn, moveIn, movesIn, tables, Valid}
 use Rattle.judging.specs.Search.{Leaves, Searching}
 use Rattle.judging.specs.Survive.{slot, walkOf, Chosen, Acts, Laid}
 use Rattle.judging.proofs.BlockLaw.{getD-default, slot-few, rule-none, site-some, site-low, ranged, step-same, well-formed}
@@ -451,10 +452,10 @@ module _ {sh : Sheet} {m bytes p : List ℕ} {n : ℕ} (w : Searching sh m bytes
       compare-same = rw (sizes .0, sizes .1, tables-same) refl
 
       -- all outputs right: a survivor where compare finds a difference
-      module _ (r : Bool) (er : r ≡ walkOf so sn mo mn 0 0 bytes) (passes : r ≡ true) {d : Compared} {board sequence sequence′ : List ℕ}
-          (ed : d ≡ comparedOf (comparePair (tables states inputs 0 so sn mo mn))) (es′ : sequence′ ≡ overlay (found (comparePair (tables states inputs 0 so sn mo mn))) sequence) where
-        differs-shown : (o : Option (List ℕ)) → compareOf sh (take n p) ≡ o → d ≡ comparedOf o → sequence′ ≡ overlay (found o) sequence →
-            (k : ℕ) → d ≡ Differs k → {board′ : List ℕ} → board′ ≡ overlay (take n p) board → Leaves sh p n (First k) board board′ sequence sequence′
+      module _ (r : Bool) (er : r ≡ walkOf so sn mo mn 0 0 bytes) (passes : r ≡ true) {d : Difference} {board sequence sequence′ : List ℕ}
+          (ed : d ≡ differenceOf (comparePair (tables states inputs 0 so sn mo mn))) (es′ : sequence′ ≡ overlay (found (comparePair (tables states inputs 0 so sn mo mn))) sequence) where
+        differs-shown : (o : Option (List ℕ)) → compareOf sh (take n p) ≡ o → d ≡ differenceOf o → sequence′ ≡ overlay (found o) sequence →
+            (k : ℕ) → d ≡ difference.Shown k → {board′ : List ℕ} → board′ ≡ overlay (take n p) board → Leaves sh p n (First k) board board′ sequence sequence′
         differs-shown none eo h g k x eb = absurd (let z : _≡_ {A = ℕ} 0 1 = cc in omega arith)
         differs-shown (some xs) eo h g k x {board′} eb =
             record {
@@ -466,13 +467,13 @@ module _ {sh : Sheet} {m bytes p : List ℕ} {n : ℕ} (w : Searching sh m bytes
               sequence = g;
             }
 
-        conforms-shown : (o : Option (List ℕ)) → compareOf sh (take n p) ≡ o → d ≡ comparedOf o → sequence′ ≡ overlay (found o) sequence →
-            ((k : ℕ) → d ≡ Differs k → ⊥) → Leaves sh p n Nothing board board sequence sequence′
+        conforms-shown : (o : Option (List ℕ)) → compareOf sh (take n p) ≡ o → d ≡ differenceOf o → sequence′ ≡ overlay (found o) sequence →
+            ((k : ℕ) → d ≡ difference.Shown k → ⊥) → Leaves sh p n Nothing board board sequence sequence′
         conforms-shown none eo h g x = none-shown (λ ps. eo) g
         conforms-shown (some xs) eo h g x = absurd (x (length xs) h)
 
-        pub differs : (k : ℕ) → d ≡ Differs k → {board′ : List ℕ} → board′ ≡ overlay (take n p) board → Leaves sh p n (First k) board board′ sequence sequence′
-        differs k x eb = differs-shown (compareOf sh (take n p)) refl (ed ∙ ap comparedOf compare-same) (es′ ∙ ap (λ (o : Option (List ℕ)). overlay (found o) sequence) compare-same) k x eb
+        pub differs : (k : ℕ) → d ≡ difference.Shown k → {board′ : List ℕ} → board′ ≡ overlay (take n p) board → Leaves sh p n (First k) board board′ sequence sequence′
+        differs k x eb = differs-shown (compareOf sh (take n p)) refl (ed ∙ ap differenceOf compare-same) (es′ ∙ ap (λ (o : Option (List ℕ)). overlay (found o) sequence) compare-same) k x eb
 
-        pub conforms : ((k : ℕ) → d ≡ Differs k → ⊥) → Leaves sh p n Nothing board board sequence sequence′
-        conforms x = conforms-shown (compareOf sh (take n p)) refl (ed ∙ ap comparedOf compare-same) (es′ ∙ ap (λ (o : Option (List ℕ)). overlay (found o) sequence) compare-same) x
+        pub conforms : ((k : ℕ) → d ≡ difference.Shown k → ⊥) → Leaves sh p n Nothing board board sequence sequence′
+        conforms x = conforms-shown (compareOf sh (take n p)) refl (ed ∙ ap differenceOf compare-same) (es′ ∙ ap (λ (o : Option (List ℕ)). overlay (found o) sequence) compare-same) x

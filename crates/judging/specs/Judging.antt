@@ -16,8 +16,8 @@ use Rattle.model.specs.Implementation.{Guaranteed}
 use Rattle.model.specs.Verdict.{Complete, FirstSurvivor, ShortestOf}
 use Rattle.judging.specs.declared.verdict.Judged.{Judged}
 use Rattle.judging.specs.declared.verdict.Judged.the-variants as judged
-use Rattle.mutation.specs.Answers.{overlay}
-use Rattle.mutation.specs.Fits.{Read}
+use Rattle.sheet.specs.Lists.{overlay}
+use Rattle.machine.specs.Fits.{Read}
 
 -- 01's numbers and values for each case
 abbrev pub judgementAnswer : Judgement → Judged

@@ -12,7 +12,7 @@ use Rattle.model.specs.Suite.{Passes, compareOf}
 use Rattle.engine.specs.Machine.{statesOf, suiteBytes}
 use Rattle.judging.specs.declared.survive.Searched.{Searched}
 use Rattle.judging.specs.declared.survive.Searched.the-variants.{Nothing, First, GaveUp}
-use Rattle.mutation.specs.Answers.{overlay}
+use Rattle.sheet.specs.Lists.{overlay}
 use Rattle.judging.specs.Block.{BlockFor}
 
 -- b and p have the same first i choices

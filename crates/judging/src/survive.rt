@@ -6,17 +6,17 @@ use engine::rule_target;
 use engine::site;
 use engine::states;
 use engine::transition;
-use mutation::Compared;
-use mutation::blank;
-use mutation::distinguish;
-use mutation::wide;
+use machine::Difference;
+use machine::blank;
+use machine::distinguish;
+use machine::wide;
 ghost use mathlib.Core.Path.{_≡_};
 ghost use Prim.Native.Nat.{ℕ, _+_, _*_, _/_, _%_, _<_, _≤_};
 ghost use lib.ListN.{length, getD, take};
 ghost use Rattle.sheet.specs.Sheet.{Sheet};
 ghost use Rattle.engine.specs.Machine.{Wf, statesOf, chosen};
 ghost use Rattle.judging.specs.declared.survive.Searched.the-variants.{GaveUp};
-ghost use Rattle.mutation.specs.Answers.{overlay};
+ghost use Rattle.sheet.specs.Lists.{overlay};
 ghost use Rattle.judging.specs.Search.{Searching, Room, Leaves};
 ghost use Rattle.judging.specs.Survive.{slot, walkOf, Chosen, Acts, Laid};
 
@@ -152,11 +152,10 @@ pub(crate) fn show(
     let states = wide(states(block));
     let inputs = wide(inputs(block));
     match distinguish(&so, &sn, &mo, &mn, states, inputs, 0, sequence) {
-        Compared::Differs(length) => {
+        Difference::Shown(length) => {
             write_choices(p, n, board);
             Searched::First(length)
         }
-        Compared::Conforms => Searched::Nothing,
-        Compared::Refused(_, _) => Searched::Nothing,
+        Difference::Nothing => Searched::Nothing,
     }
 }

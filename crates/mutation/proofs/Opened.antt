@@ -26,8 +26,10 @@ use Rattle.model.specs.laws.SuiteLaw.{failed-means}
 use Rattle.model.specs.laws.JudgeLaw.{compared}
 use Rattle.mutation.specs.declared.Failed.{Failed}
 use Rattle.mutation.specs.declared.Compared.{Compared}
-use Rattle.mutation.specs.Answers.{overlay, failedOf, failedAnswer, comparedOf, comparedAnswer, found, comparedWrites}
-use Rattle.mutation.specs.Fits.{Read}
+use Rattle.sheet.specs.Lists.{overlay}
+use Rattle.machine.specs.Differences.{found}
+use Rattle.mutation.specs.Answers.{failedOf, failedAnswer, comparedOf, comparedAnswer, comparedWrites}
+use Rattle.machine.specs.Fits.{Read}
 use Rattle.mutation.specs.Operate.{runOn, compareOn, FailedSays, ToldFailed, ComparedSays, ToldCompared}
 
 pub record Opened (s : List ℕ) (size : Summary) (tables : Tables) : Type 0 where

@@ -18,16 +18,19 @@ use Rattle.model.specs.Suite.{firstFailedOf, compareOf}
 use Rattle.model.specs.Operations.{refuseIf, refuseAt, firstOver, withMutant}
 use Rattle.model.specs.laws.Closed.{start-below}
 use Rattle.model.specs.laws.OperationLaw.{mutant-goes-on, over-first, over-none}
-use Rattle.mutation.specs.declared.sites.Fit.the-variants as fit
-use Rattle.mutation.specs.declared.moves.Machine.{Machine}
-use Rattle.mutation.specs.Answers.{indexOr}
-use Rattle.mutation.specs.Tables.{tables, movesIn, Valid}
-use Rattle.mutation.specs.Tests.{Total}
-use Rattle.mutation.specs.Mutants.{Moves}
-use Rattle.mutation.specs.Fits.{Read, Machined}
+use Rattle.machine.specs.declared.sites.Fit.the-variants as fit
+use Rattle.machine.specs.declared.moves.Machine.{Machine}
+use Rattle.sheet.specs.Lists.{indexOr}
+use Rattle.machine.specs.Tables.{tables, movesIn, Valid, Total}
+use Rattle.machine.specs.declared.distance.Difference.{Difference}
+use Rattle.machine.specs.Differences.{differenceOf}
+use Rattle.mutation.specs.declared.Compared.{Compared}
+use Rattle.mutation.specs.Answers.{comparedOf, comparedBy, comparedAnswer}
+use Rattle.machine.specs.Mutants.{Moves}
+use Rattle.machine.specs.Fits.{Read, Machined}
 use Rattle.mutation.specs.Operate.{runOn, compareOn}
-use Rattle.mutation.proofs.Against.{moves-step, tables-against, tables-valid, tables-total}
-use Rattle.mutation.proofs.FitsLaw.{fit-refused, fit-mutant, read-states, read-inputs, read-ruled}
+use Rattle.machine.proofs.Against.{moves-step, tables-against, tables-valid, tables-total}
+use Rattle.machine.proofs.FitsLaw.{fit-refused, fit-mutant, read-states, read-inputs, read-ruled}
 
 -- the tables are the sheet's specification and its mutant
 pub record Prepared (sh : Sheet) (b : List ℕ) (n k start : ℕ) (so sn mo mn : List ℕ) : Type 0 where
@@ -131,7 +134,25 @@ unfolding outputs
 outputs-are sh b n k start so sn mo mn p xs = rw (p .steps, p .starts) refl
 
 -- and so is the comparison
-pub compare-is : (sh : Sheet) (b : List ℕ) (n k start : ℕ) (so sn mo mn : List ℕ) → Prepared sh b n k start so sn mo mn →
+compare-is : (sh : Sheet) (b : List ℕ) (n k start : ℕ) (so sn mo mn : List ℕ) → Prepared sh b n k start so sn mo mn →
     comparePair (tables n k start so sn mo mn) ≡ compareOf sh b
 unfolding compareOf
 compare-is sh b n k start so sn mo mn p = ap comparePair (p .same)
+
+-- with room for it the search over the tables is the operation
+module _ (sh : Sheet) (size : Summary) (t : Tables) (rd : Read sh size t) (b : List ℕ) (r : Machine) (is : Machined sh b r) (e : r .fit ≡ fit.Mutant)
+    (n k start : ℕ) (en : n ≡ size .states) (ek : k ≡ size .inputs) (es : start ≡ initial sh b) (room : ℕ) (h : n * n ≤ room) where
+  abbrev sought : Option (List ℕ)
+  sought = comparePair (tables n k start (t .output) (t .target) (r .output) (r .target))
+
+  pub compare-found : compareOn sh b room ≡ accepted sought
+  compare-found =
+      compare-done sh size t rd b r is e n en room h
+      ∙ ap accepted (sym (compare-is sh b n k start _ _ _ _ (prepared sh size t rd b r is e n k start en ek es)))
+
+  pub compare-told : (d : Difference) (a : Compared) → d ≡ differenceOf sought → a ≡ comparedBy d → a ≡ comparedAnswer (compareOn sh b room)
+  compare-told d a ed ea = ea ∙ ap comparedBy ed ∙ same sought ∙ sym (ap comparedAnswer compare-found)
+    where
+      same : (o : Option (List ℕ)) → comparedBy (differenceOf o) ≡ comparedOf o
+      same none = refl
+      same (some xs) = refl

@@ -10,10 +10,9 @@ use Rattle.model.specs.Machine.{Move, outputsFrom}
 use Rattle.model.specs.Operations.{firstOver}
 use Rattle.model.specs.laws.OperationLaw.{first-over, none-over}
 use Rattle.model.specs.laws.SuiteLaw.{outputs-length}
-use Rattle.mutation.specs.Answers.{indexOr, overlay}
-use Rattle.mutation.specs.Tables.{moveIn, movesIn}
-use Rattle.mutation.specs.Tests.{Total}
-use Rattle.mutation.proofs.TablesLaw.{move-at}
+use Rattle.sheet.specs.Lists.{indexOr, overlay}
+use Rattle.machine.specs.Tables.{moveIn, movesIn, Total}
+use Rattle.machine.proofs.TablesLaw.{move-at}
 
 module _ (k : ℕ) (xs : List ℕ) (i : ℕ) (below : (j : ℕ) → j < i → getD xs j 0 < k) where
   pub over-at : i < length xs → k ≤ getD xs i 0 → i ≡ indexOr (length xs) (firstOver k xs)

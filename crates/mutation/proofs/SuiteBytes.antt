@@ -24,7 +24,7 @@ use Rattle.model.specs.Suite.{wrongIn, firstFailedIn, firstFailedOf}
 use Rattle.model.specs.laws.ListLaw.{all-at-index}
 use Rattle.model.specs.laws.SuiteLaw.{Specified, test-specified}
 use Rattle.mutation.specs.Tests.{wrongFrom, failedFrom, Test, Tests}
-use Rattle.mutation.specs.Fits.{Read}
+use Rattle.machine.specs.Fits.{Read}
 
 press-at : (xs rest : List ℕ) (i : ℕ) → i < length xs → getD (pressBytes xs ++ rest) (2 * i + 1) 0 ≡ getD xs i 0
 unfolding pressBytes

@@ -15,10 +15,10 @@ use Rattle.model.specs.Machine.{Move, Pair, outputsFrom, specifiedFrom}
 use Rattle.model.specs.Mutant.{later}
 use Rattle.model.specs.Suite.{firstWrong, Place, laterTest}
 use Rattle.model.specs.laws.SuiteLaw.{Following, specified-uncons, specified-length}
-use Rattle.mutation.specs.Answers.{indexOr}
-use Rattle.mutation.specs.Tables.{ruleIn, moveIn, tables, Valid}
+use Rattle.sheet.specs.Lists.{indexOr}
+use Rattle.machine.specs.Tables.{ruleIn, moveIn, tables, Valid}
 use Rattle.mutation.specs.Tests.{wrongFrom, failedFrom, Test}
-use Rattle.mutation.proofs.TablesLaw.{the-move, move-next-below}
+use Rattle.machine.proofs.TablesLaw.{the-move, move-next-below}
 
 -- i positions later
 abbrev pub laterBy : ℕ → Option ℕ → Option ℕ

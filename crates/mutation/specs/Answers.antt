@@ -1,25 +1,19 @@
 -- What the code answers: 01's numbers and values for each case, and the bytes written.
 use Prim.Native.Nat.{ℕ}
 use mathlib.Core.Option.{Option, none, some}
-use mathlib.Core.List.{List, [], _++_}
-use lib.ListN.{length, drop}
+use mathlib.Core.List.{List, []}
+use lib.ListN.{length}
 use Rattle.sheet.specs.Reading.{Result, accepted, refused}
 use Rattle.model.specs.Suite.{Place}
+use Rattle.machine.specs.declared.distance.Difference.{Difference}
+use Rattle.machine.specs.declared.distance.Difference.the-variants as difference
+use Rattle.machine.specs.Differences.{found}
 use Rattle.mutation.specs.declared.Ran.{Ran}
 use Rattle.mutation.specs.declared.Ran.the-variants as ran
 use Rattle.mutation.specs.declared.Failed.{Failed}
 use Rattle.mutation.specs.declared.Failed.the-variants as fail
 use Rattle.mutation.specs.declared.Compared.{Compared}
 use Rattle.mutation.specs.declared.Compared.the-variants as compared
-
--- an index, or d where there is none
-abbrev pub indexOr : ℕ → Option ℕ → ℕ
-indexOr d none = d
-indexOr d (some i) = i
-
--- a buffer with the bytes xs at its front
-abbrev pub overlay : List ℕ → List ℕ → List ℕ
-overlay xs buffer = xs ++ drop (length xs) buffer
 
 abbrev pub ranAnswer : Result (List ℕ) → Ran
 ranAnswer (accepted os) = ran.Done
@@ -42,15 +36,15 @@ abbrev pub comparedOf : Option (List ℕ) → Compared
 comparedOf none = compared.Conforms
 comparedOf (some xs) = compared.Differs (length xs)
 
+abbrev pub comparedBy : Difference → Compared
+comparedBy difference.Nothing = compared.Conforms
+comparedBy (difference.Shown d) = compared.Differs d
+
 abbrev pub comparedAnswer : Result (Option (List ℕ)) → Compared
 comparedAnswer (accepted found) = comparedOf found
 comparedAnswer (refused number place) = compared.Refused number place
 
 -- what compare writes: the distinguishing sequence, if there is one
-abbrev pub found : Option (List ℕ) → List ℕ
-found none = []
-found (some xs) = xs
-
 abbrev pub comparedWrites : Result (Option (List ℕ)) → List ℕ
 comparedWrites (accepted o) = found o
 comparedWrites (refused number place) = []

@@ -8,12 +8,6 @@ use Rattle.sheet.specs.Lists.{maybe}
 use Rattle.model.specs.Machine.{Pair, outputsFrom, specifiedFrom}
 use Rattle.model.specs.Suite.{firstWrong, Place, laterTest}
 
--- the machine's tables stay among n states
-pub record Total (n k : ℕ) (mn : List ℕ) : Type 0 where
-  pub few-states : n ≤ 16
-  pub few-inputs : k ≤ 16
-  pub below : (s x : ℕ) → s < n → x < k → getD mn (s * 16 + x) 0 < n
-
 -- the position of the machine's first wrong output, from the specification's state p and the machine's state q
 unfoldable pub wrongFrom : Pair → ℕ → ℕ → List ℕ → Option ℕ
 wrongFrom m p q xs = maybe (specifiedFrom (m .rule) p xs) none (λ os. firstWrong os (outputsFrom (m .move) q xs))

@@ -1,27 +1,17 @@
 // Mutants of a sheet (01: boards): run one, find the first test that it fails, compare it with the specification.
 ghost use mathlib.Core.Path.{_≡_};
-ghost use Prim.Native.Nat.{ℕ};
 ghost use lib.ListN.{length};
-ghost use Rattle.sheet.specs.declared.Reading.the-variants as read;
+ghost use Rattle.sheet.specs.Lists.{overlay};
 ghost use Rattle.model.specs.Operations.{running, failing, comparing};
-ghost use Rattle.mutation.specs.Answers.{overlay, ranAnswer, ranWrites, failedAnswer, comparedAnswer, comparedWrites};
+ghost use Rattle.mutation.specs.Answers.{ranAnswer, ranWrites, failedAnswer, comparedAnswer, comparedWrites};
 ghost use Rattle.mutation.specs.Operate.{ToldFailed, ToldCompared};
 
-mod distance;
-mod moves;
+mod conform;
 mod respond;
-mod sites;
 mod suite;
 
 use sheet::Reading;
-
-// For the crate `judging` alone.
-pub use distance::bound;
-pub use distance::distinguish;
-pub use moves::blank;
-pub use moves::wide;
-pub use sites::Sites;
-pub use sites::number;
+use sheet::refusal_of;
 
 // What Run answers.
 pub enum Ran {
@@ -41,25 +31,6 @@ pub enum Compared {
     Conforms,
     Differs(usize),
     Refused(u8, usize),
-}
-
-// A refusal's number and place.
-pub struct Refusal {
-    pub number: u8,
-    pub place: usize,
-}
-
-// Why a sheet is refused on reading; nothing is said of an accepted one.
-pub fn refusal_of(reading: Reading) -> Refusal
-    ensures { λ r. ⌜ ((number place : ℕ) → reading ≡ read.Refused number place → (r .number ≡ number) × (r .place ≡ place)) ⌝ }
-{
-    match reading {
-        Reading::Refused(number, place) => Refusal { number, place },
-        Reading::Accepted(_) => Refusal {
-            number: 0,
-            place: 0,
-        },
-    }
 }
 
 // Run: one output for each input at the buffer's front.
@@ -105,5 +76,5 @@ pub fn compare(sheet: &[u8], mutant: &[u8], buffer: &mut [u8]) -> Compared
         return Compared::Refused(why.number, why.place);
     };
     let tables = loaded.tables;
-    distance::compare_accepted(size, tables, mutant, buffer)
+    conform::compare_accepted(size, tables, mutant, buffer)
 }

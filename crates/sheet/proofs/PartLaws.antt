@@ -1,6 +1,6 @@
 -- One test's part, from what Read answers.
 use Prim.Native.Nat.{ℕ, zero, suc, _+_, _*_, _-_, _<_, _≤_}
-use mathlib.Core.Path.{_≡_, refl, ap, sym, _∙_}
+use mathlib.Core.Path.{_≡_, refl, ap, sym, _∙_, ap₂}
 use mathlib.Core.Bool.{Bool, true, false, cond}
 use mathlib.Core.List.{List, [], _∷_, _++_}
 use native.Mathlib.Omega.{arith}
@@ -18,7 +18,7 @@ use Rattle.sheet.specs.Reading.{Result, Reading, accepted, refused, read
 use Rattle.sheet.specs.Encode.{testBytes, machineBytes, body, encode}
 use Rattle.sheet.specs.Part.{spanOf, spanIn, parting, partOf, LiesIn}
 use Rattle.sheet.specs.Tables.{readAnswer, partAnswer}
-use Rattle.sheet.specs.Places.{spanFrom, TestFrom, handedOn}
+use Rattle.sheet.specs.Places.{spanFrom, TestFrom}
 use Rattle.sheet.specs.laws.Encoded.{encoded}
 use Rattle.sheet.specs.laws.Accepted.{short-enough}
 use Rattle.sheet.proofs.PlaceLaws.{machine-length, tests-from, tests-suc}
@@ -54,13 +54,16 @@ placed s r summary e a = go (accepted-as (reading s) summary (sym a ∙ e))
     go : (sh : Sheet) × (reading s ≡ accepted sh) × (summary ≡ summaryOf sh) → (sh : Sheet) × Placed s summary sh
     go t = (t .0, located s summary (t .0) (t .1) (t .2))
 
-pub span-refused : (s : List ℕ) (i : ℕ) (r : ReadAnswer) (number place : ℕ) → r ≡ readAnswer (reading s) → r ≡ read.Refused number place → handedOn r ≡ partAnswer (parting s i)
+pub span-refused : (s : List ℕ) (i : ℕ) (r : ReadAnswer) (number place : ℕ) → r ≡ readAnswer (reading s) → r ≡ read.Refused number place → part.Refused number place ≡ partAnswer (parting s i)
 unfolding parting
 span-refused s i r number place e a = go (reading s) e
   where
-    go : (d : Reading) → r ≡ readAnswer d → handedOn r ≡ partAnswer (spanIn d i)
+    go : (d : Reading) → r ≡ readAnswer d → part.Refused number place ≡ partAnswer (spanIn d i)
     go (accepted sh) k = let z : _≡_ {A = ℕ} 0 1 = cc in absurd (omega arith)
-    go (refused n p) k = rw k
+    go (refused n p) k =
+        let en : number ≡ n = cc in
+        let ep : place ≡ p = cc in
+        ap₂ part.Refused en ep
 
 module _ (s : List ℕ) (i : ℕ) (summary : Summary) (sh : Sheet) (p : Placed s summary sh) where
   pub span-none : summary .tests ≤ i → part.Refused 17 0 ≡ partAnswer (parting s i)

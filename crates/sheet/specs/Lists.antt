@@ -6,6 +6,7 @@ use mathlib.Core.Logic.{_⊎_}
 use mathlib.Core.Option.{Option, none, some}
 use mathlib.Core.List.{List, [], _∷_, _++_, map}
 use lib.Dec.{eqb, ltb}
+use lib.ListN.{length, drop}
 
 -- by cases: b where there is nothing, f of what there is
 abbrev pub maybe : {A B : Type 0} → Option A → B → (A → B) → B
@@ -15,6 +16,11 @@ maybe (some a) b f = f a
 abbrev pub isNone : {A : Type 0} → Option A → Bool
 isNone none = true
 isNone (some a) = false
+
+-- an index, or d where there is none
+abbrev pub indexOr : ℕ → Option ℕ → ℕ
+indexOr d none = d
+indexOr d (some i) = i
 
 abbrev pub first : {A : Type 0} → List A → Option A
 first [] = none
@@ -69,3 +75,7 @@ upTo (suc n) = zero ∷ map (λ (i : ℕ). suc i) (upTo n)
 unfoldable pub joined : {A B : Type 0} → (A → List B) → List A → List B
 joined f [] = []
 joined f (x ∷ xs) = f x ++ joined f xs
+
+-- a buffer with xs at its front and the rest as it was
+abbrev pub overlay : List ℕ → List ℕ → List ℕ
+overlay xs buffer = xs ++ drop (length xs) buffer

@@ -5,10 +5,6 @@ use mathlib.Core.Bool.{cond}
 use mathlib.Core.List.{List, [], _∷_, _++_}
 use lib.Dec.{ltb}
 use lib.ListN.{length, getD, take, drop}
-use Rattle.sheet.specs.declared.Reading.{Reading as ReadAnswer}
-use Rattle.sheet.specs.declared.Reading.the-variants as read
-use Rattle.sheet.specs.declared.Parting.{Parting as PartAnswer}
-use Rattle.sheet.specs.declared.Parting.the-variants as part
 use Rattle.sheet.specs.declared.Span.{Span}
 use Rattle.sheet.specs.declared.Row.{Row}
 use Rattle.sheet.specs.declared.Size.{Size}
@@ -42,10 +38,6 @@ pub record TestFrom (s : List ℕ) (place i : ℕ) (r : Span) : Type 0 where
   pub within : r .start + r .length ≤ length s
   pub found : (l : List (List ℕ)) → drop place s ≡ testBytes l ++ 6 ∷ [] → i < length l → r ≡ spanFrom place l i
 
--- a refusal of Read handed on
-abbrev pub handedOn : ReadAnswer → PartAnswer
-handedOn (read.Accepted summary) = part.Refused 0 0
-handedOn (read.Refused number place) = part.Refused number place
 
 -- rows stand from a place on as FAULTs
 pub record FaultsFrom (s : List ℕ) (place : ℕ) (l : List Row) : Type 0 where

@@ -7,6 +7,7 @@ use lib.ListN.{length, getD, replicate}
 use Rattle.sheet.specs.declared.Row.{Row}
 use Rattle.sheet.specs.declared.Reading.{Reading as ReadAnswer}
 use Rattle.sheet.specs.declared.Reading.the-variants as read
+use Rattle.sheet.specs.declared.Refusal.{Refusal}
 use Rattle.sheet.specs.declared.Parting.{Parting as PartAnswer}
 use Rattle.sheet.specs.declared.Parting.the-variants as part
 use Rattle.sheet.specs.declared.Span.{Span}
@@ -20,6 +21,11 @@ use Rattle.sheet.specs.Part.{spanOf}
 abbrev pub readAnswer : Reading → ReadAnswer
 readAnswer (accepted sh) = read.Accepted (summaryOf sh)
 readAnswer (refused number place) = read.Refused number place
+
+-- the number and place of a refusal; noughts where there is none
+abbrev pub refusalOf : ReadAnswer → Refusal
+refusalOf (read.Accepted summary) = record { number = 0; place = 0 }
+refusalOf (read.Refused number place) = record { number = number; place = place }
 
 abbrev pub partAnswer : Result Span → PartAnswer
 partAnswer (accepted span) = part.At span

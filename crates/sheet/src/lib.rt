@@ -3,8 +3,7 @@ ghost use denote.Ref.{ptr};
 ghost use mathlib.Core.Path.{_≡_};
 ghost use Rattle.sheet.specs.Reading as reading;
 ghost use Rattle.sheet.specs.Part.{parting, partOf, LiesIn};
-ghost use Rattle.sheet.specs.Tables.{readAnswer, partAnswer, loadedOf};
-ghost use Rattle.sheet.specs.Places.{handedOn};
+ghost use Rattle.sheet.specs.Tables.{readAnswer, refusalOf, partAnswer, loadedOf};
 
 mod fetch;
 mod filling;
@@ -51,6 +50,12 @@ pub enum Reading {
     Refused(u8, usize),
 }
 
+// A refusal's number and place.
+pub struct Refusal {
+    pub number: u8,
+    pub place: usize,
+}
+
 // What One test's part answers.
 pub enum Parting {
     At(Span),
@@ -87,13 +92,16 @@ pub fn read(sheet: &[u8]) -> Reading
     scan::answer(scan::scan(sheet, &mut output, &mut target, &mut faulty))
 }
 
-// A refusal of Read, as One test's part hands it on.
-fn handed_on(reading: Reading) -> Parting
-    ensures { λ r. ⌜ r ≡ handedOn reading ⌝ }
+// Why Read refuses, for the operations that it ends; noughts where it accepts.
+pub fn refusal_of(reading: Reading) -> Refusal
+    ensures { λ r. ⌜ r ≡ refusalOf reading ⌝ }
 {
     match reading {
-        Reading::Accepted(_) => Parting::Refused(0, 0),
-        Reading::Refused(number, place) => Parting::Refused(number, place),
+        Reading::Accepted(_) => Refusal {
+            number: 0,
+            place: 0,
+        },
+        Reading::Refused(number, place) => Refusal { number, place },
     }
 }
 
@@ -103,7 +111,8 @@ pub fn test_span(sheet: &[u8], i: usize) -> Parting
 {
     let reading = read(sheet);
     let Reading::Accepted(summary) = reading else {
-        return handed_on(reading);
+        let why = refusal_of(reading);
+        return Parting::Refused(why.number, why.place);
     };
     if i < summary.tests {
         let place = 4 + 5 * summary.rules + 5 * summary.faults;

@@ -3,6 +3,7 @@ use mathlib.Core.Path.{sym, _∙_, ap, ap₂}
 use Rattle.mutation.specs.declared.Failed.the-variants.{Refused}
 use Rattle.mutation.specs.Answers.{failedAnswer}
 use Rattle.mutation.proofs.Opened.{opened, closed-by, failing-on, failing-refused, told-failed}
+use Rattle.sheet.specs.laws.Refusals.{refusal-told}
 use borrow.Author.Needs.{needs}
 use Rattle.mutation.proofs.first_failed.Statement.{statement}
 use Rattle.mutation.proofs.first_failed.Tie as tie
@@ -23,7 +24,7 @@ returns : tie.Need-returns
 returns c =
     let a = c .before .before .before .before .before .before .args in
     let g = c .before .enum-told .given in
-    let z = c .refusal-of .ensures (g .0 .0) (g .0 .1 .0) (g .1) in
+    let z = refusal-told _ _ _ _ (c .refusal-of .ensures) (g .1) in
     let e = failing-refused (a .sheet .now) (g .0 .0) (g .0 .1 .0) (closed-by (a .sheet .now) (c .before .before .before .load .result) (g .0 .0) (g .0 .1 .0) (c .before .before .before .load .ensures) (g .1)) (a .mutant .now) in
     let answer = ap₂ Refused (z .0) (z .1) ∙ sym (ap failedAnswer e) in
     (answer, told-failed (a .sheet .now) (a .mutant .now) _ answer)

@@ -2,8 +2,10 @@
 use mathlib.Core.Path.{sym, _∙_, ap, ap₂}
 use lib.ListN.{length}
 use Rattle.mutation.specs.declared.Ran.the-variants.{Refused}
-use Rattle.mutation.specs.Answers.{overlay, ranAnswer, ranWrites}
+use Rattle.sheet.specs.Lists.{overlay}
+use Rattle.mutation.specs.Answers.{ranAnswer, ranWrites}
 use Rattle.mutation.proofs.Opened.{opened, closed-by, running-on, running-refused}
+use Rattle.sheet.specs.laws.Refusals.{refusal-told}
 use borrow.Author.Needs.{needs}
 use Rattle.mutation.proofs.run.Statement.{statement}
 use Rattle.mutation.proofs.run.Tie as tie
@@ -24,7 +26,7 @@ returns : tie.Need-returns
 returns c =
     let a = c .before .before .before .before .before .before .before .before .args in
     let g = c .before .enum-told .given in
-    let z = c .refusal-of .ensures (g .0 .0) (g .0 .1 .0) (g .1) in
+    let z = refusal-told _ _ _ _ (c .refusal-of .ensures) (g .1) in
     let e = running-refused (a .sheet .now) (g .0 .0) (g .0 .1 .0) (closed-by (a .sheet .now) (c .before .before .before .load .result) (g .0 .0) (g .0 .1 .0) (c .before .before .before .load .ensures) (g .1)) (a .mutant .now) (a .inputs .now) (length (a .buffer .now)) in
     let answer = ap₂ Refused (z .0) (z .1) ∙ sym (ap ranAnswer e) in
     let bytes = sym (ap (λ q. overlay (ranWrites q) (a .buffer .now)) e) in

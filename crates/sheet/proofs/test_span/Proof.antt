@@ -1,6 +1,8 @@
 use native.Mathlib.Omega.{arith}
-use mathlib.Core.Path.{_∙_}
+use mathlib.Core.Path.{_∙_, ap₂}
 use denote.Ref.{now}
+use Rattle.sheet.specs.declared.Parting.the-variants.{Refused}
+use Rattle.sheet.specs.laws.Refusals.{refusal-told}
 use Rattle.sheet.proofs.PartLaws as laws
 use borrow.Author.Needs.{needs}
 use Rattle.sheet.proofs.test_span.Statement.{statement}
@@ -15,11 +17,16 @@ enum-known-reading c = search needs
 enum-told : tie.Need-enum-told
 enum-told c = search needs
 
-handed-on-requires : tie.Need-handed-on-requires
-handed-on-requires c κs = search needs
+refusal-of-requires : tie.Need-refusal-of-requires
+refusal-of-requires c κs = search needs
 
 returns : tie.Need-returns
-returns c = let a = c .before .before .before .before .before .args in c .handed-on .ensures ∙ laws.span-refused (now (a .sheet)) (a .i) (c .before .before .before .read .result) _ _ (c .before .before .before .read .ensures) (c .before .enum-told .given .1)
+returns c =
+    let a = c .before .before .before .before .before .args in
+    let g = c .before .enum-told .given in
+    let z = refusal-told _ _ _ _ (c .refusal-of .ensures) (g .1) in
+    ap₂ Refused (z .0) (z .1)
+        ∙ laws.span-refused (now (a .sheet)) (a .i) (c .before .before .before .read .result) _ _ (c .before .before .before .read .ensures) (g .1)
 
 mul-place : tie.Need-mul-place
 mul-place c =
@@ -77,7 +84,7 @@ test-span-spec =
     read-requires
     enum-known-reading
     enum-told
-    handed-on-requires
+    refusal-of-requires
     returns
     mul-place
     add-place

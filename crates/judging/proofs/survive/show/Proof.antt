@@ -61,9 +61,6 @@ write-choices-requires c κs = let b = choice-bytes (c .before .before .before .
 enum-told : tie.Need-enum-told
 enum-told c = search needs
 
-enum-told-2 : tie.Need-enum-told-2
-enum-told-2 c = search needs
-
 same-length : tie.Need-same-length
 same-length c = search needs
 
@@ -80,13 +77,6 @@ same-length-3 c = search needs
 returns-3 : tie.Need-returns-3
 returns-3 c =
     (λ sh w. conforms w (c .before .before .before .before .before .before .before .before .before .before .before .before .before .before .before .before .before .before .before .before .lay .ensures) (c .before .before .before .before .before .before .before .before .before .before .before .before .wide .result) (c .before .before .before .before .before .before .before .before .before .before .wide2 .result) (c .before .before .before .before .before .before .before .before .before .before .before .before .wide .ensures ∙ c .before .before .before .before .before .before .before .before .before .before .before .before .before .states .ensures) (c .before .before .before .before .before .before .before .before .before .before .wide2 .ensures ∙ c .before .before .before .before .before .before .before .before .before .before .before .inputs .ensures) (c .before .before .before .before .before .before .before .before .before .before .before .before .before .before .before .passes .result) (c .before .before .before .before .before .before .before .before .before .before .before .before .before .before .before .passes .ensures) (not-false _ (c .before .before .before .before .before .before .before .before .before .before .before .before .before .before .if1 .left)) (c .before .before .before .before .distinguish .ensures .0) (c .before .before .before .before .distinguish .ensures .1) (λ k e. let z : _≡_ {A = ℕ} 0 1 = cc (c .enum-told .given .1) in omega arith), λ e. let z : _≡_ {A = ℕ} 0 1 = cc in omega arith)
-
-same-length-4 : tie.Need-same-length-4
-same-length-4 c = search needs
-
-returns-4 : tie.Need-returns-4
-returns-4 c =
-    (λ sh w. conforms w (c .before .before .before .before .before .before .before .before .before .before .before .before .before .before .before .before .before .before .before .before .lay .ensures) (c .before .before .before .before .before .before .before .before .before .before .before .before .wide .result) (c .before .before .before .before .before .before .before .before .before .before .wide2 .result) (c .before .before .before .before .before .before .before .before .before .before .before .before .wide .ensures ∙ c .before .before .before .before .before .before .before .before .before .before .before .before .before .states .ensures) (c .before .before .before .before .before .before .before .before .before .before .wide2 .ensures ∙ c .before .before .before .before .before .before .before .before .before .before .before .inputs .ensures) (c .before .before .before .before .before .before .before .before .before .before .before .before .before .before .before .passes .result) (c .before .before .before .before .before .before .before .before .before .before .before .before .before .before .before .passes .ensures) (not-false _ (c .before .before .before .before .before .before .before .before .before .before .before .before .before .before .if1 .left)) (c .before .before .before .before .distinguish .ensures .0) (c .before .before .before .before .distinguish .ensures .1) (λ k e. let z : _≡_ {A = ℕ} 0 1 = cc (c .enum-told2 .given .1) in omega arith), λ e. let z : _≡_ {A = ℕ} 0 1 = cc in omega arith)
 
 pub show-spec : {M : Type 1} → statement M
 show-spec =
@@ -107,11 +97,8 @@ show-spec =
     enum-known-length
     write-choices-requires
     enum-told
-    enum-told-2
     same-length
     same-length-2
     returns-2
     same-length-3
-    returns-3
-    same-length-4
-    returns-4)
+    returns-3)

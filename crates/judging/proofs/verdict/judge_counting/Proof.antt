@@ -1,5 +1,6 @@
 -- `judge_counting`: refused as reading refuses, or the judgement of the sheet that was read.
 use mathlib.Core.Path.{refl, ap₂}
+use Rattle.sheet.specs.laws.Refusals.{refusal-told}
 use borrow.Author.Needs.{needs}
 use Rattle.judging.specs.declared.verdict.Judged.the-variants.{Refused}
 use Rattle.judging.proofs.JudgingLaw.{loaded-read, judge-refused, judge-accepted}
@@ -22,7 +23,7 @@ returns : tie.Need-returns
 returns c =
     let a = c .before .before .before .before .before .before .before .before .args in
     let g = c .before .enum-told .given in
-    let z = c .refusal-of .ensures (g .0 .0) (g .0 .1 .0) (g .1) in
+    let z = refusal-told _ _ _ _ (c .refusal-of .ensures) (g .1) in
     let x = judge-refused (a .sheet .now) (a .board .now) (a .sequence .now) (c .before .before .before .before .load .result) (g .0 .0) (g .0 .1 .0) _ (c .before .before .before .before .load .ensures) (g .1) (ap₂ Refused (z .0) (z .1)) in
     (x .0 .answer, (x .0 .board, (x .0 .sequence, (x .1, refl))))
 

@@ -4,7 +4,7 @@ use mathlib.Core.Path.{_∙_, ap}
 use native.Mathlib.Omega.{arith}
 use lib.ListN.{length}
 use Rattle.model.specs.Machine.{Move}
-use Rattle.mutation.specs.Tables.{movesIn}
+use Rattle.machine.specs.Tables.{movesIn}
 use Rattle.mutation.proofs.RespondLaw.{Responding, respond-start, respond-more, respond-end, stepped}
 use Rattle.mutation.proofs.respond.respond.Statement.{statement}
 use Rattle.mutation.proofs.respond.respond.Tie as tie

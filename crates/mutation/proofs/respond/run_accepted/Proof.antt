@@ -1,7 +1,8 @@
 -- `run_accepted`: each way out is a case of what running comes to.
 use mathlib.Core.Path.{sym, _∙_, ap}
 use lib.ListN.{length}
-use Rattle.mutation.specs.Answers.{overlay, ranAnswer, ranWrites}
+use Rattle.sheet.specs.Lists.{overlay}
+use Rattle.mutation.specs.Answers.{ranAnswer, ranWrites}
 use Rattle.mutation.proofs.Operating.{prepared, run-refused, run-over, run-short, run-done, inputs-below, outputs-are}
 use borrow.Author.Needs.{needs}
 use Rattle.mutation.proofs.respond.run_accepted.Statement.{statement}

@@ -5,7 +5,7 @@ use mathlib.Core.List.{List, []}
 use native.Mathlib.Omega.{arith}
 use lib.ListN.{getD, drop}
 use Rattle.mutation.specs.Answers.{failedOf}
-use Rattle.mutation.specs.Tables.{tables}
+use Rattle.machine.specs.Tables.{tables}
 use Rattle.mutation.specs.Tests.{failedFrom, Tests}
 use Rattle.mutation.proofs.SuiteTables.{laterTests, suite-start, suite-more, suite-failed, suite-end, index-there, test-right}
 use Rattle.mutation.proofs.suite.first_failure.Statement.{statement}

@@ -3,7 +3,7 @@ use Prim.Native.Nat.{ℕ, _≤_, _<_, _-_}
 use mathlib.Core.Path.{_∙_}
 use mathlib.Core.List.{List}
 use native.Mathlib.Omega.{arith}
-use Rattle.mutation.specs.Tables.{tables}
+use Rattle.machine.specs.Tables.{tables}
 use Rattle.mutation.specs.Tests.{Test}
 use Rattle.mutation.proofs.SuiteTables.{Trying, try-start, try-end, index, rule-below, move-below, turn-more, turn-wrong}
 use Rattle.mutation.proofs.suite.first_wrong.Statement.{statement}

@@ -1,0 +1,86 @@
+-- `round`: the cells below i are done, and each of the others is as it was.
+use Prim.Native.Nat.{ℕ, _*_, _<_, _-_}
+use mathlib.Core.Path.{_≡_, refl, sym, _∙_}
+use mathlib.Core.Bool.{false}
+use mathlib.Core.Logic.{⊎-elim}
+use native.Mathlib.Omega.{arith}
+use lib.ListN.{length, length-set, getD}
+use Rattle.machine.specs.Tables.{tables}
+use Rattle.machine.proofs.MarksLaw.{Done, done-none, done-more, done-same, done-all}
+use Rattle.machine.proofs.distance.round.Statement.{statement}
+use Rattle.machine.proofs.distance.round.Tie as tie
+
+abbrev Inv-loop : tie.InvT-loop
+Inv-loop so sn mo mn dist₀ n k j changed₀ i₀ dist changed i =
+    (length dist ≡ 256) × ((start : ℕ) → Done (tables n k start so sn mo mn) dist₀ j dist i)
+    × (changed ≡ false → (t : ℕ) → getD dist t 0 ≡ getD dist₀ t 0)
+
+abbrev μ-loop : tie.MeasureT-loop
+μ-loop so sn mo mn dist₀ n k j changed₀ i₀ dist changed i = 16 * n - i
+
+loop-holds : tie.Need-loop-holds Inv-loop μ-loop
+loop-holds c = (c .pre .1 .1, λ start. done-none _ _ _, λ _ t. refl)
+
+mul-loop : tie.Need-mul-loop Inv-loop μ-loop
+mul-loop c = omega arith
+
+cell-requires : tie.Need-cell-requires Inv-loop μ-loop
+cell-requires c κs = (c .before .before .before .pre .0, (omega arith, omega arith))
+
+mul-if1 : tie.Need-mul-if1 Inv-loop μ-loop
+mul-if1 c = omega arith
+
+element-copy-out-if1 : tie.Need-element-copy-out-if1 Inv-loop μ-loop
+element-copy-out-if1 c = omega arith
+
+mul-dist : tie.Need-mul-dist Inv-loop μ-loop
+mul-dist c = omega arith
+
+element-write-dist : tie.Need-element-write-dist Inv-loop μ-loop
+element-write-dist c = omega arith
+
+add-i : tie.Need-add-i Inv-loop μ-loop
+add-i c = omega arith
+
+loop-less : tie.Need-loop-less Inv-loop μ-loop
+loop-less c = omega arith
+
+loop-again : tie.Need-loop-again Inv-loop μ-loop
+loop-again c =
+    let l = c .before .before .before .before .before .loop in
+    let e = c .before .before .cell .ensures in
+    let lt : l .i < length (l .dist) = omega arith in
+    ⊎-elim
+    (λ w. (
+      rw (w .1) (simp length-set (l .inv .0)),
+      λ start. rw (w .1) (done-more _ _ _ _ _ (l .inv .1 start) _ lt (e start)),
+      λ f. let z : _≡_ {A = ℕ} 0 1 = cc in absurd (omega arith),
+    ))
+    (λ w. (
+      rw (w .1) (l .inv .0),
+      λ start. rw (w .1) (done-same _ _ _ _ _ (l .inv .1 start) lt (sym (w .0 .left) ∙ e start)),
+      λ f t. rw (w .1) (l .inv .2 (sym (w .2) ∙ f) t),
+    ))
+    (c .if1 .came)
+
+returns : tie.Need-returns Inv-loop μ-loop
+unfolding tables
+returns c = let l = c .before .loop .inv in (l .0, (λ start t _. done-all _ _ _ _ _ t (l .1 start) (c .loop-test .left), l .2))
+
+pub round-spec : {M : Type 1} → statement M
+round-spec =
+    tie.close
+    (tie.spec
+    Inv-loop
+    μ-loop
+    loop-holds
+    mul-loop
+    cell-requires
+    mul-if1
+    element-copy-out-if1
+    mul-dist
+    element-write-dist
+    add-i
+    loop-less
+    loop-again
+    returns)

@@ -1,0 +1,5 @@
+pub mod Tables
+pub mod Differences
+pub mod Sites
+pub mod Mutants
+pub mod Fits

@@ -1,0 +1,83 @@
+-- `compare_accepted`: each way out is a case of what comparing comes to.
+use mathlib.Core.Path.{sym, _∙_, ap}
+use native.Mathlib.Omega.{arith}
+use lib.ListN.{length}
+use Rattle.sheet.specs.Lists.{overlay}
+use Rattle.mutation.specs.Answers.{comparedAnswer, comparedWrites}
+use Rattle.machine.proofs.FitsLaw.{read-states}
+use Rattle.mutation.proofs.Operating.{prepared, compare-refused, compare-short, compare-found, compare-told}
+use borrow.Author.Needs.{needs}
+use Rattle.mutation.proofs.conform.compare_accepted.Statement.{statement}
+use Rattle.mutation.proofs.conform.compare_accepted.Tie as tie
+
+machine-of-requires : tie.Need-machine-of-requires
+machine-of-requires c κs = c .before .before .pre
+
+enum-known-fit : tie.Need-enum-known-fit
+enum-known-fit c = search needs
+
+returns : tie.Need-returns
+returns c = let a = c .before .before .before .before .before .before .args in (
+  (λ sh rd. sym (ap comparedAnswer (compare-refused sh _ _ rd _ _ (c .before .before .before .machine-of .ensures sh rd) _ _ (c .before .fit .given .1) (length (a .buffer .now))))),
+  (λ sh rd. sym (ap (λ q. overlay (comparedWrites q) (a .buffer .now)) (compare-refused sh _ _ rd _ _ (c .before .before .before .machine-of .ensures sh rd) _ _ (c .before .fit .given .1) (length (a .buffer .now))))),
+)
+
+enum-told : tie.Need-enum-told
+enum-told c = search needs
+
+wide-requires : tie.Need-wide-requires
+wide-requires c κs = search needs
+
+bound-requires : tie.Need-bound-requires
+bound-requires c κs = let a = c .before .before .before .before .before .before .args in let p = c .before .before .before .before .before .before .pre in (omega (arith, c .wide .ensures, read-states (p .0) _ _ (p .1), p .1 .formed .size .states .some), omega (arith, c .wide .ensures, read-states (p .0) _ _ (p .1), p .1 .formed .size .states .few))
+
+cast-if1 : tie.Need-cast-if1
+cast-if1 c = search needs
+
+returns-2 : tie.Need-returns-2
+returns-2 c = let a = c .before .before .before .before .before .before .before .before .args in (
+  (λ sh rd. sym (ap comparedAnswer (compare-short sh _ _ rd _ _ (c .before .before .before .before .before .machine-of .ensures sh rd) (c .before .before .before .enum-told .given .1) _ (c .before .before .wide .ensures) (length (a .buffer .now)) (rw (c .before .bound .ensures) at (c .if1 .taken))))),
+  (λ sh rd. sym (ap (λ q. overlay (comparedWrites q) (a .buffer .now)) (compare-short sh _ _ rd _ _ (c .before .before .before .before .before .machine-of .ensures sh rd) (c .before .before .before .enum-told .given .1) _ (c .before .before .wide .ensures) (length (a .buffer .now)) (rw (c .before .bound .ensures) at (c .if1 .taken))))),
+)
+
+wide-requires-2 : tie.Need-wide-requires-2
+wide-requires-2 c κs = search needs
+
+initial-requires : tie.Need-initial-requires
+initial-requires c κs = search needs
+
+distinguish-requires : tie.Need-distinguish-requires
+distinguish-requires c κs = let a = c .before .before .before .before .before .before .before .before .before .before .before .before .before .before .before .before .before .args in let p = c .before .before .before .before .before .before .before .before .before .before .before .before .before .before .before .before .before .pre in let q = prepared (p .0) _ _ (p .1) _ _ (c .before .before .before .before .before .before .before .before .before .before .before .before .before .before .machine-of .ensures (p .0) (p .1)) (c .before .before .before .before .before .before .before .before .before .before .before .before .enum-told .given .1) _ _ _ (c .before .before .before .before .before .before .before .before .before .before .before .wide .ensures) (c .before .before .wide2 .ensures) (c .before .initial .ensures (p .0) (a .mutant .now)) in (q .valid, (q .low, rw (c .before .before .before .before .before .before .before .before .before .before .bound .ensures) at (c .before .before .before .before .before .before .before .before .before .if1 .left)))
+
+compared-requires : tie.Need-compared-requires
+compared-requires c κs = search needs
+
+same-length : tie.Need-same-length
+same-length c = search needs
+
+returns-3 : tie.Need-returns-3
+returns-3 c =
+    let a = c .before .before .before .before .before .before .before .before .before .before .before .before .before .before .before .before .before .before .before .before .before .args in
+    let room = rw (c .before .before .before .before .before .before .before .before .before .before .before .before .before .before .bound .ensures) at (c .before .before .before .before .before .before .before .before .before .before .before .before .before .if1 .left) in (
+      (λ sh rd. compare-told sh _ _ rd _ _ (c .before .before .before .before .before .before .before .before .before .before .before .before .before .before .before .before .before .before .machine-of .ensures sh rd) (c .before .before .before .before .before .before .before .before .before .before .before .before .before .before .before .before .enum-told .given .1) _ _ _ (c .before .before .before .before .before .before .before .before .before .before .before .before .before .before .before .wide .ensures) (c .before .before .before .before .before .before .wide2 .ensures) (c .before .before .before .before .before .initial .ensures sh (a .mutant .now)) _ room _ _ (c .before .before .before .distinguish .ensures .0) (c .compared .ensures)),
+      (λ sh rd. c .before .before .before .distinguish .ensures .1 ∙ sym (ap (λ q. overlay (comparedWrites q) (a .buffer .now)) (compare-found sh _ _ rd _ _ (c .before .before .before .before .before .before .before .before .before .before .before .before .before .before .before .before .before .before .machine-of .ensures sh rd) (c .before .before .before .before .before .before .before .before .before .before .before .before .before .before .before .before .enum-told .given .1) _ _ _ (c .before .before .before .before .before .before .before .before .before .before .before .before .before .before .before .wide .ensures) (c .before .before .before .before .before .before .wide2 .ensures) (c .before .before .before .before .before .initial .ensures sh (a .mutant .now)) _ room))),
+    )
+
+pub compare-accepted-spec : {M : Type 1} → statement M
+compare-accepted-spec =
+    tie.close
+    (tie.spec
+    machine-of-requires
+    enum-known-fit
+    returns
+    enum-told
+    wide-requires
+    bound-requires
+    cast-if1
+    returns-2
+    wide-requires-2
+    initial-requires
+    distinguish-requires
+    compared-requires
+    same-length
+    returns-3)
