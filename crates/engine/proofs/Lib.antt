@@ -1,10 +1,3 @@
-mod Bits
-mod ChoiceLaws
-pub mod Suites
-pub mod Packs
-mod Steps
-mod Cursors
-mod Wants
-mod Pairs
+mod Shrinks
 mod Tries
 pub mod Stores

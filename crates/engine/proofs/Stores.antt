@@ -8,8 +8,8 @@ use native.Mathlib.Decide.{ℕ-discrete, decLt}
 use borrow.Author.Count.{below-more}
 use lib.ListN.{length, getD, set, replicate, getD-replicate, length-replicate, length-set, List·getD-eq-default}
 use lib.Seq.{getD-set-same, getD-set-other}
-use Rattle.engine.specs.Sets.{Has}
-use Rattle.engine.specs.Machine.{Wf, Ranged, Survivor, testsOf}
+use Rattle.partial.specs.Sets.{Has}
+use Rattle.partial.specs.Machine.{Wf, Ranged, Survivor, testsOf}
 use Rattle.engine.specs.Refute.{NoSurvivor}
 use Rattle.engine.specs.Store.{entries, freshSets, StoreOk, Matches, Written}
 

@@ -7,14 +7,14 @@ use native.Mathlib.Omega.{arith}
 use native.Mathlib.Decide.{ℕ-discrete}
 use lib.ListN.{length, getD, set, length-set}
 use lib.Seq.{getD-set-same, getD-set-other}
-use Rattle.engine.specs.Sets.{Has, With, Joined, Without}
-use Rattle.engine.specs.Machine.{Wf, Partial, Agree, Ranged, Survivor, testsOf, choicesOf, choiceOf}
-use Rattle.engine.specs.declared.tables.Step.{Step}
-use Rattle.engine.specs.declared.walk.Cursor.{Cursor}
-use Rattle.engine.specs.Answers.{Fails, WantsOk, StepIs, CursorOk}
-use Rattle.engine.specs.Product.{Conforms}
+use Rattle.partial.specs.Sets.{Has, With, Joined, Without}
+use Rattle.partial.specs.Machine.{Wf, Partial, Agree, Ranged, Survivor, testsOf, choicesOf, choiceOf}
+use Rattle.partial.specs.declared.tables.Step.{Step}
+use Rattle.partial.specs.declared.walk.Cursor.{Cursor}
+use Rattle.partial.specs.Answers.{Fails, WantsOk, StepIs, CursorOk}
+use Rattle.partial.specs.Product.{Conforms}
 use Rattle.engine.specs.Refute.{NoSurvivor, SplitOk, Extends}
-use Rattle.engine.proofs.ChoiceLaws.{choice-at}
+use Rattle.partial.proofs.ChoiceLaws.{choice-at}
 
 pub fails-none : {m bytes p : List ℕ} {u : ℕ} → Fails m bytes p u → NoSurvivor m bytes p u
 unfolding Survivor

@@ -1,7 +1,3 @@
-pub mod Sets
-pub mod Machine
-pub mod Packing
-pub mod Answers
-pub mod Product
+pub mod Shrink
 pub mod Refute
 pub mod Store

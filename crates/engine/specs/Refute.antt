@@ -4,17 +4,17 @@ use mathlib.Core.Bool.{Bool, true}
 use mathlib.Core.List.{List}
 use Prim.Native.Nat.{ℕ, _+_, _*_, _<_}
 use lib.ListN.{getD}
-use Rattle.engine.specs.Machine.{Agree, Ranged, Survivor, testsOf, siteAt}
+use Rattle.partial.specs.Machine.{Agree, Ranged, Survivor, testsOf, siteAt}
 use Rattle.engine.specs.declared.branch.Looked.{Looked}
 use Rattle.engine.specs.declared.branch.Looked.the-variants.{No, Split, Unknown}
 use Rattle.engine.specs.declared.branch.Outcome.{Outcome}
 use Rattle.engine.specs.declared.branch.Outcome.the-variants.{Refuted, Open}
-use Rattle.engine.specs.declared.walk.Cursor.{Cursor}
+use Rattle.partial.specs.declared.walk.Cursor.{Cursor}
 use Rattle.engine.specs.declared.quick.Halted.{Halted}
 use Rattle.engine.specs.declared.quick.Halted.the-variants.{Failed, Waits, Passed}
 use Rattle.engine.specs.declared.quick.Glanced.{Glanced}
 use Rattle.engine.specs.declared.quick.Glanced.the-variants as quick
-use Rattle.engine.specs.Answers.{Fails, CursorOk}
+use Rattle.partial.specs.Answers.{Fails, CursorOk}
 
 -- no mutant that agrees with the settled members of u in p is a survivor
 pub record NoSurvivor (m bytes p : List ℕ) (u : ℕ) : Type 0 where

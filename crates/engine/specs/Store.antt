@@ -4,8 +4,8 @@ use mathlib.Core.Logic.{_⊎_}
 use mathlib.Core.List.{List}
 use Prim.Native.Nat.{ℕ, _+_, _*_, _<_, _≤_}
 use lib.ListN.{length, getD, replicate}
-use Rattle.engine.specs.Sets.{Has}
-use Rattle.engine.specs.Machine.{Ranged, Survivor, testsOf}
+use Rattle.partial.specs.Sets.{Has}
+use Rattle.partial.specs.Machine.{Ranged, Survivor, testsOf}
 use Rattle.engine.specs.Refute.{NoSurvivor}
 use Rattle.engine.specs.declared.store.Known.{Known}
 use Rattle.engine.specs.declared.store.Known.the-variants.{By, Fresh}

@@ -1,6 +1,6 @@
 // Notes that steer the search. Nothing is promised of what they say: they decide what is tried, not what is answered.
-use crate::tables::wide;
-use crate::tables::wide32;
+use partial::tables::wide;
+use partial::tables::wide32;
 ghost use Prim.Native.Nat.{_≤_, _<_};
 
 // How many nodes were looked at.

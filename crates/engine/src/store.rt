@@ -3,16 +3,16 @@
 use crate::notes::Notes;
 use crate::notes::entry;
 use crate::notes::filled;
-use crate::sets::has;
-use crate::tables::wide;
+use partial::sets::has;
+use partial::tables::wide;
 ghost use mathlib.Core.Path.{_≡_};
 ghost use mathlib.Core.Bool.{true};
 ghost use Prim.Native.Nat.{ℕ, _+_, _*_, _<_, _≤_};
 ghost use mathlib.Core.List.{List, []};
 ghost use lib.ListN.{length};
-ghost use Rattle.engine.specs.Machine.{Wf};
+ghost use Rattle.partial.specs.Machine.{Wf};
 ghost use Rattle.engine.specs.Refute.{NoSurvivor};
-ghost use Rattle.engine.specs.Sets.{Has};
+ghost use Rattle.partial.specs.Sets.{Has};
 ghost use Rattle.engine.specs.Store.{freshSets, StoreOk, Matches, Written, HitOk};
 
 // How many refutations a fresh store has room for.

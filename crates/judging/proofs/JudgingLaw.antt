@@ -24,18 +24,18 @@ use Rattle.model.specs.Operations.{judging}
 use Rattle.model.specs.Verdict.{Complete, JudgedMeans}
 use Rattle.model.specs.laws.OperationLaw.{mutant-length}
 use Rattle.model.specs.laws.Demands.{judged-told, complete-told}
-use Rattle.engine.specs.Machine.{statesOf, suiteBytes}
-use Rattle.engine.specs.Packing.{Packed}
+use Rattle.partial.specs.Machine.{statesOf, suiteBytes}
+use Rattle.partial.specs.Packing.{Packed}
 use Rattle.machine.specs.declared.sites.Sites.{Sites}
 use Rattle.judging.specs.declared.verdict.Judged.{Judged}
 use Rattle.judging.specs.declared.verdict.Judged.the-variants as judged
 use Rattle.machine.specs.Mutants.{Placed}
 use Rattle.machine.specs.Sites.{openChoices, Numbered}
-use Rattle.judging.specs.Search.{NoneFrom, Kept, Shown, Searching}
+use Rattle.survivor.specs.Search.{NoneFrom, Kept, Shown, Searching}
 use Rattle.judging.specs.Judging.{judgingOf, Judges, ReadFrom, SaysOf, ToldJudged}
 use Rattle.machine.proofs.FitsLaw.{read-states, read-inputs, read-few, read-sited, read-ruled}
 use Rattle.judging.proofs.PackedLaw.{block-for}
-use Rattle.judging.proofs.SearchLaw.{prefix-start, none-judged, first-judged}
+use Rattle.survivor.proofs.SearchLaw.{prefix-start, none-judged, first-judged}
 
 -- ---- where the tests start
 

@@ -14,9 +14,9 @@ use Rattle.sheet.specs.WellFormed.{WellFormed}
 use Rattle.model.specs.Mutant.{slots, siteOf}
 use Rattle.model.specs.laws.ListLaw.{getD-map-below, length-upTo, getD-upTo}
 use Rattle.model.specs.laws.SuspectLaw.{slot-count}
-use Rattle.engine.specs.Packing.{Packed}
-use Rattle.judging.specs.Block.{BlockFor}
-use Rattle.judging.proofs.BlockLaw.{getD-default, first-less, slot-few, slot-some}
+use Rattle.partial.specs.Packing.{Packed}
+use Rattle.survivor.specs.Block.{BlockFor}
+use Rattle.survivor.proofs.BlockLaw.{getD-default, first-less, slot-few, slot-some}
 
 table-at : (f : ℕ → ℕ) (i : ℕ) → i < 256 → getD (table f) i 0 ≡ f i
 table-at f i l = getD-map-below f (upTo 256) i 0 0 (rw (length-upTo 256) l) ∙ ap f (getD-upTo 256 i 0 l)

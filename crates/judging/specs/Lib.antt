@@ -1,4 +1,1 @@
 pub mod Judging
-pub mod Block
-pub mod Search
-pub mod Survive

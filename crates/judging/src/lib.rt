@@ -1,6 +1,4 @@
 // 01's Judge: whether a sheet's test suite (01: list) is complete, and if not, the first survivor.
-mod search;
-mod survive;
 mod verdict;
 
 pub use verdict::Judged;

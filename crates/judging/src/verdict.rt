@@ -1,21 +1,21 @@
 // 01's Judge.
-use crate::search::search;
-use crate::survive::Searched;
 use engine::Notes;
 use engine::fresh_notes;
 use engine::fresh_sets;
 use engine::fresh_values;
 use engine::no_sets;
 use engine::no_values;
-use engine::pack;
 use machine::bound;
 use machine::number;
 use machine::wide;
+use partial::tables::pack;
 use sheet::Reading;
 use sheet::Summary;
 use sheet::Tables;
 use sheet::load;
 use sheet::refusal_of;
+use survivor::Searched;
+use survivor::search;
 ghost use mathlib.Core.Path.{_≡_};
 ghost use Prim.Native.Nat.{_+_, _*_, _<_};
 ghost use lib.ListN.{length, replicate};
@@ -23,9 +23,9 @@ ghost use Rattle.sheet.specs.Sheet.{Sheet};
 ghost use Rattle.sheet.specs.Reading.{accepted};
 ghost use Rattle.model.specs.Suite.{judgeOf};
 ghost use Rattle.model.specs.Operations.{judging};
-ghost use Rattle.judging.specs.declared.survive.Searched.the-variants.{GaveUp};
+ghost use Rattle.survivor.specs.declared.survive.Searched.the-variants.{GaveUp};
 ghost use Rattle.sheet.specs.Lists.{overlay};
-ghost use Rattle.judging.specs.Search.{Searching, Room, Leaves};
+ghost use Rattle.survivor.specs.Search.{Searching, Room, Leaves};
 ghost use Rattle.judging.specs.Judging.{judgedAnswer, boardWrites, sequenceWrites, judgingOf, Judges, Measured, ReadFrom, ToldJudged};
 
 // What Judge answers: complete, or the length of the first survivor's shortest distinguishing sequence.

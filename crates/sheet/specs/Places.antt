@@ -38,7 +38,6 @@ pub record TestFrom (s : List ℕ) (place i : ℕ) (r : Span) : Type 0 where
   pub within : r .start + r .length ≤ length s
   pub found : (l : List (List ℕ)) → drop place s ≡ testBytes l ++ 6 ∷ [] → i < length l → r ≡ spanFrom place l i
 
-
 -- rows stand from a place on as FAULTs
 pub record FaultsFrom (s : List ℕ) (place : ℕ) (l : List Row) : Type 0 where
   pub rest : List ℕ

@@ -26,7 +26,7 @@ returns c =
     let g = c .before .enum-told .given in
     let z = refusal-told _ _ _ _ (c .refusal-of .ensures) (g .1) in
     ap₂ Refused (z .0) (z .1)
-        ∙ laws.span-refused (now (a .sheet)) (a .i) (c .before .before .before .read .result) _ _ (c .before .before .before .read .ensures) (g .1)
+    ∙ laws.span-refused (now (a .sheet)) (a .i) (c .before .before .before .read .result) _ _ (c .before .before .before .read .ensures) (g .1)
 
 mul-place : tie.Need-mul-place
 mul-place c =

@@ -7,7 +7,7 @@ use lib.ListN.{length}
 use Rattle.engine.specs.Refute.{SplitOk}
 use Rattle.engine.specs.Store.{StoreOk}
 use Rattle.engine.proofs.Tries.{Trying, trying-none, trying-partial, trying-long, trying-more, trying-skips, trying-all}
-use Rattle.engine.proofs.Wants.{wants-none}
+use Rattle.partial.proofs.Wants.{wants-none}
 use Prim.Native.Nat.{ℕ, _-_, _<_}
 use borrow.Fn.Kinds.{In}
 use borrow.Fn.PlainCycle.{Measures, is, falls, and}
@@ -16,13 +16,13 @@ use Rattle.engine.proofs.branch.explore.Kinds as explore-kinds
 use Rattle.engine.proofs.branch.+explore.Lts-explore as explore-lts
 use Rattle.engine.proofs.branch.kill.Reads as kill-reads
 use Rattle.engine.proofs.branch.look.Reads as look-reads
-use Rattle.engine.proofs.sets.empty.Reads as empty-reads
-use Rattle.engine.proofs.sets.has.Reads as has-reads
-use Rattle.engine.proofs.sets.join.Reads as join-reads
-use Rattle.engine.proofs.sets.without.Reads as without-reads
+use Rattle.partial.proofs.sets.empty.Reads as empty-reads
+use Rattle.partial.proofs.sets.has.Reads as has-reads
+use Rattle.partial.proofs.sets.join.Reads as join-reads
+use Rattle.partial.proofs.sets.without.Reads as without-reads
 use Rattle.engine.proofs.store.learn.Reads as learn-reads
-use Rattle.engine.proofs.tables.choices.Reads as choices-reads
-use Rattle.engine.proofs.tables.choose.Reads as choose-reads
+use Rattle.partial.proofs.tables.choices.Reads as choices-reads
+use Rattle.partial.proofs.tables.choose.Reads as choose-reads
 use Rattle.engine.proofs.branch.+explore.{statement}
 use Rattle.engine.proofs.branch.+explore.Tie.{close}
 

@@ -16,12 +16,12 @@ use Rattle.engine.proofs.notes.keep.Reads as keep-reads
 use Rattle.engine.proofs.notes.spent.Reads as spent-reads
 use Rattle.engine.proofs.notes.tick.Reads as tick-reads
 use Rattle.engine.proofs.quick.glance.Reads as glance-reads
-use Rattle.engine.proofs.sets.empty.Reads as empty-reads
-use Rattle.engine.proofs.sets.has.Reads as has-reads
-use Rattle.engine.proofs.sets.join.Reads as join-reads
-use Rattle.engine.proofs.sets.without.Reads as without-reads
-use Rattle.engine.proofs.tables.choices.Reads as choices-reads
-use Rattle.engine.proofs.tables.wide.Reads as wide-reads
+use Rattle.partial.proofs.sets.empty.Reads as empty-reads
+use Rattle.partial.proofs.sets.has.Reads as has-reads
+use Rattle.partial.proofs.sets.join.Reads as join-reads
+use Rattle.partial.proofs.sets.without.Reads as without-reads
+use Rattle.partial.proofs.tables.choices.Reads as choices-reads
+use Rattle.partial.proofs.tables.wide.Reads as wide-reads
 use Rattle.engine.proofs.quick.+probe.{statement}
 use Rattle.engine.proofs.quick.+probe.Tie.{close}
 

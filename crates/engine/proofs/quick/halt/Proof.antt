@@ -2,7 +2,7 @@ use borrow.Author.Needs.{needs}
 use Prim.Native.Nat.{_-_}
 use native.Mathlib.Omega.{arith}
 use lib.ListN.{length}
-use Rattle.engine.specs.Answers.{CursorOk}
+use Rattle.partial.specs.Answers.{CursorOk}
 use Rattle.engine.proofs.quick.halt.Statement.{statement}
 use Rattle.engine.proofs.quick.halt.Tie as tie
 

@@ -1,9 +1,6 @@
 -- `find`: what the quick search finds; where it gave up, with both buffers as they were, what the thorough one finds.
 use borrow.Author.Needs.{needs}
-use Prim.Native.Nat.{ℕ}
-use native.Mathlib.Omega.{arith}
-use mathlib.Core.Path.{_≡_}
-use Rattle.judging.proofs.SearchLaw.{kept-room}
+use Rattle.survivor.proofs.SearchLaw.{nothing, first, kept-room}
 use Rattle.judging.proofs.verdict.find.Statement.{statement}
 use Rattle.judging.proofs.verdict.find.Tie as tie
 
@@ -44,7 +41,7 @@ same-length-2 : tie.Need-same-length-2
 same-length-2 c = search needs
 
 returns : tie.Need-returns
-returns c = (λ sh w. rw (c .enum-told .given .1, c .before .before .before .before .before .before .before .before .before .before .before .before .before .before .unsettled .ensures) at (c .before .before .before .before .before .before .before .before .search .ensures .0 sh (rw (c .before .before .before .before .before .before .before .before .before .before .before .before .before .before .unsettled .ensures) w)), λ e. let z : _≡_ {A = ℕ} 0 1 = cc in omega arith)
+returns c = (λ sh w. rw (c .enum-told .given .1, c .before .before .before .before .before .before .before .before .before .before .before .before .before .before .unsettled .ensures) at (c .before .before .before .before .before .before .before .before .search .ensures .0 sh (rw (c .before .before .before .before .before .before .before .before .before .before .before .before .before .before .unsettled .ensures) w)), nothing)
 
 same-length-3 : tie.Need-same-length-3
 same-length-3 c = search needs
@@ -53,7 +50,7 @@ same-length-4 : tie.Need-same-length-4
 same-length-4 c = search needs
 
 returns-2 : tie.Need-returns-2
-returns-2 c = (λ sh w. rw (c .before .found .given .1, c .before .before .before .before .before .before .before .before .before .before .before .before .before .before .before .unsettled .ensures) at (c .before .before .before .before .before .before .before .before .before .search .ensures .0 sh (rw (c .before .before .before .before .before .before .before .before .before .before .before .before .before .before .before .unsettled .ensures) w)), λ e. let z : _≡_ {A = ℕ} 0 1 = cc in omega arith)
+returns-2 c = (λ sh w. rw (c .before .found .given .1, c .before .before .before .before .before .before .before .before .before .before .before .before .before .before .before .unsettled .ensures) at (c .before .before .before .before .before .before .before .before .before .search .ensures .0 sh (rw (c .before .before .before .before .before .before .before .before .before .before .before .before .before .before .before .unsettled .ensures) w)), first)
 
 same-length-5 : tie.Need-same-length-5
 same-length-5 c = search needs

@@ -5,7 +5,7 @@ use Prim.Native.Nat.{ℕ}
 use mathlib.Core.Path.{_≡_}
 use lib.ListN.{length, length-replicate}
 use Rattle.engine.specs.Store.{entries, freshSets}
-use Rattle.judging.proofs.SearchLaw.{asked}
+use Rattle.survivor.proofs.SearchLaw.{asked}
 use Rattle.judging.proofs.verdict.find_thoroughly.Statement.{statement}
 use Rattle.judging.proofs.verdict.find_thoroughly.Tie as tie
 

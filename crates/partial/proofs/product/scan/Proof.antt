@@ -1,0 +1,92 @@
+use borrow.Author.Needs.{needs}
+use Prim.Native.Nat.{_-_}
+use native.Mathlib.Omega.{arith}
+use borrow.Author.Tests.{not-false}
+use Rattle.partial.proofs.Pairs.{ScanTo, scan-none, scan-more, conforms}
+use Rattle.partial.proofs.product.scan.Statement.{statement}
+use Rattle.partial.proofs.product.scan.Tie as tie
+
+abbrev Inv-loop : tie.InvT-loop
+Inv-loop tables p list index n all₀ h₀ all h = ScanTo tables p list n all h
+
+abbrev μ-loop : tie.MeasureT-loop
+μ-loop tables p list index n all₀ h₀ all h = n - h
+
+listed-requires : tie.Need-listed-requires Inv-loop μ-loop
+listed-requires c κs = search needs
+
+returns : tie.Need-returns Inv-loop μ-loop
+returns c = search needs
+
+empty-requires : tie.Need-empty-requires Inv-loop μ-loop
+empty-requires c κs = search needs
+
+loop-holds : tie.Need-loop-holds Inv-loop μ-loop
+loop-holds c = scan-none (c .empty .ensures)
+
+element-copy-out-wide : tie.Need-element-copy-out-wide Inv-loop μ-loop
+element-copy-out-wide c = search needs
+
+wide-requires : tie.Need-wide-requires Inv-loop μ-loop
+wide-requires c κs = search needs
+
+lower-requires : tie.Need-lower-requires Inv-loop μ-loop
+lower-requires c κs = search needs
+
+states-requires : tie.Need-states-requires Inv-loop μ-loop
+states-requires c κs = search needs
+
+returns-2 : tie.Need-returns-2 Inv-loop μ-loop
+returns-2 c = search needs
+
+upper-requires : tie.Need-upper-requires Inv-loop μ-loop
+upper-requires c κs = search needs
+
+row-requires : tie.Need-row-requires Inv-loop μ-loop
+row-requires c κs = (c .before .before .before .before .before .before .before .before .before .before .before .pre .0, c .before .before .before .before .before .before .before .before .before .before .before .pre .1, c .upper .ensures .1, omega (arith, c .before .if2 .left, c .before .before .states .ensures), c .before .before .before .before .before .before .before .loop .inv .settled)
+
+enum-known-more : tie.Need-enum-known-more Inv-loop μ-loop
+enum-known-more c = search needs
+
+enum-told : tie.Need-enum-told Inv-loop μ-loop
+enum-told c = search needs
+
+returns-3 : tie.Need-returns-3 Inv-loop μ-loop
+returns-3 c = search needs
+
+add-h : tie.Need-add-h Inv-loop μ-loop
+add-h c = search needs
+
+loop-less : tie.Need-loop-less Inv-loop μ-loop
+loop-less c = search needs
+
+loop-again : tie.Need-loop-again Inv-loop μ-loop
+loop-again c = scan-more (c .before .before .before .before .before .before .before .before .wide .result) (c .before .before .before .before .before .before .before .before .before .before .before .loop .inv) (c .before .before .before .before .before .before .before .before .before .before .loop-test .taken) (c .before .before .before .before .before .before .before .before .wide .ensures .0) (c .before .before .before .before .upper .ensures .0) (c .before .before .before .before .before .before .before .lower .ensures) (rw (c .before .more .given .1) at (c .before .before .before .row .ensures))
+
+returns-4 : tie.Need-returns-4 Inv-loop μ-loop
+returns-4 c = conforms (c .before .before .before .before .before .pre .0) (c .before .loop .inv) (c .loop-test .left) (c .before .before .before .before .listed .ensures (not-false _ (c .before .before .before .if1 .left)))
+
+pub scan-spec : {M : Type 1} → statement M
+scan-spec =
+    tie.close
+    (tie.spec
+    Inv-loop
+    μ-loop
+    listed-requires
+    returns
+    empty-requires
+    loop-holds
+    element-copy-out-wide
+    wide-requires
+    lower-requires
+    states-requires
+    returns-2
+    upper-requires
+    row-requires
+    enum-known-more
+    enum-told
+    returns-3
+    add-h
+    loop-less
+    loop-again
+    returns-4)

@@ -1,0 +1,53 @@
+use borrow.Author.Needs.{needs}
+use Prim.Native.Nat.{_-_, _≤_}
+use native.Mathlib.Omega.{arith}
+use mathlib.Core.Path.{refl}
+use Rattle.partial.proofs.Packs.{fill-none, fill-more, fill-all}
+use Rattle.partial.specs.Packing.{Copied}
+use Rattle.partial.proofs.tables.copy.Statement.{statement}
+use Rattle.partial.proofs.tables.copy.Tie as tie
+
+abbrev Inv-loop : tie.InvT-loop
+Inv-loop tables₀ base from k₀ tables k = Copied tables₀ tables base from k × (base ≤ 1280)
+
+abbrev μ-loop : tie.MeasureT-loop
+μ-loop tables₀ base from k₀ tables k = 256 - k
+
+loop-holds : tie.Need-loop-holds Inv-loop μ-loop
+loop-holds c = (fill-none (c .args .base) 256 _ (c .pre .0), c .pre .1)
+
+element-copy-out-x : tie.Need-element-copy-out-x Inv-loop μ-loop
+element-copy-out-x c = search needs
+
+add-tables : tie.Need-add-tables Inv-loop μ-loop
+add-tables c = search needs
+
+element-write-tables : tie.Need-element-write-tables Inv-loop μ-loop
+element-write-tables c = search needs
+
+add-k : tie.Need-add-k Inv-loop μ-loop
+add-k c = search needs
+
+loop-less : tie.Need-loop-less Inv-loop μ-loop
+loop-less c = search needs
+
+loop-again : tie.Need-loop-again Inv-loop μ-loop
+loop-again c = (fill-more _ (omega (arith, c .before .before .loop .inv .1)) (c .before .before .loop .inv .0) (c .before .loop-test .taken) refl, c .before .before .loop .inv .1)
+
+returns : tie.Need-returns Inv-loop μ-loop
+returns c = fill-all (c .before .loop .inv .0) (c .loop-test .left)
+
+pub copy-spec : {M : Type 1} → statement M
+copy-spec =
+    tie.close
+    (tie.spec
+    Inv-loop
+    μ-loop
+    loop-holds
+    element-copy-out-x
+    add-tables
+    element-write-tables
+    add-k
+    loop-less
+    loop-again
+    returns)

@@ -1,0 +1,60 @@
+use borrow.Author.Needs.{needs}
+use Prim.Native.Nat.{_-_}
+use native.Mathlib.Omega.{arith}
+use Rattle.partial.proofs.Packs.{fill-none, fill-more, fill-all}
+use Rattle.partial.specs.Packing.{ChoicesCopied}
+use Rattle.partial.proofs.tables.copy_choices.Statement.{statement}
+use Rattle.partial.proofs.tables.copy_choices.Tie as tie
+
+abbrev Inv-loop : tie.InvT-loop
+Inv-loop tables₀ choices i₀ tables i = ChoicesCopied tables₀ tables choices i
+
+abbrev μ-loop : tie.MeasureT-loop
+μ-loop tables₀ choices i₀ tables i = 32 - i
+
+loop-holds : tie.Need-loop-holds Inv-loop μ-loop
+loop-holds c = fill-none 1536 32 _ (c .pre)
+
+mul-last : tie.Need-mul-last Inv-loop μ-loop
+mul-last c = search needs
+
+element-copy-out-last : tie.Need-element-copy-out-last Inv-loop μ-loop
+element-copy-out-last c = search needs
+
+last-requires : tie.Need-last-requires Inv-loop μ-loop
+last-requires c κs = search needs
+
+add-tables : tie.Need-add-tables Inv-loop μ-loop
+add-tables c = search needs
+
+element-write-tables : tie.Need-element-write-tables Inv-loop μ-loop
+element-write-tables c = search needs
+
+add-i : tie.Need-add-i Inv-loop μ-loop
+add-i c = search needs
+
+loop-less : tie.Need-loop-less Inv-loop μ-loop
+loop-less c = search needs
+
+loop-again : tie.Need-loop-again Inv-loop μ-loop
+loop-again c = fill-more _ (omega arith) (c .before .before .before .loop .inv) (c .before .before .loop-test .taken) (c .last .ensures)
+
+returns : tie.Need-returns Inv-loop μ-loop
+returns c = fill-all (c .before .loop .inv) (c .loop-test .left)
+
+pub copy-choices-spec : {M : Type 1} → statement M
+copy-choices-spec =
+    tie.close
+    (tie.spec
+    Inv-loop
+    μ-loop
+    loop-holds
+    mul-last
+    element-copy-out-last
+    last-requires
+    add-tables
+    element-write-tables
+    add-i
+    loop-less
+    loop-again
+    returns)

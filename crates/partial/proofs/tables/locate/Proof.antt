@@ -1,0 +1,60 @@
+use borrow.Author.Needs.{needs}
+use Prim.Native.Nat.{_-_, _≤_}
+use native.Mathlib.Omega.{arith}
+use Rattle.partial.proofs.Packs.{located-none, located-more}
+use Rattle.partial.specs.Packing.{Located}
+use Rattle.partial.proofs.tables.locate.Statement.{statement}
+use Rattle.partial.proofs.tables.locate.Tie as tie
+
+abbrev Inv-loop : tie.InvT-loop
+Inv-loop tables₀ site k₀ tables k = Located tables₀ tables × (k ≤ 256)
+
+abbrev μ-loop : tie.MeasureT-loop
+μ-loop tables₀ site k₀ tables k = 256 - k
+
+loop-holds : tie.Need-loop-holds Inv-loop μ-loop
+loop-holds c = (located-none (c .pre), omega arith)
+
+element-copy-out-wide : tie.Need-element-copy-out-wide Inv-loop μ-loop
+element-copy-out-wide c = search needs
+
+wide-requires : tie.Need-wide-requires Inv-loop μ-loop
+wide-requires c κs = search needs
+
+pair-at-requires : tie.Need-pair-at-requires Inv-loop μ-loop
+pair-at-requires c κs = search needs
+
+cast-tables : tie.Need-cast-tables Inv-loop μ-loop
+cast-tables c = search needs
+
+element-write-tables : tie.Need-element-write-tables Inv-loop μ-loop
+element-write-tables c = search needs
+
+add-k : tie.Need-add-k Inv-loop μ-loop
+add-k c = search needs
+
+loop-less : tie.Need-loop-less Inv-loop μ-loop
+loop-less c = search needs
+
+loop-again : tie.Need-loop-again Inv-loop μ-loop
+loop-again c = (located-more (c .pair-at .result) _ (c .pair-at .ensures .0) (c .before .before .before .before .loop .inv .0), omega arith)
+
+returns : tie.Need-returns Inv-loop μ-loop
+returns c = c .before .loop .inv .0
+
+pub locate-spec : {M : Type 1} → statement M
+locate-spec =
+    tie.close
+    (tie.spec
+    Inv-loop
+    μ-loop
+    loop-holds
+    element-copy-out-wide
+    wide-requires
+    pair-at-requires
+    cast-tables
+    element-write-tables
+    add-k
+    loop-less
+    loop-again
+    returns)

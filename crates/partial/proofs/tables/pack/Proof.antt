@@ -1,0 +1,54 @@
+use borrow.Author.Needs.{needs}
+use native.Mathlib.Omega.{arith}
+use Rattle.partial.proofs.Packs.{packed}
+use Rattle.partial.proofs.tables.pack.Statement.{statement}
+use Rattle.partial.proofs.tables.pack.Tie as tie
+
+copy-requires : tie.Need-copy-requires
+copy-requires c κs = (c .before .pre, omega arith)
+
+copy-requires-2 : tie.Need-copy-requires-2
+copy-requires-2 c κs = (c .before .copy .ensures .long, omega arith)
+
+copy-requires-3 : tie.Need-copy-requires-3
+copy-requires-3 c κs = (c .before .copy2 .ensures .long, omega arith)
+
+copy-first-requires : tie.Need-copy-first-requires
+copy-first-requires c κs = c .before .copy3 .ensures .long
+
+copy-requires-4 : tie.Need-copy-requires-4
+copy-requires-4 c κs = (c .before .copy-first .ensures .long, omega arith)
+
+copy-requires-5 : tie.Need-copy-requires-5
+copy-requires-5 c κs = (c .before .copy4 .ensures .long, omega arith)
+
+copy-choices-requires : tie.Need-copy-choices-requires
+copy-choices-requires c κs = c .before .copy5 .ensures .long
+
+locate-requires : tie.Need-locate-requires
+locate-requires c κs = c .before .copy-choices .ensures .long
+
+element-write-tables : tie.Need-element-write-tables
+element-write-tables c = search needs
+
+element-write-tables-2 : tie.Need-element-write-tables-2
+element-write-tables-2 c = search needs
+
+returns : tie.Need-returns
+returns c = packed _ _ (c .before .before .before .before .before .before .before .before .before .before .before .before .before .before .copy .ensures) (c .before .before .before .before .before .before .before .before .before .before .before .before .copy2 .ensures) (c .before .before .before .before .before .before .before .before .before .before .copy3 .ensures) (c .before .before .before .before .before .before .before .before .copy-first .ensures) (c .before .before .before .before .before .before .copy4 .ensures) (c .before .before .before .before .copy5 .ensures) (c .before .before .copy-choices .ensures) (c .locate .ensures)
+
+pub pack-spec : {M : Type 1} → statement M
+pack-spec =
+    tie.close
+    (tie.spec
+    copy-requires
+    copy-requires-2
+    copy-requires-3
+    copy-first-requires
+    copy-requires-4
+    copy-requires-5
+    copy-choices-requires
+    locate-requires
+    element-write-tables
+    element-write-tables-2
+    returns)

@@ -1,0 +1,5 @@
+pub mod Sets
+pub mod Machine
+pub mod Packing
+pub mod Answers
+pub mod Product

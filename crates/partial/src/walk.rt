@@ -1,0 +1,214 @@
+// The test suite under a partly settled mutant.
+use crate::sets::empty;
+use crate::sets::with;
+use crate::tables::place;
+use crate::tables::rule_output;
+use crate::tables::rule_target;
+use crate::tables::site;
+use crate::tables::transition;
+use crate::tables::wide;
+ghost use mathlib.Core.Path.{_≡_};
+ghost use mathlib.Core.List.{List};
+ghost use Prim.Native.Nat.{ℕ, _+_, _*_, _<_, _≤_};
+ghost use lib.ListN.{length};
+ghost use Rattle.partial.specs.Machine.{Wf, Partial, Settled, SuiteOk, statesOf, inputsOf};
+ghost use Rattle.partial.specs.Answers.{TakenOk, CursorOk, MovedOk, RanOk, Behind, WantsOk, Noted, StrodeOk};
+
+// What the settled part of a mutant does at a state on an input: an output, a next state and the suspects used so far, with
+// this one; or the unsettled suspect met.
+pub enum Taken {
+    Took(u8, u8, u32),
+    Met(u8),
+}
+
+pub fn take(tables: &[u8; 1603], p: &[u16; 32], used: u32, q: u8, x: u8) -> Taken
+    requires { ⌜ Wf (now tables) × Partial (now tables) (now p) × (q < statesOf (now tables)) × (x < inputsOf (now tables)) × Settled (now p) used ⌝ }
+    ensures { λ r. ⌜ TakenOk (now (tables .entry)) (now (p .entry)) used q x r ⌝ }
+{
+    let k = place(q, x);
+    let i = site(tables, k);
+    if i == 255 {
+        let lone = transition(tables, k, 0);
+        return Taken::Took(lone.output, lone.target, used);
+    }
+    let c = p[wide(i)];
+    if c == 256 {
+        return Taken::Met(i);
+    }
+    let step = transition(tables, k, c);
+    Taken::Took(step.output, step.target, with(used, i))
+}
+
+// A place in the suite: the next command's offset, the specification's state, the mutant's, the suspects that this test has
+// used so far, and the suspects for which earlier tests wait.
+pub struct Cursor {
+    pub at: usize,
+    pub spec: u8,
+    pub state: u8,
+    pub used: u32,
+    pub waits: u32,
+}
+
+// The start of the suite.
+pub fn start() -> Cursor
+    ensures { λ r. ⌜ ((m bytes p : List ℕ) → Wf m → SuiteOk m bytes → CursorOk m bytes p r) ⌝ }
+{
+    Cursor {
+        at: 0,
+        spec: 0,
+        state: 0,
+        used: empty(),
+        waits: empty(),
+    }
+}
+
+pub enum Moved {
+    Wrong(u32),
+    Stuck(u8, u8),
+    On(Cursor),
+    End,
+}
+
+// One command.
+pub fn advance(tables: &[u8; 1603], bytes: &[u8], p: &[u16; 32], here: Cursor) -> Moved
+    requires { ⌜ Wf (now tables) × Partial (now tables) (now p) × CursorOk (now tables) (now bytes) (now p) here ⌝ }
+    ensures { λ r. ⌜ MovedOk (now (tables .entry)) (now (bytes .entry)) (now (p .entry)) here r ⌝ }
+{
+    let at = here.at;
+    let command = bytes[at];
+    if command == 4 {
+        return Moved::On(Cursor {
+            at: at + 1,
+            spec: 0,
+            state: 0,
+            used: empty(),
+            waits: here.waits,
+        });
+    }
+    if command != 5 {
+        return Moved::End;
+    }
+    let x = bytes[at + 1];
+    let k = place(here.spec, x);
+    let wants = rule_output(tables, k);
+    match take(tables, p, here.used, here.state, x) {
+        Taken::Met(i) => Moved::Stuck(i, wants),
+        Taken::Took(output, state, used) => {
+            if output != wants {
+                return Moved::Wrong(used);
+            }
+            Moved::On(Cursor {
+                at: at + 2,
+                spec: rule_target(tables, k),
+                state,
+                used,
+                waits: here.waits,
+            })
+        }
+    }
+}
+
+// The command after the rest of a test that waits.
+pub fn skip(tables: &[u8; 1603], bytes: &[u8], p: &[u16; 32], from: usize, waits: u32) -> Cursor
+    requires { ⌜ Wf (now tables) × Behind (now tables) (now bytes) from × (from ≤ length (now bytes)) ⌝ }
+    ensures { λ r. ⌜ CursorOk (now (tables .entry)) (now (bytes .entry)) (now (p .entry)) r × (from ≤ r .at) × (r .at ≤ length (now (bytes .entry))) ⌝ }
+{
+    let mut at = from;
+    while bytes[at] == 5 {
+        at += 2;
+    }
+    Cursor {
+        at,
+        spec: 0,
+        state: 0,
+        used: empty(),
+        waits,
+    }
+}
+
+// Where the set for an output of a suspect is kept.
+pub fn slot(i: u8, o: u8) -> usize
+    requires { ⌜ (i < 32) × (o < 16) ⌝ }
+    ensures { λ r. ⌜ (r ≡ i * 16 + o) × (r < 512) ⌝ }
+{
+    (i as usize) * 16 + (o as usize)
+}
+
+// Whether the one set is to be kept instead of the other.
+pub fn better(set: u32, old: u32) -> bool {
+    if old == 4294967295 {
+        return true;
+    }
+    u32::count_ones(set) < u32::count_ones(old)
+}
+
+// Keeps a set, if it is smaller.
+pub fn note(wanted: &mut [u32; 512], i: u8, o: u8, set: u32)
+    requires { ⌜ i < 32 ⌝ }
+    ensures { λ r. ⌜ Noted (now (wanted .entry)) (now (wanted .exit)) i o set ⌝ }
+{
+    if o >= 16 {
+        return;
+    }
+    let k = slot(i, o);
+    if !better(set, wanted[k]) {
+        return;
+    }
+    wanted[k] = set;
+}
+
+pub enum Strode {
+    Fell(u32),
+    To(Cursor),
+    Over,
+}
+
+// One command, or the rest of a test that waits for a suspect.
+pub fn stride(
+    tables: &[u8; 1603],
+    bytes: &[u8],
+    p: &[u16; 32],
+    wanted: &mut [u32; 512],
+    here: Cursor,
+) -> Strode
+    requires { ⌜ Wf (now tables) × Partial (now tables) (now p) × CursorOk (now tables) (now bytes) (now p) here × WantsOk (now tables) (now bytes) (now p) (now wanted) ⌝ }
+    ensures { λ r. ⌜ StrodeOk (now (tables .entry)) (now (bytes .entry)) (now (p .entry)) here r × WantsOk (now (tables .entry)) (now (bytes .entry)) (now (p .entry)) (now (wanted .exit)) ⌝ }
+{
+    match advance(tables, bytes, p, here) {
+        Moved::Wrong(used) => Strode::Fell(used),
+        Moved::Stuck(i, o) => {
+            note(wanted, i, o, here.used);
+            let at = here.at;
+            Strode::To(skip(tables, bytes, p, at + 2, with(here.waits, i)))
+        }
+        Moved::On(next) => Strode::To(next),
+        Moved::End => Strode::Over,
+    }
+}
+
+// A wrong output with the suspects that lead to it; or none, and the suspects for which tests wait.
+pub enum Ran {
+    Failed(u32),
+    Passed(u32),
+}
+
+// Every test from its start, until a wrong output.
+pub fn run(tables: &[u8; 1603], bytes: &[u8], p: &[u16; 32], wanted: &mut [u32; 512]) -> Ran
+    requires { ⌜ Wf (now tables) × Partial (now tables) (now p) × SuiteOk (now tables) (now bytes) × WantsOk (now tables) (now bytes) (now p) (now wanted) ⌝ }
+    ensures { λ r. ⌜ RanOk (now (tables .entry)) (now (bytes .entry)) (now (p .entry)) r × WantsOk (now (tables .entry)) (now (bytes .entry)) (now (p .entry)) (now (wanted .exit)) ⌝ }
+{
+    let mut here = start();
+    loop {
+        match stride(tables, bytes, p, wanted, here) {
+            Strode::Fell(used) => {
+                return Ran::Failed(used);
+            }
+            Strode::Over => {
+                return Ran::Passed(here.waits);
+            }
+            Strode::To(next) => {
+                here = next;
+            }
+        }
+    }
+}

@@ -1,0 +1,38 @@
+-- `act`: nothing outside the inputs, and the transition of the mutant's choice inside them.
+use borrow.Author.Needs.{needs}
+use mathlib.Core.Path.{refl}
+use native.Mathlib.Omega.{arith}
+use Rattle.survivor.proofs.SurviveLaw.{acts-outside, acts-inside}
+use Rattle.survivor.proofs.survive.act.Statement.{statement}
+use Rattle.survivor.proofs.survive.act.Tie as tie
+
+inputs-requires : tie.Need-inputs-requires
+inputs-requires c κs = search needs
+
+wide-requires : tie.Need-wide-requires
+wide-requires c κs = search needs
+
+returns : tie.Need-returns
+returns c = acts-outside _ _ _ _ (omega (arith, c .if1 .taken, c .before .wide .ensures, c .before .before .inputs .ensures)) refl refl
+
+choice-at-requires : tie.Need-choice-at-requires
+choice-at-requires c κs = search needs
+
+transition-requires : tie.Need-transition-requires
+transition-requires c κs = search needs
+
+returns-2 : tie.Need-returns-2
+returns-2 c =
+    let p = c .before .before .before .before .before .pre in
+    acts-inside _ _ (c .before .before .before .before .before .args .k) (c .before .choice-at .result) _ (p .0) (p .1) (p .2) (omega (arith, c .before .before .if1 .left, c .before .before .before .wide .ensures, c .before .before .before .before .inputs .ensures)) (c .before .choice-at .ensures) (c .transition .ensures)
+
+pub act-spec : {M : Type 1} → statement M
+act-spec =
+    tie.close
+    (tie.spec
+    inputs-requires
+    wide-requires
+    returns
+    choice-at-requires
+    transition-requires
+    returns-2)

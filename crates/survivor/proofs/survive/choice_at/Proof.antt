@@ -1,0 +1,29 @@
+use borrow.Author.Needs.{needs}
+use mathlib.Core.Path.{_∙_}
+use native.Mathlib.Omega.{arith}
+use Rattle.survivor.proofs.SurviveLaw.{chosen-none, chosen-at}
+use Rattle.survivor.proofs.survive.choice_at.Statement.{statement}
+use Rattle.survivor.proofs.survive.choice_at.Tie as tie
+
+site-requires : tie.Need-site-requires
+site-requires c κs = search needs
+
+returns : tie.Need-returns
+returns c = chosen-none _ _ _ (rw (c .before .site .ensures) at (c .if1 .taken))
+
+wide-requires : tie.Need-wide-requires
+wide-requires c κs = search needs
+
+mul-result : tie.Need-mul-result
+mul-result c = search needs
+
+element-copy-out-result : tie.Need-element-copy-out-result
+element-copy-out-result c = omega (arith, c .wide .ensures, c .before .before .site .ensures, c .before .before .before .pre .0 .sites (c .before .before .before .args .k) (c .before .before .before .pre .1) (rw (c .before .before .site .ensures) at (c .before .if1 .left)))
+
+returns-2 : tie.Need-returns-2
+returns-2 c = chosen-at (c .before .before .before .before .args .block .now) (c .before .before .before .before .args .p .now) (c .before .before .before .before .args .k) (c .before .wide .result) (rw (c .before .before .before .site .ensures) at (c .before .before .if1 .left)) (c .before .wide .ensures ∙ c .before .before .before .site .ensures)
+
+pub choice-at-spec : {M : Type 1} → statement M
+choice-at-spec =
+    tie.close
+    (tie.spec site-requires returns wide-requires mul-result element-copy-out-result returns-2)

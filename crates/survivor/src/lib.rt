@@ -1,0 +1,6 @@
+// The first survivor in dictionary order. For the crate `judging` alone, which shows what its function requires.
+mod settle;
+mod survive;
+
+pub use settle::search;
+pub use survive::Searched;
