@@ -11,8 +11,8 @@ use Rattle.mutation.specs.declared.Failed.{Failed}
 use Rattle.mutation.specs.declared.Failed.the-variants as failed
 use Rattle.mutation.specs.declared.Compared.{Compared}
 use Rattle.mutation.specs.declared.Compared.the-variants as compared
-use Rattle.judging.specs.declared.verdict.Judged.{Judged}
-use Rattle.judging.specs.declared.verdict.Judged.the-variants as judged
+use Rattle.mutation.specs.declared.verdict.Judged.{Judged}
+use Rattle.mutation.specs.declared.verdict.Judged.the-variants as judged
 
 -- number, place; states, inputs, outputs (01: n, k, m), and how many RULEs, FAULTs, TESTs and open pairs
 abbrev pub readNumbers : Reading → List ℕ

@@ -7,11 +7,11 @@ ghost use Rattle.sheet.specs.Tables.{readAnswer, partAnswer};
 ghost use Rattle.model.specs.Operations.{running, failing, comparing, judging};
 ghost use Rattle.sheet.specs.Lists.{overlay};
 ghost use Rattle.mutation.specs.Answers.{ranAnswer, ranWrites, failedAnswer, comparedAnswer, comparedWrites};
-ghost use Rattle.judging.specs.Judging.{judgedAnswer, boardWrites, sequenceWrites, Measured};
+ghost use Rattle.mutation.specs.Judging.{judgedAnswer, boardWrites, sequenceWrites, Measured};
 ghost use Rattle.capi.specs.Numbers.{readNumbers, partNumbers, ranNumbers, failedNumbers, comparedNumbers, judgedNumbers};
-use judging::Judged;
 use mutation::Compared;
 use mutation::Failed;
+use mutation::Judged;
 use mutation::Ran;
 use sheet::Parting;
 use sheet::Reading;
@@ -149,7 +149,7 @@ pub extern "C" fn ranthelo_judge(
     ensures { λ r. ⌜ now (board .exit) ≡ overlay (boardWrites (judging (now (sheet .entry)) (length (now (board .entry))) (length (now (sequence .entry))))) (now (board .entry)) ⌝ }
     ensures { λ r. ⌜ now (sequence .exit) ≡ overlay (sequenceWrites (judging (now (sheet .entry)) (length (now (board .entry))) (length (now (sequence .entry))))) (now (sequence .entry)) ⌝ }
 {
-    tell(judging::judge(sheet, board, sequence), answer);
+    tell(mutation::judge(sheet, board, sequence), answer);
 }
 
 // Judge, with the number of nodes that the engine looked at: a measurement. It is as it was on a refusal; which number it is
@@ -168,7 +168,7 @@ pub extern "C" fn ranthelo_judge_counting(
     ensures { λ r. ⌜ Measured (judgedAnswer (judging (now (sheet .entry)) (length (now (board .entry))) (length (now (sequence .entry))))) (now (nodes .entry)) (now (nodes .exit)) ⌝ }
 {
     tell(
-        judging::judge_counting(sheet, board, sequence, nodes),
+        mutation::judge_counting(sheet, board, sequence, nodes),
         answer,
     );
 }

@@ -4,3 +4,5 @@ mod SuiteTables
 mod Operating
 mod SuiteBytes
 mod Opened
+mod PackedLaw
+mod JudgingLaw

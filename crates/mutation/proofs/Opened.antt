@@ -13,7 +13,6 @@ use Rattle.sheet.specs.declared.Summary.{Summary}
 use Rattle.sheet.specs.declared.Tables.{Tables}
 use Rattle.sheet.specs.declared.Loaded.{Loaded}
 use Rattle.sheet.specs.Sheet.{Sheet}
-use Rattle.sheet.specs.Encode.{encode}
 use Rattle.sheet.specs.Reading.{accepted, refused, Reading, reading, summaryOf}
 use Rattle.sheet.specs.Tables.{loadedOf}
 use Rattle.sheet.specs.laws.Accepted.{well-formed}
@@ -29,14 +28,12 @@ use Rattle.mutation.specs.declared.Compared.{Compared}
 use Rattle.sheet.specs.Lists.{overlay}
 use Rattle.machine.specs.Differences.{found}
 use Rattle.mutation.specs.Answers.{failedOf, failedAnswer, comparedOf, comparedAnswer, comparedWrites}
-use Rattle.machine.specs.Fits.{Read}
-use Rattle.mutation.specs.Operate.{runOn, compareOn, FailedSays, ToldFailed, ComparedSays, ToldCompared}
+use Rattle.mutation.specs.Operate.{ReadFrom, runOn, compareOn, FailedSays, ToldFailed, ComparedSays, ToldCompared}
 
 pub record Opened (s : List ℕ) (size : Summary) (tables : Tables) : Type 0 where
   pub sheet : Sheet
   pub is : reading s ≡ accepted sheet
-  pub holds : Read sheet size tables
-  pub bytes : encode sheet ≡ s
+  pub holds : ReadFrom sheet size tables s
 
 pub opened : (s : List ℕ) (l : Loaded) (size : Summary) → l ≡ loadedOf (reading s) → l .reading ≡ read.Accepted size → Opened s size (l .tables)
 opened s l size e h = go (reading s) refl e
@@ -48,8 +45,7 @@ opened s l size e h = go (reading s) refl e
         record {
           sheet = sh;
           is = er;
-          holds = record { formed = well-formed s sh er; summary = z; tabled = ap (λ (x : Loaded). x .tables) el };
-          bytes = encoded s sh er;
+          holds = record { read = record { formed = well-formed s sh er; summary = z; tabled = ap (λ (x : Loaded). x .tables) el }; bytes = encoded s sh er };
         }
     go (refused number place) er el =
         let a : read.Accepted size ≡ read.Refused number place = sym h ∙ ap (λ (x : Loaded). x .reading) el in

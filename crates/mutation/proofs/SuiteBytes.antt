@@ -24,7 +24,7 @@ use Rattle.model.specs.Suite.{wrongIn, firstFailedIn, firstFailedOf}
 use Rattle.model.specs.laws.ListLaw.{all-at-index}
 use Rattle.model.specs.laws.SuiteLaw.{Specified, test-specified}
 use Rattle.mutation.specs.Tests.{wrongFrom, failedFrom, Test, Tests}
-use Rattle.machine.specs.Fits.{Read}
+use Rattle.mutation.specs.Operate.{ReadFrom}
 
 press-at : (xs rest : List ℕ) (i : ℕ) → i < length xs → getD (pressBytes xs ++ rest) (2 * i + 1) 0 ≡ getD xs i 0
 unfolding pressBytes
@@ -66,10 +66,11 @@ module _ (sh : Sheet) (t : ℕ) (l : t < length (sh .tests)) where
         }
 
 -- as the tables and the sheet's bytes have them
-pub suite-tests : (sh : Sheet) (size : Summary) (tables : Tables) → Read sh size tables → (s : List ℕ) → encode sh ≡ s → (b : List ℕ) {m : Pair} → m ≡ against sh b →
+pub suite-tests : (sh : Sheet) (size : Summary) (tables : Tables) (s : List ℕ) → ReadFrom sh size tables s → (b : List ℕ) {m : Pair} → m ≡ against sh b →
     Tests m s (tables .starts) (tables .lengths) (size .tests) (sh .tests)
 unfolding summaryOf
-suite-tests sh size tables rd s e b same =
+suite-tests sh size tables s from b same =
+    let rd = from .read in
     rw same
     (let many : size .tests ≡ length (sh .tests) = ap (λ (z : Summary). z .tests) (rd .summary) in
     let tabled = rd .tabled in
@@ -78,7 +79,7 @@ suite-tests sh size tables rd s e b same =
       few = omega (arith, rd .formed .few-tests);
       each = λ t l.
           let lt : t < length (sh .tests) = omega arith in
-          rw (← e, tabled)
+          rw (← from .bytes, tabled)
           (test-at sh t lt (omega (arith, rd .formed .few-tests)) b
           (all-at-index (Specified sh) (sh .tests) t [] lt (test-specified sh (rd .formed))));
     })

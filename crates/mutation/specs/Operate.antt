@@ -5,16 +5,25 @@ use mathlib.Core.Option.{Option, none, some}
 use mathlib.Core.List.{List}
 use lib.Dec.{ltb}
 use lib.ListN.{length, take}
+use Rattle.sheet.specs.declared.Summary.{Summary}
+use Rattle.sheet.specs.declared.Tables.{Tables}
 use Rattle.sheet.specs.Sheet.{Sheet}
+use Rattle.sheet.specs.Encode.{encode}
 use Rattle.sheet.specs.Reading.{Result, accepted, reading}
 use Rattle.model.specs.Mutant.{outputs, IsMutant}
 use Rattle.model.specs.Suite.{compareOf}
 use Rattle.model.specs.Operations.{refuseIf, refuseAt, firstOver, withMutant}
 use Rattle.model.specs.Verdict.{FailedMeans, ComparedMeans}
+use Rattle.machine.specs.Fits.{Read}
 use Rattle.mutation.specs.declared.Failed.{Failed}
 use Rattle.mutation.specs.declared.Failed.the-variants as failed
 use Rattle.mutation.specs.declared.Compared.{Compared}
 use Rattle.mutation.specs.declared.Compared.the-variants as compared
+
+-- an accepted sheet, with its bytes, as the reading layer hands it over
+pub record ReadFrom (sh : Sheet) (size : Summary) (tables : Tables) (s : List ℕ) : Type 0 where
+  pub read : Read sh size tables
+  pub bytes : encode sh ≡ s
 
 unfoldable pub runOn : Sheet → List ℕ → List ℕ → ℕ → Result (List ℕ)
 runOn sh b xs room =

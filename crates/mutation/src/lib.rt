@@ -1,4 +1,5 @@
-// Mutants of a sheet (01: boards): run one, find the first test that it fails, compare it with the specification.
+// Mutants of a sheet (01: boards): run one, find the first test that it fails, compare it with the specification; judge the test
+// suite (01: list).
 ghost use mathlib.Core.Path.{_≡_};
 ghost use lib.ListN.{length};
 ghost use Rattle.sheet.specs.Lists.{overlay};
@@ -9,9 +10,13 @@ ghost use Rattle.mutation.specs.Operate.{ToldFailed, ToldCompared};
 mod conform;
 mod respond;
 mod suite;
+mod verdict;
 
 use sheet::Reading;
 use sheet::refusal_of;
+pub use verdict::Judged;
+pub use verdict::judge;
+pub use verdict::judge_counting;
 
 // What Run answers.
 pub enum Ran {

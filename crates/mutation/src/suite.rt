@@ -7,12 +7,11 @@ ghost use Rattle.mutation.specs.Answers.{failedOf};
 ghost use Rattle.machine.specs.Tables.{tables, Valid};
 ghost use Rattle.mutation.specs.Tests.{wrongFrom, failedFrom, Test, Tests};
 ghost use Rattle.sheet.specs.Sheet.{Sheet};
-ghost use Rattle.sheet.specs.Encode.{encode};
 ghost use Rattle.sheet.specs.Reading.{accepted};
 ghost use Rattle.model.specs.Suite.{firstFailedOf};
 ghost use Rattle.model.specs.Operations.{withMutant};
 ghost use Rattle.mutation.specs.Answers.{failedAnswer};
-ghost use Rattle.machine.specs.Fits.{Read};
+ghost use Rattle.mutation.specs.Operate.{ReadFrom};
 use crate::Failed;
 use machine::Fit;
 use machine::initial;
@@ -112,8 +111,8 @@ pub(crate) fn first_failed_accepted(
     tables: Tables,
     mutant: &[u8],
 ) -> Failed
-    requires { ⌜ ((sh : Sheet) × Read sh size tables × (encode sh ≡ now sheet)) ⌝ }
-    ensures { λ r. ⌜ ((sh : Sheet) → Read sh size tables → encode sh ≡ now (sheet .entry) → r ≡ failedAnswer (withMutant sh (now (mutant .entry)) (accepted (firstFailedOf sh (now (mutant .entry)))))) ⌝ }
+    requires { ⌜ ((sh : Sheet) × ReadFrom sh size tables (now sheet)) ⌝ }
+    ensures { λ r. ⌜ ((sh : Sheet) → ReadFrom sh size tables (now (sheet .entry)) → r ≡ failedAnswer (withMutant sh (now (mutant .entry)) (accepted (firstFailedOf sh (now (mutant .entry)))))) ⌝ }
 {
     let machine = machine_of(size, tables, mutant);
     let fit = machine.fit;

@@ -19,9 +19,9 @@ use Rattle.model.specs.Operations.{reads, refuseIf, judging}
 use Rattle.model.specs.laws.JudgeLaw.{judged-survivor}
 use Rattle.model.specs.laws.OperationLaw.{mutant-length}
 use Rattle.model.specs.laws.SuspectLaw.{slot-count}
-use Rattle.judging.specs.declared.verdict.Judged.the-variants as judged
+use Rattle.mutation.specs.declared.verdict.Judged.the-variants as judged
 use Rattle.sheet.specs.Lists.{overlay}
-use Rattle.judging.specs.Judging.{judgedAnswer, boardWrites, sequenceWrites, judgingOf}
+use Rattle.mutation.specs.Judging.{judgedAnswer, boardWrites, sequenceWrites, judgingOf}
 use Rattle.report.specs.Text.{Appended, completeText, survivorLines, refusedLine, textOf, textIn, suspectsIn}
 use Rattle.report.proofs.TextLaws.{appended-none}
 

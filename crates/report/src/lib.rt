@@ -8,7 +8,7 @@ ghost use Rattle.report.specs.Text.{Appended, textIn, suspectsIn};
 
 mod text;
 
-use judging::Judged;
+use mutation::Judged;
 use sheet::Reading;
 use text::put_all;
 use text::put_refused;
@@ -34,7 +34,7 @@ pub fn report(sheet: &[u8], out: &mut [u8]) -> usize
     }
     let mut mutant = [0u8; 32];
     let mut sequence = [0u8; 256];
-    match judging::judge(sheet, &mut mutant, &mut sequence) {
+    match mutation::judge(sheet, &mut mutant, &mut sequence) {
         Judged::Complete => put_all(out, 0, b"complete\n"),
         Judged::Survivor(length) => {
             let choices = suspects(sheet);

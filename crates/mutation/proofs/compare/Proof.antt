@@ -33,7 +33,7 @@ returns c =
     (answer, (bytes, told-compared (a .sheet .now) (a .mutant .now) (length (a .buffer .now)) _ (a .buffer .now) (a .buffer .now) answer bytes))
 
 compare-accepted-requires : tie.Need-compare-accepted-requires
-compare-accepted-requires c κs = let a = c .before .before .before .before .before .before .before .before .before .args in let o = opened (a .sheet .now) (c .before .before .before .before .before .load .result) (c .before .before .before .reading .given .0 .0) (c .before .before .before .before .before .load .ensures) (c .before .before .before .reading .given .1) in (o .sheet, o .holds)
+compare-accepted-requires c κs = let a = c .before .before .before .before .before .before .before .before .before .args in let o = opened (a .sheet .now) (c .before .before .before .before .before .load .result) (c .before .before .before .reading .given .0 .0) (c .before .before .before .before .before .load .ensures) (c .before .before .before .reading .given .1) in (o .sheet, o .holds .read)
 
 same-length : tie.Need-same-length
 same-length c = search needs
@@ -43,8 +43,8 @@ returns-2 c =
     let a = c .before .before .before .before .before .before .before .before .before .before .before .before .args in
     let o = opened (a .sheet .now) (c .before .before .before .before .before .before .before .before .load .result) (c .before .before .before .before .before .before .reading .given .0 .0) (c .before .before .before .before .before .before .before .before .load .ensures) (c .before .before .before .before .before .before .reading .given .1) in
     let e = comparing-on (a .sheet .now) (o .sheet) (o .is) (a .mutant .now) (length (a .buffer .now)) in
-    let answer = c .before .before .compare-accepted .ensures .0 (o .sheet) (o .holds) ∙ sym (ap comparedAnswer e) in
-    let bytes = c .before .before .compare-accepted .ensures .1 (o .sheet) (o .holds) ∙ sym (ap (λ q. overlay (comparedWrites q) (a .buffer .now)) e) in
+    let answer = c .before .before .compare-accepted .ensures .0 (o .sheet) (o .holds .read) ∙ sym (ap comparedAnswer e) in
+    let bytes = c .before .before .compare-accepted .ensures .1 (o .sheet) (o .holds .read) ∙ sym (ap (λ q. overlay (comparedWrites q) (a .buffer .now)) e) in
     (answer, (bytes, told-compared (a .sheet .now) (a .mutant .now) (length (a .buffer .now)) _ (a .buffer .now) _ answer bytes))
 
 pub compare-spec : {M : Type 1} → statement M

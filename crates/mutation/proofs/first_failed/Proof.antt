@@ -30,14 +30,14 @@ returns c =
     (answer, told-failed (a .sheet .now) (a .mutant .now) _ answer)
 
 first-failed-accepted-requires : tie.Need-first-failed-accepted-requires
-first-failed-accepted-requires c κs = let a = c .before .before .before .before .before .before .before .args in let o = opened (a .sheet .now) (c .before .before .before .before .load .result) (c .before .before .reading .given .0 .0) (c .before .before .before .before .load .ensures) (c .before .before .reading .given .1) in (o .sheet, o .holds, o .bytes)
+first-failed-accepted-requires c κs = let a = c .before .before .before .before .before .before .before .args in let o = opened (a .sheet .now) (c .before .before .before .before .load .result) (c .before .before .reading .given .0 .0) (c .before .before .before .before .load .ensures) (c .before .before .reading .given .1) in (o .sheet, o .holds)
 
 returns-2 : tie.Need-returns-2
 returns-2 c =
     let a = c .before .before .before .before .before .before .before .before .args in
     let o = opened (a .sheet .now) (c .before .before .before .before .before .load .result) (c .before .before .before .reading .given .0 .0) (c .before .before .before .before .before .load .ensures) (c .before .before .before .reading .given .1) in
     let e = failing-on (a .sheet .now) (o .sheet) (o .is) (a .mutant .now) in
-    let answer = c .first-failed-accepted .ensures (o .sheet) (o .holds) (o .bytes) ∙ sym (ap failedAnswer e) in
+    let answer = c .first-failed-accepted .ensures (o .sheet) (o .holds) ∙ sym (ap failedAnswer e) in
     (answer, told-failed (a .sheet .now) (a .mutant .now) _ answer)
 
 pub first-failed-spec : {M : Type 1} → statement M

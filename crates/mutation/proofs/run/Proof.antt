@@ -33,7 +33,7 @@ returns c =
     (answer, bytes)
 
 run-accepted-requires : tie.Need-run-accepted-requires
-run-accepted-requires c κs = let a = c .before .before .before .before .before .before .before .before .before .before .args in let o = opened (a .sheet .now) (c .before .before .before .before .before .load .result) (c .before .before .before .reading .given .0 .0) (c .before .before .before .before .before .load .ensures) (c .before .before .before .reading .given .1) in (o .sheet, o .holds)
+run-accepted-requires c κs = let a = c .before .before .before .before .before .before .before .before .before .before .args in let o = opened (a .sheet .now) (c .before .before .before .before .before .load .result) (c .before .before .before .reading .given .0 .0) (c .before .before .before .before .before .load .ensures) (c .before .before .before .reading .given .1) in (o .sheet, o .holds .read)
 
 same-length : tie.Need-same-length
 same-length c = search needs
@@ -43,8 +43,8 @@ returns-2 c =
     let a = c .before .before .before .before .before .before .before .before .before .before .before .before .before .args in
     let o = opened (a .sheet .now) (c .before .before .before .before .before .before .before .before .load .result) (c .before .before .before .before .before .before .reading .given .0 .0) (c .before .before .before .before .before .before .before .before .load .ensures) (c .before .before .before .before .before .before .reading .given .1) in
     let e = running-on (a .sheet .now) (o .sheet) (o .is) (a .mutant .now) (a .inputs .now) (length (a .buffer .now)) in
-    let answer = c .before .before .run-accepted .ensures .0 (o .sheet) (o .holds) ∙ sym (ap ranAnswer e) in
-    let bytes = c .before .before .run-accepted .ensures .1 (o .sheet) (o .holds) ∙ sym (ap (λ q. overlay (ranWrites q) (a .buffer .now)) e) in
+    let answer = c .before .before .run-accepted .ensures .0 (o .sheet) (o .holds .read) ∙ sym (ap ranAnswer e) in
+    let bytes = c .before .before .run-accepted .ensures .1 (o .sheet) (o .holds .read) ∙ sym (ap (λ q. overlay (ranWrites q) (a .buffer .now)) e) in
     (answer, bytes)
 
 pub run-spec : {M : Type 1} → statement M

@@ -10,13 +10,13 @@ use Rattle.mutation.proofs.suite.first_failed_accepted.Statement.{state
 use Rattle.mutation.proofs.suite.first_failed_accepted.Tie as tie
 
 machine-of-requires : tie.Need-machine-of-requires
-machine-of-requires c κs = (c .before .before .pre .0, c .before .before .pre .1)
+machine-of-requires c κs = (c .before .before .pre .0, c .before .before .pre .1 .read)
 
 enum-known-fit : tie.Need-enum-known-fit
 enum-known-fit c = search needs
 
 returns : tie.Need-returns
-returns c = let a = c .before .before .before .before .before .before .args in λ sh rd e. sym (ap failedAnswer (mutant-refused sh _ _ rd _ _ (c .before .before .before .machine-of .ensures sh rd) _ _ (c .before .fit .given .1) (accepted (firstFailedOf sh (a .mutant .now)))))
+returns c = let a = c .before .before .before .before .before .before .args in λ sh rd. sym (ap failedAnswer (mutant-refused sh _ _ (rd .read) _ _ (c .before .before .before .machine-of .ensures sh (rd .read)) _ _ (c .before .fit .given .1) (accepted (firstFailedOf sh (a .mutant .now)))))
 
 enum-told : tie.Need-enum-told
 enum-told c = search needs
@@ -33,14 +33,14 @@ initial-requires c κs = search needs
 first-failure-requires : tie.Need-first-failure-requires
 first-failure-requires c κs =
     let p = c .before .before .before .before .before .before .before .before .before .before .before .before .before .before .before .before .pre in
-    let q = prepared (p .0) _ _ (p .1) _ _ (c .before .before .before .before .before .before .before .before .before .before .before .before .before .machine-of .ensures (p .0) (p .1)) (c .before .before .before .before .before .before .before .before .before .before .before .enum-told .given .1) _ _ _ (c .before .before .before .before .before .before .before .before .before .before .wide .ensures) (c .before .before .before .before .before .before .before .before .before .wide2 .ensures) (c .initial .ensures (p .0) _) in
-    (q .valid, (q .low, (p .0 .tests, suite-tests (p .0) _ _ (p .1) _ (p .2) _ (q .same))))
+    let q = prepared (p .0) _ _ (p .1 .read) _ _ (c .before .before .before .before .before .before .before .before .before .before .before .before .before .machine-of .ensures (p .0) (p .1 .read)) (c .before .before .before .before .before .before .before .before .before .before .before .enum-told .given .1) _ _ _ (c .before .before .before .before .before .before .before .before .before .before .wide .ensures) (c .before .before .before .before .before .before .before .before .before .wide2 .ensures) (c .initial .ensures (p .0) _) in
+    (q .valid, (q .low, (p .0 .tests, suite-tests (p .0) _ _ _ (p .1) _ (q .same))))
 
 returns-2 : tie.Need-returns-2
-returns-2 c = λ sh rd e.
-    let q = prepared sh _ _ rd _ _ (c .before .before .before .before .before .before .before .before .before .before .before .before .before .before .machine-of .ensures sh rd) (c .before .before .before .before .before .before .before .before .before .before .before .before .enum-told .given .1) _ _ _ (c .before .before .before .before .before .before .before .before .before .before .before .wide .ensures) (c .before .before .before .before .before .before .before .before .before .before .wide2 .ensures) (c .before .initial .ensures sh _) in
-    c .first-failure .ensures (sh .tests) (suite-tests sh _ _ rd _ e _ (q .same)) ∙ ap failedOf (failed-is sh _ (q .same))
-    ∙ sym (ap failedAnswer (failed-on sh _ _ rd _ _ (c .before .before .before .before .before .before .before .before .before .before .before .before .before .before .machine-of .ensures sh rd) (c .before .before .before .before .before .before .before .before .before .before .before .before .enum-told .given .1)))
+returns-2 c = λ sh rd.
+    let q = prepared sh _ _ (rd .read) _ _ (c .before .before .before .before .before .before .before .before .before .before .before .before .before .before .machine-of .ensures sh (rd .read)) (c .before .before .before .before .before .before .before .before .before .before .before .before .enum-told .given .1) _ _ _ (c .before .before .before .before .before .before .before .before .before .before .before .wide .ensures) (c .before .before .before .before .before .before .before .before .before .before .wide2 .ensures) (c .before .initial .ensures sh _) in
+    c .first-failure .ensures (sh .tests) (suite-tests sh _ _ _ rd _ (q .same)) ∙ ap failedOf (failed-is sh _ (q .same))
+    ∙ sym (ap failedAnswer (failed-on sh _ _ (rd .read) _ _ (c .before .before .before .before .before .before .before .before .before .before .before .before .before .before .machine-of .ensures sh (rd .read)) (c .before .before .before .before .before .before .before .before .before .before .before .before .enum-told .given .1)))
 
 pub first-failed-accepted-spec : {M : Type 1} → statement M
 first-failed-accepted-spec =

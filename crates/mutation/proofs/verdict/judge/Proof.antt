@@ -1,7 +1,7 @@
 -- `judge`: what `judge_counting` promises but for the count.
 use borrow.Author.Needs.{needs}
-use Rattle.judging.proofs.verdict.judge.Statement.{statement}
-use Rattle.judging.proofs.verdict.judge.Tie as tie
+use Rattle.mutation.proofs.verdict.judge.Statement.{statement}
+use Rattle.mutation.proofs.verdict.judge.Tie as tie
 
 judge-counting-requires : tie.Need-judge-counting-requires
 judge-counting-requires c κs = search needs

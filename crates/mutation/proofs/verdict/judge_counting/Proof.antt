@@ -2,10 +2,11 @@
 use mathlib.Core.Path.{refl, ap₂}
 use Rattle.sheet.specs.laws.Refusals.{refusal-told}
 use borrow.Author.Needs.{needs}
-use Rattle.judging.specs.declared.verdict.Judged.the-variants.{Refused}
-use Rattle.judging.proofs.JudgingLaw.{loaded-read, judge-refused, judge-accepted}
-use Rattle.judging.proofs.verdict.judge_counting.Statement.{statement}
-use Rattle.judging.proofs.verdict.judge_counting.Tie as tie
+use Rattle.mutation.specs.declared.verdict.Judged.the-variants.{Refused}
+use Rattle.mutation.proofs.Opened.{opened}
+use Rattle.mutation.proofs.JudgingLaw.{judge-refused, judge-accepted}
+use Rattle.mutation.proofs.verdict.judge_counting.Statement.{statement}
+use Rattle.mutation.proofs.verdict.judge_counting.Tie as tie
 
 load-requires : tie.Need-load-requires
 load-requires c κs = search needs
@@ -29,8 +30,8 @@ returns c =
 
 judge-read-requires : tie.Need-judge-read-requires
 judge-read-requires c κs =
-    let x = loaded-read (c .before .before .before .before .before .before .before .before .before .before .before .args .sheet .now) (c .before .before .before .before .before .before .before .load .result) _ (c .before .before .before .before .before .before .before .load .ensures) (c .before .before .before .before .reading .given .1) in
-    (x .0, x .1)
+    let x = opened (c .before .before .before .before .before .before .before .before .before .before .before .args .sheet .now) (c .before .before .before .before .before .before .before .load .result) _ (c .before .before .before .before .before .before .before .load .ensures) (c .before .before .before .before .reading .given .1) in
+    (x .sheet, x .holds)
 
 same-length : tie.Need-same-length
 same-length c = search needs
@@ -41,8 +42,8 @@ same-length-2 c = search needs
 returns-2 : tie.Need-returns-2
 returns-2 c =
     let a = c .before .before .before .before .before .before .before .before .before .before .before .before .before .before .before .before .args in
-    let x = loaded-read (a .sheet .now) (c .before .before .before .before .before .before .before .before .before .before .before .before .load .result) _ (c .before .before .before .before .before .before .before .before .before .before .before .before .load .ensures) (c .before .before .before .before .before .before .before .before .before .reading .given .1) in
-    let y = judge-accepted (a .sheet .now) (a .board .now) (a .sequence .now) (x .0) (x .2) _ _ _ (c .before .before .before .before .judge-read .ensures .0 (x .0) (x .1)) in
+    let x = opened (a .sheet .now) (c .before .before .before .before .before .before .before .before .before .before .before .before .load .result) _ (c .before .before .before .before .before .before .before .before .before .before .before .before .load .ensures) (c .before .before .before .before .before .before .before .before .before .reading .given .1) in
+    let y = judge-accepted (a .sheet .now) (a .board .now) (a .sequence .now) (x .sheet) (x .is) _ _ _ (c .before .before .before .before .judge-read .ensures .0 (x .sheet) (x .holds)) in
     (y .0 .answer, (y .0 .board, (y .0 .sequence, (y .1, c .before .before .before .before .judge-read .ensures .1))))
 
 pub judge-counting-spec : {M : Type 1} → statement M

@@ -1,8 +1,8 @@
 -- `conclude`: complete where the search finds none, otherwise the first survivor, which it wrote.
 use borrow.Author.Needs.{needs}
-use Rattle.judging.proofs.JudgingLaw.{judges-complete, judges-survivor}
-use Rattle.judging.proofs.verdict.conclude.Statement.{statement}
-use Rattle.judging.proofs.verdict.conclude.Tie as tie
+use Rattle.mutation.proofs.JudgingLaw.{judges-complete, judges-survivor}
+use Rattle.mutation.proofs.verdict.conclude.Statement.{statement}
+use Rattle.mutation.proofs.verdict.conclude.Tie as tie
 
 fresh-notes-requires : tie.Need-fresh-notes-requires
 fresh-notes-requires c κs = search needs

@@ -1,8 +1,8 @@
 -- `find`: what the quick search finds; where it gave up, with both buffers as they were, what the thorough one finds.
 use borrow.Author.Needs.{needs}
 use Rattle.survivor.proofs.SearchLaw.{nothing, first, kept-room}
-use Rattle.judging.proofs.verdict.find.Statement.{statement}
-use Rattle.judging.proofs.verdict.find.Tie as tie
+use Rattle.mutation.proofs.verdict.find.Statement.{statement}
+use Rattle.mutation.proofs.verdict.find.Tie as tie
 
 no-sets-requires : tie.Need-no-sets-requires
 no-sets-requires c κs = search needs

@@ -25,8 +25,9 @@ ghost use Rattle.model.specs.Suite.{judgeOf};
 ghost use Rattle.model.specs.Operations.{judging};
 ghost use Rattle.survivor.specs.declared.survive.Searched.the-variants.{GaveUp};
 ghost use Rattle.sheet.specs.Lists.{overlay};
+ghost use Rattle.mutation.specs.Operate.{ReadFrom};
 ghost use Rattle.survivor.specs.Search.{Searching, Room, Leaves};
-ghost use Rattle.judging.specs.Judging.{judgedAnswer, boardWrites, sequenceWrites, judgingOf, Judges, Measured, ReadFrom, ToldJudged};
+ghost use Rattle.mutation.specs.Judging.{judgedAnswer, boardWrites, sequenceWrites, judgingOf, Judges, Measured, ToldJudged};
 
 // What Judge answers: complete, or the length of the first survivor's shortest distinguishing sequence.
 pub enum Judged {

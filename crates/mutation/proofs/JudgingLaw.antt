@@ -17,7 +17,6 @@ use Rattle.sheet.specs.Encode.{rowBytes, sizeBytes, machineBytes, testBytes, bo
 use Rattle.sheet.specs.Tables.{loadedOf}
 use Rattle.sheet.specs.WellFormed.{WellFormed}
 use Rattle.sheet.specs.laws.Accepted.{well-formed}
-use Rattle.sheet.specs.laws.Encoded.{encoded}
 use Rattle.model.specs.Mutant.{slots}
 use Rattle.model.specs.Suite.{Judgement, complete, survivor, judgeOf}
 use Rattle.model.specs.Operations.{judging}
@@ -27,14 +26,16 @@ use Rattle.model.specs.laws.Demands.{judged-told, complete-told}
 use Rattle.partial.specs.Machine.{statesOf, suiteBytes}
 use Rattle.partial.specs.Packing.{Packed}
 use Rattle.machine.specs.declared.sites.Sites.{Sites}
-use Rattle.judging.specs.declared.verdict.Judged.{Judged}
-use Rattle.judging.specs.declared.verdict.Judged.the-variants as judged
+use Rattle.mutation.specs.declared.verdict.Judged.{Judged}
+use Rattle.mutation.specs.declared.verdict.Judged.the-variants as judged
 use Rattle.machine.specs.Mutants.{Placed}
 use Rattle.machine.specs.Sites.{openChoices, Numbered}
 use Rattle.survivor.specs.Search.{NoneFrom, Kept, Shown, Searching}
-use Rattle.judging.specs.Judging.{judgingOf, Judges, ReadFrom, SaysOf, ToldJudged}
+use Rattle.mutation.specs.Operate.{ReadFrom}
+use Rattle.mutation.specs.Judging.{judgingOf, Judges, SaysOf, ToldJudged}
 use Rattle.machine.proofs.FitsLaw.{read-states, read-inputs, read-few, read-sited, read-ruled}
-use Rattle.judging.proofs.PackedLaw.{block-for}
+use Rattle.mutation.proofs.Opened.{closed-by}
+use Rattle.mutation.proofs.PackedLaw.{block-for}
 use Rattle.survivor.proofs.SearchLaw.{prefix-start, none-judged, first-judged}
 
 -- ---- where the tests start
@@ -67,7 +68,7 @@ module _ {sh : Sheet} {size : Summary} {tables : Tables} {s : List ℕ} (rd : Re
   -- its tests start within it
   pub place-in : 4 + 5 * size .rules + 5 * size .faults ≤ length s
   unfolding summaryOf
-  place-in = rw (rd .read .summary, rd .bytes) (encode-length sh)
+  place-in = rw (rd .read .summary, ← rd .bytes) (encode-length sh)
 
   -- and go to its end
   suite-from : take (length s - (4 + 5 * size .rules + 5 * size .faults)) (drop (4 + 5 * size .rules + 5 * size .faults) s) ≡ suiteBytes (sh .tests)
@@ -75,7 +76,7 @@ module _ {sh : Sheet} {size : Summary} {tables : Tables} {s : List ℕ} (rd : Re
   suite-from =
       let place = 4 + 5 * size .rules + 5 * size .faults in
       take-all (length s - place) (drop place s) (omega (arith, length-drop place s))
-      ∙ rw (rd .read .summary, rd .bytes) (tests-from sh)
+      ∙ rw (rd .read .summary, ← rd .bytes) (tests-from sh)
 
   module _ (n k : ℕ) (en : n ≡ size .states) (ek : k ≡ size .inputs) where
     pub few-open : (n ≤ 16) × (length (openChoices n k (tables .choices) 256) ≤ 32)
@@ -154,33 +155,6 @@ module _ {sh : Sheet} {p board board′ sequence sequence′ : List ℕ} where
       let h = first-judged sh p (s .survivor) (s .inputs) (s .first) in
       record { answer = rw h (ap judged.Survivor (s .long)); board = rw h (s .board); sequence = rw h (s .sequence) }
 
--- ---- the sheet as it was loaded
-
--- accepted
-pub loaded-read : (s : List ℕ) (l : Loaded) (size : Summary) → l ≡ loadedOf (reading s) → l .reading ≡ read.Accepted size →
-    (sh : Sheet) × ReadFrom sh size (l .tables) s × (reading s ≡ accepted sh)
-loaded-read s l size e er = go (reading s) refl e
-  where
-    go : (r : Reading) → reading s ≡ r → l ≡ loadedOf r → (sh : Sheet) × ReadFrom sh size (l .tables) s × (reading s ≡ accepted sh)
-    go (accepted sh) es el =
-        let same : read.Accepted size ≡ read.Accepted (summaryOf sh) = sym er ∙ ap (λ (t : Loaded). t .reading) el in
-        (sh, record { read = record { formed = well-formed s sh es; summary = cc; tabled = ap (λ (t : Loaded). t .tables) el }; bytes = sym (encoded s sh es) }, es)
-    go (refused number place) es el =
-        let same : read.Accepted size ≡ read.Refused number place = sym er ∙ ap (λ (t : Loaded). t .reading) el in
-        absurd (let z : _≡_ {A = ℕ} 0 1 = cc in omega arith)
-
--- refused
-loaded-refused : (s : List ℕ) (l : Loaded) (number place : ℕ) → l ≡ loadedOf (reading s) → l .reading ≡ read.Refused number place → reading s ≡ refused number place
-loaded-refused s l number place e er = go (reading s) refl e
-  where
-    go : (r : Reading) → reading s ≡ r → l ≡ loadedOf r → r ≡ refused number place
-    go (accepted sh) es el =
-        let same : read.Refused number place ≡ read.Accepted (summaryOf sh) = sym er ∙ ap (λ (t : Loaded). t .reading) el in
-        absurd (let z : _≡_ {A = ℕ} 0 1 = cc in omega arith)
-    go (refused n q) es el =
-        let same : read.Refused number place ≡ read.Refused n q = sym er ∙ ap (λ (t : Loaded). t .reading) el in
-        cc
-
 -- ---- what it tells
 
 module _ (s board sequence : List ℕ) where
@@ -189,7 +163,7 @@ module _ (s board sequence : List ℕ) where
       Judges (judging s (length board) (length sequence)) r board board sequence sequence × ToldJudged s (length board) (length sequence) r board sequence
   unfolding judging ToldJudged
   judge-refused l number place r e er ea =
-      let h = loaded-refused s l number place e er in (
+      let h = closed-by s l number place e er in (
         record { answer = rw h ea; board = rw h refl; sequence = rw h refl },
         λ sh es. let same : _≡_ {A = Reading} (accepted sh) (refused number place) = sym es ∙ h in absurd (let z : _≡_ {A = ℕ} 0 1 = cc in omega arith),
       )

@@ -6,8 +6,8 @@ use mathlib.Core.Path.{_≡_}
 use lib.ListN.{length, length-replicate}
 use Rattle.engine.specs.Store.{entries, freshSets}
 use Rattle.survivor.proofs.SearchLaw.{asked}
-use Rattle.judging.proofs.verdict.find_thoroughly.Statement.{statement}
-use Rattle.judging.proofs.verdict.find_thoroughly.Tie as tie
+use Rattle.mutation.proofs.verdict.find_thoroughly.Statement.{statement}
+use Rattle.mutation.proofs.verdict.find_thoroughly.Tie as tie
 
 -- a store has entries
 full : length freshSets ≡ 0 → ⊥

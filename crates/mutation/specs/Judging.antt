@@ -4,20 +4,16 @@ use mathlib.Core.Path.{_≡_}
 use mathlib.Core.List.{List, []}
 use lib.Dec.{ltb}
 use lib.ListN.{length, take}
-use Rattle.sheet.specs.declared.Summary.{Summary}
-use Rattle.sheet.specs.declared.Tables.{Tables}
+use Rattle.sheet.specs.Lists.{overlay}
 use Rattle.sheet.specs.Sheet.{Sheet}
 use Rattle.sheet.specs.Reading.{Result, accepted, refused, reading}
-use Rattle.sheet.specs.Encode.{encode}
 use Rattle.model.specs.Mutant.{slots}
 use Rattle.model.specs.Suite.{Judgement, complete, survivor, judgeOf}
 use Rattle.model.specs.Operations.{refuseIf}
 use Rattle.model.specs.Implementation.{Guaranteed}
 use Rattle.model.specs.Verdict.{Complete, FirstSurvivor, ShortestOf}
-use Rattle.judging.specs.declared.verdict.Judged.{Judged}
-use Rattle.judging.specs.declared.verdict.Judged.the-variants as judged
-use Rattle.sheet.specs.Lists.{overlay}
-use Rattle.machine.specs.Fits.{Read}
+use Rattle.mutation.specs.declared.verdict.Judged.{Judged}
+use Rattle.mutation.specs.declared.verdict.Judged.the-variants as judged
 
 -- 01's numbers and values for each case
 abbrev pub judgementAnswer : Judgement → Judged
@@ -62,11 +58,6 @@ abbrev pub Measured : Judged → ℕ → ℕ → Type 0
 Measured judged.Complete old new = Unit {0}
 Measured (judged.Survivor d) old new = Unit {0}
 Measured (judged.Refused number place) old new = new ≡ old
-
--- the sheet that was read, with what reading it told
-pub record ReadFrom (sh : Sheet) (size : Summary) (tables : Tables) (s : List ℕ) : Type 0 where
-  pub read : Read sh size tables
-  pub bytes : s ≡ encode sh
 
 -- demand 3, of the answer and the buffers: complete, with the lasting guarantee; or the first survivor stands at the board
 -- buffer's front, and its shortest distinguishing sequence at the sequence buffer's

@@ -2,9 +2,9 @@
 use borrow.Author.Needs.{needs}
 use mathlib.Core.Path.{refl}
 use native.Mathlib.Omega.{arith}
-use Rattle.judging.proofs.JudgingLaw.{place-in, few-open, some-state, counted, searching-start, packed-square, judges-no-board, judges-no-sequence, room}
-use Rattle.judging.proofs.verdict.judge_read.Statement.{statement}
-use Rattle.judging.proofs.verdict.judge_read.Tie as tie
+use Rattle.mutation.proofs.JudgingLaw.{place-in, few-open, some-state, counted, searching-start, packed-square, judges-no-board, judges-no-sequence, room}
+use Rattle.mutation.proofs.verdict.judge_read.Statement.{statement}
+use Rattle.mutation.proofs.verdict.judge_read.Tie as tie
 
 wide-requires : tie.Need-wide-requires
 wide-requires c κs = search needs

@@ -1,3 +1,0 @@
--- What the proofs of the functions share.
-mod PackedLaw
-mod JudgingLaw
