@@ -24,19 +24,25 @@ same-length : tie.Need-same-length
 same-length c = search needs
 
 returns : tie.Need-returns
-returns c = (ap comparedNumbers (sym (c .before .enum-told .given .1) ∙ c .before .before .before .before .before .compare .ensures .0), c .before .before .before .before .before .compare .ensures .1 .0)
+returns c =
+    let at-compare = c .before .before .before .before .before in
+    (ap comparedNumbers (sym (c .before .enum-told .given .1) ∙ at-compare .compare .ensures .0), at-compare .compare .ensures .1 .0)
 
 same-length-2 : tie.Need-same-length-2
 same-length-2 c = search needs
 
 returns-2 : tie.Need-returns-2
-returns-2 c = (ap comparedNumbers (sym (c .before .before .d .given .1) ∙ c .before .before .before .before .before .before .compare .ensures .0), c .before .before .before .before .before .before .compare .ensures .1 .0)
+returns-2 c =
+    let at-compare = c .before .before .before .before .before .before in
+    (ap comparedNumbers (sym (c .before .before .d .given .1) ∙ at-compare .compare .ensures .0), at-compare .compare .ensures .1 .0)
 
 same-length-3 : tie.Need-same-length-3
 same-length-3 c = search needs
 
 returns-3 : tie.Need-returns-3
-returns-3 c = (ap comparedNumbers (sym (c .before .before .number .given .1) ∙ c .before .before .before .before .before .before .compare .ensures .0), c .before .before .before .before .before .before .compare .ensures .1 .0)
+returns-3 c =
+    let at-compare = c .before .before .before .before .before .before in
+    (ap comparedNumbers (sym (c .before .before .number .given .1) ∙ at-compare .compare .ensures .0), at-compare .compare .ensures .1 .0)
 
 pub ranthelo-compare-spec : {M : Type 1} → statement M
 ranthelo-compare-spec =

@@ -27,7 +27,10 @@ cast-t10 : tie.Need-cast-t10
 cast-t10 c = search needs
 
 returns : tie.Need-returns
-returns c = ap readNumbers (sym (c .before .before .before .before .before .z .given .1) ∙ c .before .before .before .before .before .before .before .read .ensures)
+returns c =
+    let at-z = c .before .before .before .before .before in
+    let at-read = at-z .before .before in
+    ap readNumbers (sym (at-z .z .given .1) ∙ at-read .read .ensures)
 
 returns-2 : tie.Need-returns-2
 returns-2 c = ap readNumbers (sym (c .before .before .number .given .1) ∙ c .before .before .before .before .read .ensures)

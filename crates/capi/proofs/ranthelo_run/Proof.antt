@@ -21,13 +21,17 @@ same-length : tie.Need-same-length
 same-length c = search needs
 
 returns : tie.Need-returns
-returns c = (ap ranNumbers (sym (c .before .enum-told .given .1) ∙ c .before .before .before .before .before .run .ensures .0), c .before .before .before .before .before .run .ensures .1)
+returns c =
+    let at-run = c .before .before .before .before .before in
+    (ap ranNumbers (sym (c .before .enum-told .given .1) ∙ at-run .run .ensures .0), at-run .run .ensures .1)
 
 same-length-2 : tie.Need-same-length-2
 same-length-2 c = search needs
 
 returns-2 : tie.Need-returns-2
-returns-2 c = (ap ranNumbers (sym (c .before .before .number .given .1) ∙ c .before .before .before .before .before .before .run .ensures .0), c .before .before .before .before .before .before .run .ensures .1)
+returns-2 c =
+    let at-run = c .before .before .before .before .before .before in
+    (ap ranNumbers (sym (c .before .before .number .given .1) ∙ at-run .run .ensures .0), at-run .run .ensures .1)
 
 pub ranthelo-run-spec : {M : Type 1} → statement M
 ranthelo-run-spec =

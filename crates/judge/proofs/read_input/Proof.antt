@@ -48,7 +48,9 @@ same-length-2 c = search needs
 -- what one read brought
 came : (c : tie.After-known-told Inv-loop μ-loop) →
     More (c .before .before .before .before .before .before .before .before .loop .buffer) (c .before .before .before .before .before .before .before .before .loop .done) (c .before .before .before .before .before .read-some .last .0) (c .before .n .given .0 .0)
-came c = more _ _ _ _ (omega arith) (c .before .before .before .before .before .read-some .kept .0) (rw (c .before .n .given .1) at (c .before .before .before .before .before .read-some .ensures) .0)
+came c =
+    let at-read-some = c .before .before .before .before .before in
+    more _ _ _ _ (omega arith) (at-read-some .read-some .kept .0) (rw (c .before .n .given .1) at (at-read-some .read-some .ensures) .0)
 
 returns-2 : tie.Need-returns-2 Inv-loop μ-loop
 returns-2 c = counts _ _ (omega (arith, came (c .before) .long))

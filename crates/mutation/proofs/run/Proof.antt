@@ -24,24 +24,33 @@ refusal-of-requires c κs = search needs
 
 returns : tie.Need-returns
 returns c =
-    let a = c .before .before .before .before .before .before .before .before .args in
+    let at-load = c .before .before .before in
+    let entry = at-load .before .before .before .before .before in
+    let a = entry .args in
     let g = c .before .enum-told .given in
     let z = refusal-told _ _ _ _ (c .refusal-of .ensures) (g .1) in
-    let e = running-refused (a .sheet .now) (g .0 .0) (g .0 .1 .0) (closed-by (a .sheet .now) (c .before .before .before .load .result) (g .0 .0) (g .0 .1 .0) (c .before .before .before .load .ensures) (g .1)) (a .mutant .now) (a .inputs .now) (length (a .buffer .now)) in
+    let e = running-refused (a .sheet .now) (g .0 .0) (g .0 .1 .0) (closed-by (a .sheet .now) (at-load .load .result) (g .0 .0) (g .0 .1 .0) (at-load .load .ensures) (g .1)) (a .mutant .now) (a .inputs .now) (length (a .buffer .now)) in
     let answer = ap₂ Refused (z .0) (z .1) ∙ sym (ap ranAnswer e) in
     let bytes = sym (ap (λ q. overlay (ranWrites q) (a .buffer .now)) e) in
     (answer, bytes)
 
 run-accepted-requires : tie.Need-run-accepted-requires
-run-accepted-requires c κs = let a = c .before .before .before .before .before .before .before .before .before .before .args in let o = opened (a .sheet .now) (c .before .before .before .before .before .load .result) (c .before .before .before .reading .given .0 .0) (c .before .before .before .before .before .load .ensures) (c .before .before .before .reading .given .1) in (o .sheet, o .holds .read)
+run-accepted-requires c κs =
+    let at-reading = c .before .before .before in
+    let at-load = at-reading .before .before in
+    let entry = at-load .before .before .before .before .before in
+    let a = entry .args in let o = opened (a .sheet .now) (at-load .load .result) (at-reading .reading .given .0 .0) (at-load .load .ensures) (at-reading .reading .given .1) in (o .sheet, o .holds .read)
 
 same-length : tie.Need-same-length
 same-length c = search needs
 
 returns-2 : tie.Need-returns-2
 returns-2 c =
-    let a = c .before .before .before .before .before .before .before .before .before .before .before .before .before .args in
-    let o = opened (a .sheet .now) (c .before .before .before .before .before .before .before .before .load .result) (c .before .before .before .before .before .before .reading .given .0 .0) (c .before .before .before .before .before .before .before .before .load .ensures) (c .before .before .before .before .before .before .reading .given .1) in
+    let at-reading = c .before .before .before .before .before .before in
+    let at-load = at-reading .before .before in
+    let entry = at-load .before .before .before .before .before in
+    let a = entry .args in
+    let o = opened (a .sheet .now) (at-load .load .result) (at-reading .reading .given .0 .0) (at-load .load .ensures) (at-reading .reading .given .1) in
     let e = running-on (a .sheet .now) (o .sheet) (o .is) (a .mutant .now) (a .inputs .now) (length (a .buffer .now)) in
     let answer = c .before .before .run-accepted .ensures .0 (o .sheet) (o .holds .read) ∙ sym (ap ranAnswer e) in
     let bytes = c .before .before .run-accepted .ensures .1 (o .sheet) (o .holds .read) ∙ sym (ap (λ q. overlay (ranWrites q) (a .buffer .now)) e) in

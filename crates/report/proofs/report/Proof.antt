@@ -38,8 +38,10 @@ suspects-requires c κs = search needs
 found : (c : tie.After-suspects) →
     Shown (judging (c .before .before .before .before .before .before .before .before .before .before .before .before .args .sheet .now) 32 256) (c .before .before .before .before .before .before .judge .last .1 .0) (c .before .before .before .before .before .before .judge .last .1 .1 .0) (c .suspects .result) (c .before .before .length .given .0 .0)
 found c =
-    shown (c .before .before .before .before .before .before .before .before .before .before .before .before .args .sheet .now) _ _ _ _ 32 256 _ _ (c .suspects .ensures) (sym (c .before .before .length .given .1) ∙ c .before .before .before .before .before .before .judge .ensures .0)
-    (c .before .before .before .before .before .before .judge .ensures .1 .0) (c .before .before .before .before .before .before .judge .ensures .1 .1 .0)
+    let at-judge = c .before .before .before .before .before .before in
+    let entry = at-judge .before .before .before .before .before .before in
+    shown (entry .args .sheet .now) _ _ _ _ 32 256 _ _ (c .suspects .ensures) (sym (c .before .before .length .given .1) ∙ at-judge .judge .ensures .0)
+    (at-judge .judge .ensures .1 .0) (at-judge .judge .ensures .1 .1 .0)
 
 array-share-prefix-mutant : tie.Need-array-share-prefix-mutant
 array-share-prefix-mutant c = found (c .before) .choices
@@ -54,7 +56,11 @@ slice-aggregate-put-survivor-2 : tie.Need-slice-aggregate-put-survivor-2
 slice-aggregate-put-survivor-2 c = sym (length-take-le _ _ (found (c .before .before .before) .inputs))
 
 put-survivor-requires : tie.Need-put-survivor-requires
-put-survivor-requires c κs = lines-fit (found (c .before .before .before)) (c .before .before .before .before .before .before .before .before .before .judge .kept .1 .0) (c .before .before .before .before .before .before .before .before .before .judge .kept .1 .1 .0) (c .before .before .before .before .before .before .before .before .before .before .before .before .if1 .left)
+put-survivor-requires c κs =
+    let place = c .before .before .before in
+    let at-judge = place .before .before .before .before .before .before in
+    let at-if1 = at-judge .before .before .before in
+    lines-fit (found (place)) (at-judge .judge .kept .1 .0) (at-judge .judge .kept .1 .1 .0) (at-if1 .if1 .left)
 
 enum-known-number : tie.Need-enum-known-number
 enum-known-number c = search needs
@@ -66,19 +72,30 @@ same-length : tie.Need-same-length
 same-length c = search needs
 
 returns-2 : tie.Need-returns-2
-returns-2 c = printed _ _ (c .before .before .before .before .before .before .before .before .before .before .before .before .if1 .left) (complete-text _ (sym (c .before .before .before .before .before .enum-told .given .1) ∙ c .before .before .before .before .before .before .before .before .before .judge .ensures .0)) (c .before .before .put-all .ensures)
+returns-2 c =
+    let at-enum-told = c .before .before .before .before .before in
+    let at-judge = at-enum-told .before .before .before .before in
+    let at-if1 = at-judge .before .before .before in
+    printed _ _ (at-if1 .if1 .left) (complete-text _ (sym (at-enum-told .enum-told .given .1) ∙ at-judge .judge .ensures .0)) (c .before .before .put-all .ensures)
 
 same-length-2 : tie.Need-same-length-2
 same-length-2 c = search needs
 
 returns-3 : tie.Need-returns-3
-returns-3 c = printed _ _ (c .before .before .before .before .before .before .before .before .before .before .before .before .before .before .before .if1 .left) (found (c .before .before .before .before .before .before) .text) (c .before .before .put-survivor .ensures)
+returns-3 c =
+    let place = c .before .before .before .before .before .before in
+    let at-if1 = place .before .before .before .before .before .before .before .before .before in
+    printed _ _ (at-if1 .if1 .left) (found (place) .text) (c .before .before .put-survivor .ensures)
 
 same-length-3 : tie.Need-same-length-3
 same-length-3 c = search needs
 
 returns-4 : tie.Need-returns-4
-returns-4 c = printed _ _ (c .before .before .before .before .before .before .before .before .before .before .before .before .if1 .left) (refused-text _ _ _ (sym (c .before .before .before .before .before .number .given .1) ∙ c .before .before .before .before .before .before .before .before .before .judge .ensures .0)) (c .before .before .put-refused .ensures)
+returns-4 c =
+    let at-number = c .before .before .before .before .before in
+    let at-judge = at-number .before .before .before .before in
+    let at-if1 = at-judge .before .before .before in
+    printed _ _ (at-if1 .if1 .left) (refused-text _ _ _ (sym (at-number .number .given .1) ∙ at-judge .judge .ensures .0)) (c .before .before .put-refused .ensures)
 
 pub report-spec : {M : Type 1} → statement M
 report-spec =

@@ -29,9 +29,11 @@ returns c =
 
 add-end : tie.Need-add-end
 add-end c =
-    let a = c .before .before .before .before .before .before .args in
+    let at-test-span = c .before .before .before .before in
+    let entry = at-test-span .before .before in
+    let a = entry .args in
     let s = now (a .sheet) in
-    let t = c .before .before .before .before .test-span in
+    let t = at-test-span .test-span in
     let k = laws.part-room s (a .i) (t .result) _ (t .ensures) (c .before .before .parting .given .1) in
     omega arith
 
@@ -43,18 +45,23 @@ part-result-start c = search needs
 
 part-result-end : tie.Need-part-result-end
 part-result-end c =
-    let a = c .before .before .before .before .before .before .args in
+    let at-test-span = c .before .before .before .before in
+    let entry = at-test-span .before .before in
+    let a = entry .args in
     let s = now (a .sheet) in
-    let t = c .before .before .before .before .test-span in
+    let t = at-test-span .test-span in
     let k = laws.part-room s (a .i) (t .result) _ (t .ensures) (c .before .before .parting .given .1) in
     omega arith
 
 returns-2 : tie.Need-returns-2
 returns-2 c =
-    let a = c .before .before .before .before .before .before .before .args in
+    let at-parting = c .before .before .before in
+    let at-test-span = at-parting .before .before in
+    let entry = at-test-span .before .before in
+    let a = entry .args in
     let s = now (a .sheet) in
-    let t = c .before .before .before .before .before .test-span in
-    let told = c .before .before .before .parting .given .1 in
+    let t = at-test-span .test-span in
+    let told = at-parting .parting .given .1 in
     (laws.part-is s (a .i) (t .result) _ (t .ensures) told, laws.part-lies s (a .i) (t .result) _ (t .ensures) told (ptr (a .sheet)))
 
 pub test-part-spec : {M : Type 1} → statement M

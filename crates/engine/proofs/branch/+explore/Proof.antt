@@ -49,13 +49,17 @@ explore-enum-known-dead : (t : ℕ) → explore-lts.Need-enum-known-dead (cs t) 
 explore-enum-known-dead t c = search needs
 
 explore-returns : (t : ℕ) → explore-lts.Need-returns (cs t) (explore-at t) explore.Post explore-Inv-loop explore-μ-loop
-explore-returns t c = (rw (c .before .dead .given .1) at (c .before .before .before .before .before .before .pre .1 .3), c .before .before .before .before .before .before .pre .1 .5)
+explore-returns t c =
+    let entry = c .before .before .before .before .before .before in
+    (rw (c .before .dead .given .1) at (entry .pre .1 .3), entry .pre .1 .5)
 
 explore-enum-told : (t : ℕ) → explore-lts.Need-enum-told (cs t) (explore-at t) explore.Post explore-Inv-loop explore-μ-loop
 explore-enum-told t c = search needs
 
 explore-look-requires : (t : ℕ) → explore-lts.Need-look-requires (cs t) (explore-at t) explore.Post explore-Inv-loop explore-μ-loop
-explore-look-requires t c κs = let a = c .before .before .before .before .before .before .before .before .before .pre .1 in (a .5, a .0, a .1, a .2, wants-none, a .4)
+explore-look-requires t c κs =
+    let entry = c .before .before .before .before .before .before .before .before .before in
+    let a = entry .pre .1 in (a .5, a .0, a .1, a .2, wants-none, a .4)
 
 explore-enum-known-seen : (t : ℕ) → explore-lts.Need-enum-known-seen (cs t) (explore-at t) explore.Post explore-Inv-loop explore-μ-loop
 explore-enum-known-seen t c = search needs
@@ -67,7 +71,10 @@ explore-same-length-2 : (t : ℕ) → explore-lts.Need-same-length-2 (cs t) (exp
 explore-same-length-2 t c = search needs
 
 explore-returns-2 : (t : ℕ) → explore-lts.Need-returns-2 (cs t) (explore-at t) explore.Post explore-Inv-loop explore-μ-loop
-explore-returns-2 t c = (rw (c .before .seen .given .1) at (c .before .before .before .look .ensures .0), c .before .before .before .before .before .before .before .before .before .before .before .before .before .pre .1 .5)
+explore-returns-2 t c =
+    let at-look = c .before .before .before in
+    let entry = at-look .before .before .before .before .before .before .before .before .before .before in
+    (rw (c .before .seen .given .1) at (at-look .look .ensures .0), entry .pre .1 .5)
 
 explore-enum-known-seen-2 : (t : ℕ) → explore-lts.Need-enum-known-seen-2 (cs t) (explore-at t) explore.Post explore-Inv-loop explore-μ-loop
 explore-enum-known-seen-2 t c = search needs
@@ -91,12 +98,18 @@ explore-empty-requires t c κs = search needs
 
 explore-loop-holds : (t : ℕ) → explore-lts.Need-loop-holds (cs t) (explore-at t) explore.Post explore-Inv-loop explore-μ-loop
 explore-loop-holds t c =
-    let ok = rw (c .before .before .before .seen2 .given .1) at (c .before .before .before .before .before .before .look .ensures .0) in
-    let a = c .before .before .before .before .before .before .before .before .before .before .before .before .before .before .before .before .pre .1 in
+    let at-seen2 = c .before .before .before in
+    let at-look = at-seen2 .before .before .before in
+    let entry = at-look .before .before .before .before .before .before .before .before .before .before in
+    let ok = rw (at-seen2 .seen2 .given .1) at (at-look .look .ensures .0) in
+    let a = entry .pre .1 in
     (trying-none (a .0) (ok .0 .low) (a .4) (c .before .choices .ensures), ok .0, ok .1, a .5, refl, refl)
 
 explore-kill-requires : (t : ℕ) → explore-lts.Need-kill-requires (cs t) (explore-at t) explore.Post explore-Inv-loop explore-μ-loop
-explore-kill-requires t c κs = let a = c .before .before .before .before .before .before .before .before .before .before .before .before .before .before .before .before .before .before .before .pre .1 in let inv = c .before .before .loop .inv in (a .0, c .before .before .before .before .before .before .before .before .before .look .ensures .1, inv .1, a .4, omega (arith, c .before .loop-test .taken, inv .0 .all))
+explore-kill-requires t c κs =
+    let at-look = c .before .before .before .before .before .before .before .before .before in
+    let entry = at-look .before .before .before .before .before .before .before .before .before .before in
+    let a = entry .pre .1 in let inv = c .before .before .loop .inv in (a .0, at-look .look .ensures .1, inv .1, a .4, omega (arith, c .before .loop-test .taken, inv .0 .all))
 
 explore-choose-requires : (t : ℕ) → explore-lts.Need-choose-requires (cs t) (explore-at t) explore.Post explore-Inv-loop explore-μ-loop
 explore-choose-requires t c κs = search needs
@@ -106,10 +119,15 @@ explore-sub-explore t c = search needs
 
 explore-explore-requires : (t : ℕ) → explore-lts.Need-explore-requires (cs t) (explore-at t) explore.Post explore-Inv-loop explore-μ-loop
 explore-explore-requires t c κs =
-    let pre = c .before .before .before .before .before .before .before .before .before .before .before .before .before .before .before .before .before .before .before .before .before .before .before .before .before .pre in
-    let inv = c .before .before .before .before .before .before .before .before .loop .inv in
-    let is = c .before .before .before .before .choose .ensures in
-    (omega (arith, pre .0, inv .2), (pre .1 .0, trying-partial (inv .0) (c .before .before .before .before .before .before .before .loop-test .taken) is (pre .1 .1), pre .1 .2, rw is (c .before .before .before .before .before .kill .ensures), trying-long (inv .0) is, inv .3))
+    let at-choose = c .before .before .before .before in
+    let at-kill = at-choose .before in
+    let at-loop-test = at-kill .before .before in
+    let at-loop = at-loop-test .before in
+    let entry = at-loop .before .before .before .before .before .before .before .before .before .before .before .before .before .before .before .before .before in
+    let pre = entry .pre in
+    let inv = at-loop .loop .inv in
+    let is = at-choose .choose .ensures in
+    (omega (arith, pre .0, inv .2), (pre .1 .0, trying-partial (inv .0) (at-loop-test .loop-test .taken) is (pre .1 .1), pre .1 .2, rw is (at-kill .kill .ensures), trying-long (inv .0) is, inv .3))
 
 explore-enum-known-told : (t : ℕ) → explore-lts.Need-enum-known-told (cs t) (explore-at t) explore.Post explore-Inv-loop explore-μ-loop
 explore-enum-known-told t c = search needs
@@ -136,7 +154,12 @@ explore-same-length-8 : (t : ℕ) → explore-lts.Need-same-length-8 (cs t) (exp
 explore-same-length-8 t c = search needs
 
 explore-returns-5 : (t : ℕ) → explore-lts.Need-returns-5 (cs t) (explore-at t) explore.Post explore-Inv-loop explore-μ-loop
-explore-returns-5 t c = (trying-skips (c .before .before .before .before .before .before .before .before .before .before .before .before .before .before .before .before .before .before .loop .inv .0) (c .before .before .before .before .before .before .before .before .before .before .before .before .before .before .choose .ensures) (c .before .has .ensures .1 (not-true _ (c .if1 .taken))) (rw (c .before .before .before .told .given .1) at (c .before .before .before .before .before .before .before .before .before .explore .ensures .0)), c .before .before .before .before .before .before .before .before .before .explore .ensures .1)
+explore-returns-5 t c =
+    let at-told = c .before .before .before in
+    let at-explore = at-told .before .before .before .before .before .before in
+    let at-choose = at-explore .before .before .before .before .before in
+    let at-loop = at-choose .before .before .before .before in
+    (trying-skips (at-loop .loop .inv .0) (at-choose .choose .ensures) (c .before .has .ensures .1 (not-true _ (c .if1 .taken))) (rw (at-told .told .given .1) at (at-explore .explore .ensures .0)), at-explore .explore .ensures .1)
 
 explore-join-requires : (t : ℕ) → explore-lts.Need-join-requires (cs t) (explore-at t) explore.Post explore-Inv-loop explore-μ-loop
 explore-join-requires t c κs = search needs
@@ -149,14 +172,23 @@ explore-loop-less t c = search needs
 
 explore-loop-again : (t : ℕ) → explore-lts.Need-loop-again (cs t) (explore-at t) explore.Post explore-Inv-loop explore-μ-loop
 explore-loop-again t c =
-    let inv = c .before .before .before .before .before .before .before .before .before .before .before .before .before .before .before .before .before .before .before .loop .inv in
-    (trying-more (inv .0) (c .before .before .before .before .before .before .before .before .before .before .before .before .before .before .before .before .before .before .loop-test .taken) (c .before .before .before .before .before .before .before .before .before .before .before .before .before .before .before .choose .ensures) (rw (c .before .before .before .before .told .given .1) at (c .before .before .before .before .before .before .before .before .before .before .explore .ensures .0)) (c .join .ensures), inv .1, inv .2, c .before .before .before .before .before .before .before .before .before .before .explore .ensures .1, omega arith, omega arith)
+    let at-told = c .before .before .before .before in
+    let at-explore = at-told .before .before .before .before .before .before in
+    let at-choose = at-explore .before .before .before .before .before in
+    let at-loop-test = at-choose .before .before .before in
+    let at-loop = at-loop-test .before in
+    let inv = at-loop .loop .inv in
+    (trying-more (inv .0) (at-loop-test .loop-test .taken) (at-choose .choose .ensures) (rw (at-told .told .given .1) at (at-explore .explore .ensures .0)) (c .join .ensures), inv .1, inv .2, at-explore .explore .ensures .1, omega arith, omega arith)
 
 explore-without-requires : (t : ℕ) → explore-lts.Need-without-requires (cs t) (explore-at t) explore.Post explore-Inv-loop explore-μ-loop
 explore-without-requires t c κs = search needs
 
 explore-learn-requires : (t : ℕ) → explore-lts.Need-learn-requires (cs t) (explore-at t) explore.Post explore-Inv-loop explore-μ-loop
-explore-learn-requires t c κs = let inv = c .before .before .before .before .before .loop .inv in (inv .3, trying-all (inv .0) (c .before .before .before .before .loop-test .left) (c .before .before .before .without .ensures), inv .0 .long)
+explore-learn-requires t c κs =
+    let at-without = c .before .before .before in
+    let at-loop-test = at-without .before in
+    let at-loop = at-loop-test .before in
+    let inv = at-loop .loop .inv in (inv .3, trying-all (inv .0) (at-loop-test .loop-test .left) (at-without .without .ensures), inv .0 .long)
 
 explore-same-length-9 : (t : ℕ) → explore-lts.Need-same-length-9 (cs t) (explore-at t) explore.Post explore-Inv-loop explore-μ-loop
 explore-same-length-9 t c = search needs
@@ -165,7 +197,12 @@ explore-same-length-10 : (t : ℕ) → explore-lts.Need-same-length-10 (cs t) (e
 explore-same-length-10 t c = search needs
 
 explore-returns-6 : (t : ℕ) → explore-lts.Need-returns-6 (cs t) (explore-at t) explore.Post explore-Inv-loop explore-μ-loop
-explore-returns-6 t c = (trying-all (c .before .before .before .before .before .before .before .before .before .before .loop .inv .0) (c .before .before .before .before .before .before .before .before .before .loop-test .left) (c .before .before .before .before .before .before .before .before .without .ensures), c .before .before .before .before .learn .ensures)
+explore-returns-6 t c =
+    let at-learn = c .before .before .before .before in
+    let at-without = at-learn .before .before .before .before in
+    let at-loop-test = at-without .before in
+    let at-loop = at-loop-test .before in
+    (trying-all (at-loop .loop .inv .0) (at-loop-test .loop-test .left) (at-without .without .ensures), at-learn .learn .ensures)
 
 pub +explore-spec : {M : Type 1} → statement M
 +explore-spec = close μ-explore λ t. explore-lts.spec (cs t)

@@ -27,8 +27,11 @@ with-requires c κs = search needs
 
 returns-2 : tie.Need-returns-2
 returns-2 c =
-    let ko = c .before .before .before .before .killer .ensures (omega arith) in
-    killed (c .before .before .slot .result) (c .before .before .before .before .before .before .before .args .c) (c .before .before .before .before .before .before .before .pre .0) (c .before .before .before .before .before .before .before .pre .1) (c .before .before .before .before .before .before .before .pre .2) (c .before .before .before .before .before .before .before .pre .3) (c .before .before .before .before .before .before .before .pre .4) (c .before .before .before .before .before .transition .ensures) (omega arith) (ko .0) (ko .1) (c .before .before .slot .ensures .0) (c .with .ensures)
+    let at-killer = c .before .before .before .before in
+    let at-transition = at-killer .before in
+    let entry = at-transition .before .before in
+    let ko = at-killer .killer .ensures (omega arith) in
+    killed (c .before .before .slot .result) (entry .args .c) (entry .pre .0) (entry .pre .1) (entry .pre .2) (entry .pre .3) (entry .pre .4) (at-transition .transition .ensures) (omega arith) (ko .0) (ko .1) (c .before .before .slot .ensures .0) (c .with .ensures)
 
 pub kill-spec : {M : Type 1} → statement M
 kill-spec =

@@ -13,7 +13,10 @@ enum-known-known : tie.Need-enum-known-known
 enum-known-known c = search needs
 
 returns : tie.Need-returns
-returns c = (rw (c .before .known .given .1) at (c .before .before .before .hit .ensures), c .before .before .before .before .before .before .before .before .before .before .pre .4)
+returns c =
+    let at-hit = c .before .before .before in
+    let entry = at-hit .before .before .before .before .before .before .before in
+    (rw (c .before .known .given .1) at (at-hit .hit .ensures), entry .pre .4)
 
 enum-told : tie.Need-enum-told
 enum-told c = search needs

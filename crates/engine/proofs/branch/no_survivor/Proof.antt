@@ -44,7 +44,9 @@ same-length-4 : tie.Need-same-length-4
 same-length-4 c = search needs
 
 returns-4 : tie.Need-returns-4
-returns-4 c = (λ e. none-extends (rw (c .enum-told .given .1) at (c .before .before .before .before .before .before .explore .ensures .0)), c .before .before .before .before .before .before .explore .ensures .1)
+returns-4 c =
+    let at-explore = c .before .before .before .before .before .before in
+    (λ e. none-extends (rw (c .enum-told .given .1) at (at-explore .explore .ensures .0)), at-explore .explore .ensures .1)
 
 pub no-survivor-spec : {M : Type 1} → statement M
 no-survivor-spec =

@@ -11,7 +11,10 @@ enum-known-used : tie.Need-enum-known-used
 enum-known-used c = search needs
 
 shrink-requires : tie.Need-shrink-requires
-shrink-requires c κs = (c .before .before .before .before .before .before .pre .0, c .before .before .before .before .before .before .pre .1, c .before .before .before .before .before .before .pre .2, rw (c .before .before .used .given .1) at (c .before .before .before .before .over .ensures))
+shrink-requires c κs =
+    let at-over = c .before .before .before .before in
+    let entry = at-over .before .before in
+    (entry .pre .0, entry .pre .1, entry .pre .2, rw (c .before .before .used .given .1) at (at-over .over .ensures))
 
 returns : tie.Need-returns
 returns c = conforms-none (c .shrink .ensures)

@@ -86,8 +86,11 @@ probe-empty-requires t c κs = search needs
 
 probe-loop-holds : (t : ℕ) → probe-lts.Need-loop-holds (cs t) (probe-at t) probe.Post probe-Inv-loop probe-μ-loop
 probe-loop-holds t c =
-    let ok = rw (c .before .before .before .before .before .before .seen2 .given .1) at (c .before .before .before .before .before .before .before .before .before .glance .ensures) in
-    (trying-none (c .before .before .before .before .before .before .before .before .before .before .before .before .before .before .before .before .pre .1 .0) (ok .low) (c .before .before .before .before .before .before .before .before .before .before .before .before .before .before .before .before .pre .1 .3) (c .before .before .choices .ensures), λ v. refl)
+    let at-seen2 = c .before .before .before .before .before .before in
+    let at-glance = at-seen2 .before .before .before in
+    let entry = at-glance .before .before .before .before .before .before .before in
+    let ok = rw (at-seen2 .seen2 .given .1) at (at-glance .glance .ensures) in
+    (trying-none (entry .pre .1 .0) (ok .low) (entry .pre .1 .3) (c .before .before .choices .ensures), λ v. refl)
 
 probe-mul-q : (t : ℕ) → probe-lts.Need-mul-q (cs t) (probe-at t) probe.Post probe-Inv-loop probe-μ-loop
 probe-mul-q t c = omega (arith, c .before .loop .inv .0 .low, c .before .before .before .before .before .wide .ensures .0)
@@ -100,11 +103,17 @@ probe-sub-probe t c = search needs
 
 probe-probe-requires : (t : ℕ) → probe-lts.Need-probe-requires (cs t) (probe-at t) probe.Post probe-Inv-loop probe-μ-loop
 probe-probe-requires t c κs =
-    let ok = rw (c .before .before .before .before .before .before .before .before .before .before .seen2 .given .1) at (c .before .before .before .before .before .before .before .before .before .before .before .before .before .glance .ensures) in
-    let pre = c .before .before .before .before .before .before .before .before .before .before .before .before .before .before .before .before .before .before .before .before .pre in
-    let tr = c .before .before .before .loop .inv .0 in
-    let is = ap (λ (k : ℕ). set (c .before .before .before .loop .q) k (c .before .before .before .loop .c)) (c .before .before .before .before .before .before .before .wide .ensures .0) ∙ c .before .before .before .loop .inv .1 (c .before .before .before .loop .c) in
-    (omega (arith, pre .0, c .before .before .before .before .before .before .before .before .if2 .left), (pre .1 .0, trying-partial tr (c .before .before .loop-test .taken) is (pre .1 .1), rw is (cursor-settle _ (c .before .before .before .loop .c) (ok .unsettled) (ok .on)), trying-long tr is))
+    let at-loop = c .before .before .before in
+    let at-wide = at-loop .before .before .before .before in
+    let at-if2 = at-wide .before in
+    let at-seen2 = at-if2 .before .before in
+    let at-glance = at-seen2 .before .before .before in
+    let entry = at-glance .before .before .before .before .before .before .before in
+    let ok = rw (at-seen2 .seen2 .given .1) at (at-glance .glance .ensures) in
+    let pre = entry .pre in
+    let tr = at-loop .loop .inv .0 in
+    let is = ap (λ (k : ℕ). set (at-loop .loop .q) k (at-loop .loop .c)) (at-wide .wide .ensures .0) ∙ at-loop .loop .inv .1 (at-loop .loop .c) in
+    (omega (arith, pre .0, at-if2 .if2 .left), (pre .1 .0, trying-partial tr (c .before .before .loop-test .taken) is (pre .1 .1), rw is (cursor-settle _ (at-loop .loop .c) (ok .unsettled) (ok .on)), trying-long tr is))
 
 probe-enum-known-used : (t : ℕ) → probe-lts.Need-enum-known-used (cs t) (probe-at t) probe.Post probe-Inv-loop probe-μ-loop
 probe-enum-known-used t c = search needs
@@ -119,7 +128,12 @@ probe-has-requires : (t : ℕ) → probe-lts.Need-has-requires (cs t) (probe-at 
 probe-has-requires t c κs = search needs
 
 probe-returns-6 : (t : ℕ) → probe-lts.Need-returns-6 (cs t) (probe-at t) probe.Post probe-Inv-loop probe-μ-loop
-probe-returns-6 t c = trying-skips (c .before .before .before .before .before .before .before .before .before .loop .inv .0) (ap (λ (k : ℕ). set (c .before .before .before .before .before .before .before .before .before .loop .q) k (c .before .before .before .before .before .before .before .before .before .loop .c)) (c .before .before .before .before .before .before .before .before .before .before .before .before .before .wide .ensures .0) ∙ c .before .before .before .before .before .before .before .before .before .loop .inv .1 (c .before .before .before .before .before .before .before .before .before .loop .c)) (c .before .has .ensures .1 (not-true _ (c .if3 .taken))) (rw (c .before .before .before .used .given .1) at (c .before .before .before .before .before .probe .ensures))
+probe-returns-6 t c =
+    let at-used = c .before .before .before in
+    let at-probe = at-used .before .before in
+    let at-loop = at-probe .before .before .before .before in
+    let at-wide = at-loop .before .before .before .before in
+    trying-skips (at-loop .loop .inv .0) (ap (λ (k : ℕ). set (at-loop .loop .q) k (at-loop .loop .c)) (at-wide .wide .ensures .0) ∙ at-loop .loop .inv .1 (at-loop .loop .c)) (c .before .has .ensures .1 (not-true _ (c .if3 .taken))) (rw (at-used .used .given .1) at (at-probe .probe .ensures))
 
 probe-join-requires : (t : ℕ) → probe-lts.Need-join-requires (cs t) (probe-at t) probe.Post probe-Inv-loop probe-μ-loop
 probe-join-requires t c κs = search needs
@@ -131,7 +145,13 @@ probe-loop-less : (t : ℕ) → probe-lts.Need-loop-less (cs t) (probe-at t) pro
 probe-loop-less t c = search needs
 
 probe-loop-again : (t : ℕ) → probe-lts.Need-loop-again (cs t) (probe-at t) probe.Post probe-Inv-loop probe-μ-loop
-probe-loop-again t c = (trying-more (c .before .before .before .before .before .before .before .before .before .before .loop .inv .0) (c .before .before .before .before .before .before .before .before .before .loop-test .taken) (ap (λ (k : ℕ). set (c .before .before .before .before .before .before .before .before .before .before .loop .q) k (c .before .before .before .before .before .before .before .before .before .before .loop .c)) (c .before .before .before .before .before .before .before .before .before .before .before .before .before .before .wide .ensures .0) ∙ c .before .before .before .before .before .before .before .before .before .before .loop .inv .1 (c .before .before .before .before .before .before .before .before .before .before .loop .c)) (rw (c .before .before .before .before .used .given .1) at (c .before .before .before .before .before .before .probe .ensures)) (c .join .ensures), λ v. rw (c .before .before .before .before .before .before .before .before .before .before .before .before .before .before .wide .ensures .0) (set-set (c .before .before .before .before .before .before .before .before .before .before .loop .q) _ (c .before .before .before .before .before .before .before .before .before .before .loop .c) v ∙ c .before .before .before .before .before .before .before .before .before .before .loop .inv .1 v))
+probe-loop-again t c =
+    let at-used = c .before .before .before .before in
+    let at-probe = at-used .before .before in
+    let at-loop-test = at-probe .before .before .before in
+    let at-loop = at-loop-test .before in
+    let at-wide = at-loop .before .before .before .before in
+    (trying-more (at-loop .loop .inv .0) (at-loop-test .loop-test .taken) (ap (λ (k : ℕ). set (at-loop .loop .q) k (at-loop .loop .c)) (at-wide .wide .ensures .0) ∙ at-loop .loop .inv .1 (at-loop .loop .c)) (rw (at-used .used .given .1) at (at-probe .probe .ensures)) (c .join .ensures), λ v. rw (at-wide .wide .ensures .0) (set-set (at-loop .loop .q) _ (at-loop .loop .c) v ∙ at-loop .loop .inv .1 v))
 
 probe-without-requires : (t : ℕ) → probe-lts.Need-without-requires (cs t) (probe-at t) probe.Post probe-Inv-loop probe-μ-loop
 probe-without-requires t c κs = search needs

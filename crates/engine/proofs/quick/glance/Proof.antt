@@ -34,7 +34,10 @@ meet-requires : tie.Need-meet-requires
 meet-requires c κs = search needs
 
 aim-requires-2 : tie.Need-aim-requires-2
-aim-requires-2 c κs = rw (c .before .before .before .before .before .here .given .1) at (c .before .before .before .before .before .before .before .halt .ensures)
+aim-requires-2 c κs =
+    let at-here = c .before .before .before .before .before in
+    let at-halt = at-here .before .before in
+    rw (at-here .here .given .1) at (at-halt .halt .ensures)
 
 returns-2 : tie.Need-returns-2
 returns-2 c = fails-none (rw (c .before .used .given .1) at (c .before .before .before .halt .ensures))

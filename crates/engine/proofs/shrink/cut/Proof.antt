@@ -23,7 +23,9 @@ array-write-less : tie.Need-array-write-less
 array-write-less c = search needs
 
 returns-3 : tie.Need-returns-3
-returns-3 c = rw (c .wide .ensures .0) (kept-cut (c .before .before .before .before .before .args .j) (omega arith) (c .before .before .before .before .before .pre))
+returns-3 c =
+    let entry = c .before .before .before .before .before in
+    rw (c .wide .ensures .0) (kept-cut (entry .args .j) (omega arith) (entry .pre))
 
 pub cut-spec : {M : Type 1} → statement M
 cut-spec =

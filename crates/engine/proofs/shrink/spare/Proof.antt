@@ -24,7 +24,9 @@ array-write-less : tie.Need-array-write-less
 array-write-less c = search needs
 
 over-requires : tie.Need-over-requires
-over-requires c κs = (c .before .before .before .before .before .before .pre .0, rw (c .before .wide .ensures .0) (kept-part (c .before .before .before .before .before .before .args .j) (omega arith) (c .before .before .before .before .before .before .pre .1)))
+over-requires c κs =
+    let entry = c .before .before .before .before .before .before in
+    (entry .pre .0, rw (c .before .wide .ensures .0) (kept-part (entry .args .j) (omega arith) (entry .pre .1)))
 
 enum-known-used : tie.Need-enum-known-used
 enum-known-used c = search needs
@@ -37,8 +39,11 @@ returns-3 c = search needs
 
 returns-4 : tie.Need-returns-4
 returns-4 c =
-    let cf = rw (c .before .used .given .1) at (c .before .before .before .over .ensures) in
-    rw (c .before .before .before .before .before .wide .ensures .0) (kept-spare (c .before .before .before .before .before .before .before .before .before .before .args .j) (omega arith) (c .before .before .before .before .before .before .before .before .before .before .pre .1) (rw (c .before .before .before .before .before .wide .ensures .0) at cf))
+    let at-over = c .before .before .before in
+    let at-wide = at-over .before .before in
+    let entry = at-wide .before .before .before .before .before in
+    let cf = rw (c .before .used .given .1) at (at-over .over .ensures) in
+    rw (at-wide .wide .ensures .0) (kept-spare (entry .args .j) (omega arith) (entry .pre .1) (rw (at-wide .wide .ensures .0) at cf))
 
 pub spare-spec : {M : Type 1} → statement M
 spare-spec =

@@ -32,7 +32,10 @@ matches-requires : tie.Need-matches-requires Inv-loop μ-loop
 matches-requires c κs = search needs
 
 returns : tie.Need-returns Inv-loop μ-loop
-returns c = matched (c .before .before .before .before .before .loop .e) (c .before .before .before .before .before .before .before .before .before .before .before .pre) (omega arith) refl (c .before .matches .ensures (c .if2 .taken))
+returns c =
+    let at-loop = c .before .before .before .before .before in
+    let entry = at-loop .before .before .before .before .before .before in
+    matched (at-loop .loop .e) (entry .pre) (omega arith) refl (c .before .matches .ensures (c .if2 .taken))
 
 add-e : tie.Need-add-e Inv-loop μ-loop
 add-e c = search needs

@@ -25,7 +25,10 @@ same-length-2 : tie.Need-same-length-2
 same-length-2 c = search needs
 
 returns-2 : tie.Need-returns-2
-returns-2 c = store-more (c .before .before .before .before .entry .result) (c .before .before .before .before .entry .ensures) (c .before .before .before .before .before .before .before .before .before .before .pre .0) (c .before .before .before .before .before .before .before .before .before .before .pre .1) (c .before .before .before .before .before .before .before .before .before .before .pre .2) (c .before .before .write .ensures)
+returns-2 c =
+    let at-entry = c .before .before .before .before in
+    let entry-2 = at-entry .before .before .before .before .before .before in
+    store-more (at-entry .entry .result) (at-entry .entry .ensures) (entry-2 .pre .0) (entry-2 .pre .1) (entry-2 .pre .2) (c .before .before .write .ensures)
 
 pub learn-spec : {M : Type 1} → statement M
 learn-spec =

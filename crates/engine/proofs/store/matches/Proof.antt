@@ -47,7 +47,12 @@ loop-less : tie.Need-loop-less Inv-loop μ-loop
 loop-less c = search needs
 
 loop-again : tie.Need-loop-again Inv-loop μ-loop
-loop-again c = match-more (c .before .before .before .before .before .before .before .loop .inv) (c .before .before .before .before .before .before .loop-test .taken) (rw (c .before .before .before .before .before .wide .ensures .0, c .before .before .before .value-at .ensures) at (c .before .agrees .ensures (not-false _ (c .if1 .left))))
+loop-again c =
+    let at-value-at = c .before .before .before in
+    let at-wide = at-value-at .before .before in
+    let at-loop-test = at-wide .before in
+    let at-loop = at-loop-test .before in
+    match-more (at-loop .loop .inv) (at-loop-test .loop-test .taken) (rw (at-wide .wide .ensures .0, at-value-at .value-at .ensures) at (c .before .agrees .ensures (not-false _ (c .if1 .left))))
 
 returns-2 : tie.Need-returns-2 Inv-loop μ-loop
 returns-2 c = λ x. match-all (c .before .loop .inv) (c .loop-test .left)

@@ -35,17 +35,23 @@ add-result c = search needs
 
 returns-3 : tie.Need-returns-3
 unfolding tables
-returns-3 c = λ start.
-    let a = c .before .before .before .before .before .args in
+returns-3 c =
+    let at-if1 = c .before .before .before in
+    let entry = at-if1 .before .before in
+    λ start.
+    let a = entry .args in
     let e = c .before .first-showing .ensures start in
-    add-one (a .j) ∙ sym (cell-new (tables (a .n) (a .k) start (a .so .now) (a .sn .now) (a .mo .now) (a .mn .now)) (near (a .dist .now) (a .j)) (a .j) (a .i) (getD (a .dist .now) (a .i) 0) (c .before .before .before .if1 .left) (c .before .before .before .before .before .pre .1 .0) (c .before .before .if2 .left) (rw e at (c .if3 .taken)))
+    add-one (a .j) ∙ sym (cell-new (tables (a .n) (a .k) start (a .so .now) (a .sn .now) (a .mo .now) (a .mn .now)) (near (a .dist .now) (a .j)) (a .j) (a .i) (getD (a .dist .now) (a .i) 0) (at-if1 .if1 .left) (entry .pre .1 .0) (c .before .before .if2 .left) (rw e at (c .if3 .taken)))
 
 returns-4 : tie.Need-returns-4
 unfolding tables
-returns-4 c = λ start.
-    let a = c .before .before .before .before .before .args in
+returns-4 c =
+    let at-if1 = c .before .before .before in
+    let entry = at-if1 .before .before in
+    λ start.
+    let a = entry .args in
     let e = c .before .first-showing .ensures start in
-    sym (cell-none (tables (a .n) (a .k) start (a .so .now) (a .sn .now) (a .mo .now) (a .mn .now)) (near (a .dist .now) (a .j)) (a .j) (a .i) (getD (a .dist .now) (a .i) 0) (c .before .before .before .if1 .left) (c .before .before .before .before .before .pre .1 .0) (c .before .before .if2 .left) (rw e at (c .if3 .left)))
+    sym (cell-none (tables (a .n) (a .k) start (a .so .now) (a .sn .now) (a .mo .now) (a .mn .now)) (near (a .dist .now) (a .j)) (a .j) (a .i) (getD (a .dist .now) (a .i) 0) (at-if1 .if1 .left) (entry .pre .1 .0) (c .before .before .if2 .left) (rw e at (c .if3 .left)))
 
 pub cell-spec : {M : Type 1} → statement M
 cell-spec =

@@ -38,29 +38,43 @@ add-d c = omega arith
 follow-requires : tie.Need-follow-requires Inv-loop μ-loop
 unfolding tables
 follow-requires c κs =
-    let p = c .before .before .before .before .before .before .before .before .before .before .pre in
-    let l = c .before .before .before .before .before .before .loop in
+    let at-first-showing = c .before .before .before in
+    let at-loop-test = at-first-showing .before .before in
+    let at-loop = at-loop-test .before in
+    let entry = at-loop .before .before .before .before in
+    let p = entry .pre in
+    let l = at-loop .loop in
     let s = l .inv .3 in
     let e : l .j + 1 - 1 ≡ l .j = omega arith in
-    let start = c .before .before .before .before .before .before .before .before .before .before .args .start in
-    (p .0, (p .1 .0, (rw e (s .marks), (found-exact (p .0 .closed start) (p .1 .0) s (c .before .before .before .first-showing .ensures start) (c .before .before .if1 .taken), omega (arith, ap length (s .untouched), p .1 .1, l .inv .0, c .before .before .before .before .before .loop-test .taken)))))
+    let start = entry .args .start in
+    (p .0, (p .1 .0, (rw e (s .marks), (found-exact (p .0 .closed start) (p .1 .0) s (at-first-showing .first-showing .ensures start) (c .before .before .if1 .taken), omega (arith, ap length (s .untouched), p .1 .1, l .inv .0, at-loop-test .loop-test .taken)))))
 
 cast-t21 : tie.Need-cast-t21 Inv-loop μ-loop
 cast-t21 c = omega arith
 
 same-length : tie.Need-same-length Inv-loop μ-loop
-same-length c = c .before .before .follow .kept .1 .1 .1 .1 .1 .1 .1 .1 .1 .0 ∙ ap length (c .before .before .before .before .before .before .before .before .before .loop .inv .3 .untouched)
+same-length c =
+    let at-loop = c .before .before .before .before .before .before .before .before .before in
+    c .before .before .follow .kept .1 .1 .1 .1 .1 .1 .1 .1 .1 .0 ∙ ap length (at-loop .loop .inv .3 .untouched)
 
 returns : tie.Need-returns Inv-loop μ-loop
 unfolding tables
 returns c =
-    let p = c .before .before .before .before .before .before .before .before .before .before .before .before .before .pre in
-    let l = c .before .before .before .before .before .before .before .before .before .loop in
-    let start = c .before .before .before .before .before .before .before .before .before .before .before .before .before .args .start in
-    tells-found (p .0 .closed start) (p .1 .0) (l .inv .3) (c .before .before .before .before .before .before .first-showing .ensures start) (c .before .before .before .before .before .if1 .taken) (omega (arith, l .inv .0, c .before .before .before .before .before .before .before .before .loop-test .taken)) (c .before .before .follow .ensures)
+    let at-if1 = c .before .before .before .before .before in
+    let at-first-showing = at-if1 .before in
+    let at-loop-test = at-first-showing .before .before in
+    let at-loop = at-loop-test .before in
+    let entry = at-loop .before .before .before .before in
+    let p = entry .pre in
+    let l = at-loop .loop in
+    let start = entry .args .start in
+    tells-found (p .0 .closed start) (p .1 .0) (l .inv .3) (at-first-showing .first-showing .ensures start) (at-if1 .if1 .taken) (omega (arith, l .inv .0, at-loop-test .loop-test .taken)) (c .before .before .follow .ensures)
 
 round-requires : tie.Need-round-requires Inv-loop μ-loop
-round-requires c κs = (c .before .before .before .before .before .before .before .before .before .pre .0, (omega arith, c .before .before .before .before .before .loop .inv .3 .full))
+round-requires c κs =
+    let at-loop = c .before .before .before .before .before in
+    let entry = at-loop .before .before .before .before in
+    (entry .pre .0, (omega arith, at-loop .loop .inv .3 .full))
 
 same-length-2 : tie.Need-same-length-2 Inv-loop μ-loop
 same-length-2 c = ap length (c .before .before .before .before .before .before .before .loop .inv .3 .untouched)
@@ -68,10 +82,13 @@ same-length-2 c = ap length (c .before .before .before .before .before .before .
 returns-2 : tie.Need-returns-2 Inv-loop μ-loop
 unfolding tables
 returns-2 c =
-    let p = c .before .before .before .before .before .before .before .before .before .before .before .pre in
+    let at-loop-test = c .before .before .before .before .before .before in
+    let at-loop = at-loop-test .before in
+    let entry = at-loop .before .before .before .before in
+    let p = entry .pre in
     let r = c .before .round in
-    let start = c .before .before .before .before .before .before .before .before .before .before .before .args .start in
-    tells-stable (p .0 .closed start) (p .1 .0) (c .before .before .before .before .before .before .before .loop .inv .3) (r .last .1 .1 .1 .1 .0) (p .0 .few-states) (omega (arith, c .before .before .before .before .before .before .before .loop .inv .1, c .before .before .before .before .before .before .loop-test .taken)) (r .ensures .1 .0 start) (r .ensures .1 .1 (not-true (r .result) (c .if2 .taken)))
+    let start = entry .args .start in
+    tells-stable (p .0 .closed start) (p .1 .0) (at-loop .loop .inv .3) (r .last .1 .1 .1 .1 .0) (p .0 .few-states) (omega (arith, at-loop .loop .inv .1, at-loop-test .loop-test .taken)) (r .ensures .1 .0 start) (r .ensures .1 .1 (not-true (r .result) (c .if2 .taken)))
 
 add-j : tie.Need-add-j Inv-loop μ-loop
 add-j c = omega arith
@@ -82,11 +99,16 @@ loop-less c = omega arith
 loop-again : tie.Need-loop-again Inv-loop μ-loop
 unfolding tables
 loop-again c =
-    let p = c .before .before .before .before .before .before .before .before .before .before .before .pre in
-    let i = c .before .before .before .before .before .before .before .loop .inv in
+    let at-if1 = c .before .before .before in
+    let at-first-showing = at-if1 .before in
+    let at-loop-test = at-first-showing .before .before in
+    let at-loop = at-loop-test .before in
+    let entry = at-loop .before .before .before .before in
+    let p = entry .pre in
+    let i = at-loop .loop .inv in
     let r = c .before .round .ensures in
-    let start = c .before .before .before .before .before .before .before .before .before .before .before .args .start in
-    (i .0, i .1, omega arith, search-more (p .0 .closed start) (p .1 .0) (i .3) _ (p .0 .few-states) (omega (arith, i .1, c .before .before .before .before .before .before .loop-test .taken)) (r .1 .0 start) (c .before .before .before .before .first-showing .ensures start) (c .before .before .before .if1 .left) (r .0))
+    let start = entry .args .start in
+    (i .0, i .1, omega arith, search-more (p .0 .closed start) (p .1 .0) (i .3) _ (p .0 .few-states) (omega (arith, i .1, at-loop-test .loop-test .taken)) (r .1 .0 start) (at-first-showing .first-showing .ensures start) (at-if1 .if1 .left) (r .0))
 
 same-length-3 : tie.Need-same-length-3 Inv-loop μ-loop
 same-length-3 c = ap length (c .before .loop .inv .3 .untouched)
@@ -94,8 +116,9 @@ same-length-3 c = ap length (c .before .loop .inv .3 .untouched)
 returns-3 : tie.Need-returns-3 Inv-loop μ-loop
 unfolding tables
 returns-3 c =
-    let p = c .before .before .before .before .before .pre in
-    tells-last (p .0 .closed (c .before .before .before .before .before .args .start)) (p .1 .0) (c .before .loop .inv .3) (omega arith)
+    let entry = c .before .before .before .before .before in
+    let p = entry .pre in
+    tells-last (p .0 .closed (entry .args .start)) (p .1 .0) (c .before .loop .inv .3) (omega arith)
 
 pub distinguish-spec : {M : Type 1} → statement M
 distinguish-spec =

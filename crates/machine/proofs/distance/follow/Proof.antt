@@ -56,36 +56,54 @@ slice-write-buf c = omega (arith, c .before .before .loop .inv .counts, c .befor
 
 mul-wide : tie.Need-mul-wide Inv-loop μ-loop
 unfolding tables
-mul-wide c = omega (arith, small c, c .before .before .before .before .pre .0 .few-inputs, c .before .before .before .before .pre .0 .few-states, c .before .before .loop .inv .p-below)
+mul-wide c =
+    let entry = c .before .before .before .before in
+    omega (arith, small c, entry .pre .0 .few-inputs, entry .pre .0 .few-states, c .before .before .loop .inv .p-below)
 
 add-wide : tie.Need-add-wide Inv-loop μ-loop
 unfolding tables
-add-wide c = omega (arith, small c, c .before .before .before .before .pre .0 .few-inputs, c .before .before .before .before .pre .0 .few-states, c .before .before .loop .inv .p-below)
+add-wide c =
+    let entry = c .before .before .before .before in
+    omega (arith, small c, entry .pre .0 .few-inputs, entry .pre .0 .few-states, c .before .before .loop .inv .p-below)
 
 element-copy-out-wide : tie.Need-element-copy-out-wide Inv-loop μ-loop
 unfolding tables
-element-copy-out-wide c = omega (arith, small c, c .before .before .before .before .pre .0 .few-inputs, c .before .before .before .before .pre .0 .few-states, c .before .before .loop .inv .p-below)
+element-copy-out-wide c =
+    let entry = c .before .before .before .before in
+    omega (arith, small c, entry .pre .0 .few-inputs, entry .pre .0 .few-states, c .before .before .loop .inv .p-below)
 
 wide-requires : tie.Need-wide-requires Inv-loop μ-loop
 wide-requires c κs = tt
 
 mul-wide-2 : tie.Need-mul-wide-2 Inv-loop μ-loop
 unfolding tables
-mul-wide-2 c = omega (arith, small (c .before .before), c .before .before .before .before .before .before .pre .0 .few-inputs, c .before .before .before .before .before .before .pre .0 .few-states, c .before .before .before .before .loop .inv .q-below)
+mul-wide-2 c =
+    let at-loop = c .before .before .before .before in
+    let entry = at-loop .before .before in
+    omega (arith, small (c .before .before), entry .pre .0 .few-inputs, entry .pre .0 .few-states, at-loop .loop .inv .q-below)
 
 add-wide-2 : tie.Need-add-wide-2 Inv-loop μ-loop
 unfolding tables
-add-wide-2 c = omega (arith, small (c .before .before), c .before .before .before .before .before .before .pre .0 .few-inputs, c .before .before .before .before .before .before .pre .0 .few-states, c .before .before .before .before .loop .inv .q-below)
+add-wide-2 c =
+    let at-loop = c .before .before .before .before in
+    let entry = at-loop .before .before in
+    omega (arith, small (c .before .before), entry .pre .0 .few-inputs, entry .pre .0 .few-states, at-loop .loop .inv .q-below)
 
 element-copy-out-wide-2 : tie.Need-element-copy-out-wide-2 Inv-loop μ-loop
 unfolding tables
-element-copy-out-wide-2 c = omega (arith, small (c .before .before), c .before .before .before .before .before .before .pre .0 .few-inputs, c .before .before .before .before .before .before .pre .0 .few-states, c .before .before .before .before .loop .inv .q-below)
+element-copy-out-wide-2 c =
+    let at-loop = c .before .before .before .before in
+    let entry = at-loop .before .before in
+    omega (arith, small (c .before .before), entry .pre .0 .few-inputs, entry .pre .0 .few-states, at-loop .loop .inv .q-below)
 
 wide-requires-2 : tie.Need-wide-requires-2 Inv-loop μ-loop
 wide-requires-2 c κs = tt
 
 add-i : tie.Need-add-i Inv-loop μ-loop
-add-i c = omega (arith, c .before .before .before .before .before .before .loop .inv .counts, c .before .before .before .before .before .before .before .before .fits .d)
+add-i c =
+    let at-loop = c .before .before .before .before .before .before in
+    let at-fits = at-loop .before .before in
+    omega (arith, at-loop .loop .inv .counts, at-fits .fits .d)
 
 loop-less : tie.Need-loop-less Inv-loop μ-loop
 loop-less c = omega arith
@@ -93,11 +111,14 @@ loop-less c = omega arith
 loop-again : tie.Need-loop-again Inv-loop μ-loop
 unfolding tables moveIn
 loop-again c =
-    let s = c .before .before .before .before .before .before .before .before in
+    let at-first-showing = c .before .before .before .before in
+    let at-loop = at-first-showing .before .before in
+    let place = at-loop .before .before in
+    let s = place in
     let a = s .args in
-    let l = c .before .before .before .before .before .before .loop in
-    let t = found (c .before .before .before .before) in
-    let x = c .before .before .before .before .first-showing .result in
+    let l = at-loop .loop in
+    let t = found (at-first-showing) in
+    let x = at-first-showing .first-showing .result in
     let f : Following (tables (a .n) (a .k) (a .start) (a .so .now) (a .sn .now) (a .mo .now) (a .mn .now)) (a .d) (a .buf .now) (l .buf) (l .p) (l .q) (l .i) (suc (l .left - 1)) =
     subst (λ (n : ℕ). Following (tables (a .n) (a .k) (a .start) (a .so .now) (a .sn .now) (a .mo .now) (a .mn .now)) (a .d) (a .buf .now) (l .buf) (l .p) (l .q) (l .i) n) (t .one-less) (l .inv) in
     follow-more (tables (a .n) (a .k) (a .start) (a .so .now) (a .sn .now) (a .mo .now) (a .mn .now)) (a .d) (a .buf .now) (l .buf) (l .p) (l .q) (l .i) (l .left - 1) x (c .before .before .wide .result) (c .wide2 .result) (s .pre .0 .closed (a .start)) f

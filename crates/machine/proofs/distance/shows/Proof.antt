@@ -41,9 +41,11 @@ element-copy-out-s c = search needs
 
 cast-s : tie.Need-cast-s
 cast-s c =
-    let s = c .before .before .before .before .before .before in
+    let at-if1 = c .before .before .before .before in
+    let place = at-if1 .before .before in
+    let s = place in
     let a = s .args in
-    omega (arith, s .pre .0 .few-states, next-below (a .n) (a .k) 0 (a .so .now) (a .sn .now) (a .mo .now) (a .mn .now) (a .p) (a .q) (a .x) (s .pre .1 .0) (s .pre .1 .1) (s .pre .1 .2) (s .pre .0) (c .before .before .before .before .if1 .left))
+    omega (arith, s .pre .0 .few-states, next-below (a .n) (a .k) 0 (a .so .now) (a .sn .now) (a .mo .now) (a .mn .now) (a .p) (a .q) (a .x) (s .pre .1 .0) (s .pre .1 .1) (s .pre .1 .2) (s .pre .0) (at-if1 .if1 .left))
 
 element-copy-out-t : tie.Need-element-copy-out-t
 element-copy-out-t c = search needs
@@ -53,9 +55,11 @@ small : (c : tie.After-t) →
     let a = c .before .before .before .before .before .before .before .args in
     (getD (a .sn .now) (a .p * 16 + a .x) 0 < c .before .before .before .before .before .before .before .args .n) × (getD (a .mn .now) (a .q * 16 + a .x) 0 < c .before .before .before .before .before .before .before .args .n)
 small c =
-    let s = c .before .before .before .before .before .before .before in
+    let at-if1 = c .before .before .before .before .before in
+    let place = at-if1 .before .before in
+    let s = place in
     let a = s .args in (
-      next-below (a .n) (a .k) 0 (a .so .now) (a .sn .now) (a .mo .now) (a .mn .now) (a .p) (a .q) (a .x) (s .pre .1 .0) (s .pre .1 .1) (s .pre .1 .2) (s .pre .0) (c .before .before .before .before .before .if1 .left),
+      next-below (a .n) (a .k) 0 (a .so .now) (a .sn .now) (a .mo .now) (a .mn .now) (a .p) (a .q) (a .x) (s .pre .1 .0) (s .pre .1 .1) (s .pre .1 .2) (s .pre .0) (at-if1 .if1 .left),
       move-next-below (a .n) (a .k) 0 (a .so .now) (a .sn .now) (a .mo .now) (a .mn .now) (a .p) (a .q) (a .x) (s .pre .1 .0) (s .pre .1 .1) (s .pre .1 .2) (s .pre .0),
     )
 
@@ -76,7 +80,11 @@ element-copy-out-result c = omega (arith, small c)
 
 returns-3 : tie.Need-returns-3
 unfolding near
-returns-3 c = λ start. let s = c .before .before .before .before .before .before .before .before in let a = s .args in sym (shows-same (a .n) (a .k) start (a .so .now) (a .sn .now) (a .mo .now) (a .mn .now) (a .p) (a .q) (a .x) (s .pre .1 .0) (s .pre .1 .1) (s .pre .1 .2) (near (a .dist .now) (a .j)) (c .before .before .before .before .before .before .if1 .left) (c .before .before .before .if2 .left))
+returns-3 c =
+    let at-if2 = c .before .before .before in
+    let at-if1 = at-if2 .before .before .before in
+    let place = at-if1 .before .before in
+    λ start. let s = place in let a = s .args in sym (shows-same (a .n) (a .k) start (a .so .now) (a .sn .now) (a .mo .now) (a .mn .now) (a .p) (a .q) (a .x) (s .pre .1 .0) (s .pre .1 .1) (s .pre .1 .2) (near (a .dist .now) (a .j)) (at-if1 .if1 .left) (at-if2 .if2 .left))
 
 pub shows-spec : {M : Type 1} → statement M
 shows-spec =

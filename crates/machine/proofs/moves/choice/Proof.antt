@@ -22,7 +22,10 @@ wide-requires-2 : tie.Need-wide-requires-2
 wide-requires-2 c κs = search needs
 
 returns-2 : tie.Need-returns-2
-returns-2 c = let a = c .before .before .before .before .before .before .args in c .wide2 .ensures ∙ ap (λ t. getD (a .mutant .now) t 0) (c .before .before .before .wide .ensures) ∙ choice-some (a .site .now) (a .mutant .now) (a .i) (λ e. c .before .before .if1 .left (c .before .before .before .wide .ensures ∙ e))
+returns-2 c =
+    let at-wide = c .before .before .before in
+    let entry = at-wide .before .before .before in
+    let a = entry .args in c .wide2 .ensures ∙ ap (λ t. getD (a .mutant .now) t 0) (at-wide .wide .ensures) ∙ choice-some (a .site .now) (a .mutant .now) (a .i) (λ e. c .before .before .if1 .left (at-wide .wide .ensures ∙ e))
 
 pub choice-spec : {M : Type 1} → statement M
 choice-spec =

@@ -30,7 +30,10 @@ element-copy-out-t24 : tie.Need-element-copy-out-t24
 element-copy-out-t24 c = search needs
 
 returns-2 : tie.Need-returns-2
-returns-2 c = let a = c .before .before .before .before .before .args in λ sh is few. rule-move sh (a .n) (a .k) (a .output .now) (a .target .now) (a .first .now) (a .mutated .now) (a .diverted .now) is (a .i) (c .before .before .before .before .before .pre .1) (a .c) few (c .before .before .before .if1 .left) (c .before .before .if2 .taken)
+returns-2 c =
+    let at-if1 = c .before .before .before in
+    let entry = at-if1 .before .before in
+    let a = entry .args in λ sh is few. rule-move sh (a .n) (a .k) (a .output .now) (a .target .now) (a .first .now) (a .mutated .now) (a .diverted .now) is (a .i) (entry .pre .1) (a .c) few (at-if1 .if1 .left) (c .before .before .if2 .taken)
 
 mul-fault : tie.Need-mul-fault
 mul-fault c = search needs
@@ -39,22 +42,37 @@ element-copy-out-fault : tie.Need-element-copy-out-fault
 element-copy-out-fault c = search needs
 
 cast-fault : tie.Need-cast-fault
-cast-fault c = let a = c .before .before .before .before .args in let p = c .before .before .before .before .pre .0 in omega (arith, fault-below (p .0) (a .n) (a .k) (a .output .now) (a .target .now) (a .first .now) (a .mutated .now) (a .diverted .now) (p .1) (a .i) (c .before .before .before .before .pre .1) (a .c) (p .2) (c .before .before .if1 .left) (c .before .if2 .left))
+cast-fault c =
+    let entry = c .before .before .before .before in
+    let a = entry .args in let p = entry .pre .0 in omega (arith, fault-below (p .0) (a .n) (a .k) (a .output .now) (a .target .now) (a .first .now) (a .mutated .now) (a .diverted .now) (p .1) (a .i) (entry .pre .1) (a .c) (p .2) (c .before .before .if1 .left) (c .before .if2 .left))
 
 add-fault : tie.Need-add-fault
-add-fault c = let a = c .before .before .before .before .args in let p = c .before .before .before .before .pre .0 in omega (arith, fault-below (p .0) (a .n) (a .k) (a .output .now) (a .target .now) (a .first .now) (a .mutated .now) (a .diverted .now) (p .1) (a .i) (c .before .before .before .before .pre .1) (a .c) (p .2) (c .before .before .if1 .left) (c .before .if2 .left))
+add-fault c =
+    let entry = c .before .before .before .before in
+    let a = entry .args in let p = entry .pre .0 in omega (arith, fault-below (p .0) (a .n) (a .k) (a .output .now) (a .target .now) (a .first .now) (a .mutated .now) (a .diverted .now) (p .1) (a .i) (entry .pre .1) (a .c) (p .2) (c .before .before .if1 .left) (c .before .if2 .left))
 
 sub-fault : tie.Need-sub-fault
-sub-fault c = let a = c .before .before .before .before .args in let p = c .before .before .before .before .pre .0 in omega (arith, fault-below (p .0) (a .n) (a .k) (a .output .now) (a .target .now) (a .first .now) (a .mutated .now) (a .diverted .now) (p .1) (a .i) (c .before .before .before .before .pre .1) (a .c) (p .2) (c .before .before .if1 .left) (c .before .if2 .left))
+sub-fault c =
+    let entry = c .before .before .before .before in
+    let a = entry .args in let p = entry .pre .0 in omega (arith, fault-below (p .0) (a .n) (a .k) (a .output .now) (a .target .now) (a .first .now) (a .mutated .now) (a .diverted .now) (p .1) (a .i) (entry .pre .1) (a .c) (p .2) (c .before .before .if1 .left) (c .before .if2 .left))
 
 element-copy-out-t13 : tie.Need-element-copy-out-t13
-element-copy-out-t13 c = let a = c .before .before .before .before .args in let p = c .before .before .before .before .pre .0 in omega (arith, fault-below (p .0) (a .n) (a .k) (a .output .now) (a .target .now) (a .first .now) (a .mutated .now) (a .diverted .now) (p .1) (a .i) (c .before .before .before .before .pre .1) (a .c) (p .2) (c .before .before .if1 .left) (c .before .if2 .left))
+element-copy-out-t13 c =
+    let entry = c .before .before .before .before in
+    let a = entry .args in let p = entry .pre .0 in omega (arith, fault-below (p .0) (a .n) (a .k) (a .output .now) (a .target .now) (a .first .now) (a .mutated .now) (a .diverted .now) (p .1) (a .i) (entry .pre .1) (a .c) (p .2) (c .before .before .if1 .left) (c .before .if2 .left))
 
 element-copy-out-t35 : tie.Need-element-copy-out-t35
-element-copy-out-t35 c = let a = c .before .before .before .before .before .args in let p = c .before .before .before .before .before .pre .0 in omega (arith, fault-below (p .0) (a .n) (a .k) (a .output .now) (a .target .now) (a .first .now) (a .mutated .now) (a .diverted .now) (p .1) (a .i) (c .before .before .before .before .before .pre .1) (a .c) (p .2) (c .before .before .before .if1 .left) (c .before .before .if2 .left))
+element-copy-out-t35 c =
+    let at-if1 = c .before .before .before in
+    let entry = at-if1 .before .before in
+    let a = entry .args in let p = entry .pre .0 in omega (arith, fault-below (p .0) (a .n) (a .k) (a .output .now) (a .target .now) (a .first .now) (a .mutated .now) (a .diverted .now) (p .1) (a .i) (entry .pre .1) (a .c) (p .2) (at-if1 .if1 .left) (c .before .before .if2 .left))
 
 returns-3 : tie.Need-returns-3
-returns-3 c = let a = c .before .before .before .before .before .before .args in λ sh is few. fault-move sh (a .n) (a .k) (a .output .now) (a .target .now) (a .first .now) (a .mutated .now) (a .diverted .now) is (a .i) (c .before .before .before .before .before .before .pre .1) (a .c) few (c .before .before .before .before .if1 .left) (c .before .before .before .if2 .left)
+returns-3 c =
+    let at-if2 = c .before .before .before in
+    let at-if1 = at-if2 .before in
+    let entry = at-if1 .before .before in
+    let a = entry .args in λ sh is few. fault-move sh (a .n) (a .k) (a .output .now) (a .target .now) (a .first .now) (a .mutated .now) (a .diverted .now) is (a .i) (entry .pre .1) (a .c) few (at-if1 .if1 .left) (at-if2 .if2 .left)
 
 pub transition-spec : {M : Type 1} → statement M
 transition-spec =

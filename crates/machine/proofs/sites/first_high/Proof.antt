@@ -30,7 +30,11 @@ cast-if1 : tie.Need-cast-if1 Inv-loop μ-loop
 cast-if1 c = omega (arith, c .shared-slice-known .given (c .before .before .before .loop .i))
 
 returns : tie.Need-returns Inv-loop μ-loop
-returns c = let a = c .before .before .before .before .before .args in let l = c .before .before .before .before .loop in high-at (a .sizes .now) (a .mutant .now) (omega (arith, c .before .before .before .before .before .pre)) (l .i) (c .before .before .before .loop-test .taken) (l .inv .1) (c .if1 .taken)
+returns c =
+    let at-loop-test = c .before .before .before in
+    let at-loop = at-loop-test .before in
+    let entry = at-loop .before in
+    let a = entry .args in let l = at-loop .loop in high-at (a .sizes .now) (a .mutant .now) (omega (arith, entry .pre)) (l .i) (at-loop-test .loop-test .taken) (l .inv .1) (c .if1 .taken)
 
 add-i : tie.Need-add-i Inv-loop μ-loop
 add-i c = omega (arith, c .before .before .before .before .before .pre)

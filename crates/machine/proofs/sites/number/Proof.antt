@@ -31,9 +31,11 @@ is-open-requires c κs = omega arith
 -- at a suspect there is room for one more
 space : (c : tie.Then1 Inv-loop μ-loop) → c .before .before .before .loop .count < 32
 space c =
-    let a = c .before .before .before .before .before .before .args in
-    let p = c .before .before .before .before .before .before .pre in
-    let l = c .before .before .before .loop in
+    let at-loop = c .before .before .before in
+    let entry = at-loop .before .before .before in
+    let a = entry .args in
+    let p = entry .pre in
+    let l = at-loop .loop in
     omega (arith, l .inv .counts, room (a .n) (a .k) (a .choices .now) (l .i) (omega arith) (p .1) (sym (c .before .is-open .ensures (a .n) (omega arith)) ∙ c .if1 .taken))
 
 cast-site : tie.Need-cast-site Inv-loop μ-loop
@@ -65,9 +67,11 @@ loop-less c = omega arith
 
 loop-again : tie.Need-loop-again Inv-loop μ-loop
 loop-again c =
-    let a = c .before .before .before .before .before .before .args in
-    let p = c .before .before .before .before .before .before .pre in
-    let l = c .before .before .before .loop in
+    let at-loop = c .before .before .before in
+    let entry = at-loop .before .before .before in
+    let a = entry .args in
+    let p = entry .pre in
+    let l = at-loop .loop in
     let e = sym (c .before .is-open .ensures (a .n) (omega arith)) in
     ⊎-elim
     (λ w. rw (w .2, w .3, w .4) (number-open (a .n) (a .k) (a .choices .now) (l .site) (l .slots) (l .count) (l .i) (l .inv) (omega arith) (p .1) (e ∙ w .0 .taken)))

@@ -24,7 +24,11 @@ wide-requires : tie.Need-wide-requires Inv-loop μ-loop
 wide-requires c κs = tt
 
 returns : tie.Need-returns Inv-loop μ-loop
-returns c = let a = c .before .before .before .before .before .before .args in let l = c .before .before .before .before .loop in over-at (a .k) (a .inputs .now) (l .i) (l .inv .1) (c .before .before .before .loop-test .taken) (omega (arith, c .before .wide .ensures, c .if1 .taken))
+returns c =
+    let at-loop-test = c .before .before .before in
+    let at-loop = at-loop-test .before in
+    let entry = at-loop .before .before in
+    let a = entry .args in let l = at-loop .loop in over-at (a .k) (a .inputs .now) (l .i) (l .inv .1) (at-loop-test .loop-test .taken) (omega (arith, c .before .wide .ensures, c .if1 .taken))
 
 add-i : tie.Need-add-i Inv-loop μ-loop
 add-i c = omega (arith, c .before .before .before .before .before .before .good)

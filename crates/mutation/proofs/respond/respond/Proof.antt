@@ -29,38 +29,59 @@ wide-requires : tie.Need-wide-requires Inv-loop μ-loop
 wide-requires c κs = tt
 
 add-at : tie.Need-add-at Inv-loop μ-loop
-add-at c = let a = c .before .before .before .before .before .before .args in let l = c .before .before .before .loop in let p = c .before .before .before .before .before .before .pre in let h : c .wide .result < a .k = rw (c .wide .ensures) (p .1 .1 .0 (l .i) (c .before .before .loop-test .taken)) in let t = stepped (a .n) (a .k) (a .mo .now) (a .mn .now) (l .s) (c .wide .result) (p .0) (l .inv .state) h in omega (arith, t .index)
+add-at c =
+    let at-loop = c .before .before .before in
+    let entry = at-loop .before .before .before in
+    let a = entry .args in let l = at-loop .loop in let p = entry .pre in let h : c .wide .result < a .k = rw (c .wide .ensures) (p .1 .1 .0 (l .i) (c .before .before .loop-test .taken)) in let t = stepped (a .n) (a .k) (a .mo .now) (a .mn .now) (l .s) (c .wide .result) (p .0) (l .inv .state) h in omega (arith, t .index)
 
 element-copy-out-buffer : tie.Need-element-copy-out-buffer Inv-loop μ-loop
-element-copy-out-buffer c = let a = c .before .before .before .before .before .before .args in let l = c .before .before .before .loop in let p = c .before .before .before .before .before .before .pre in let h : c .wide .result < a .k = rw (c .wide .ensures) (p .1 .1 .0 (l .i) (c .before .before .loop-test .taken)) in let t = stepped (a .n) (a .k) (a .mo .now) (a .mn .now) (l .s) (c .wide .result) (p .0) (l .inv .state) h in omega (arith, t .index)
+element-copy-out-buffer c =
+    let at-loop = c .before .before .before in
+    let entry = at-loop .before .before .before in
+    let a = entry .args in let l = at-loop .loop in let p = entry .pre in let h : c .wide .result < a .k = rw (c .wide .ensures) (p .1 .1 .0 (l .i) (c .before .before .loop-test .taken)) in let t = stepped (a .n) (a .k) (a .mo .now) (a .mn .now) (l .s) (c .wide .result) (p .0) (l .inv .state) h in omega (arith, t .index)
 
 slice-write-buffer : tie.Need-slice-write-buffer Inv-loop μ-loop
-slice-write-buffer c = omega (arith, c .before .before .before .before .loop .inv .long, c .before .before .before .loop-test .taken, c .before .before .before .before .before .before .before .pre .1 .1 .1)
+slice-write-buffer c =
+    let at-loop-test = c .before .before .before in
+    let at-loop = at-loop-test .before in
+    let entry = at-loop .before .before .before in
+    omega (arith, at-loop .loop .inv .long, at-loop-test .loop-test .taken, entry .pre .1 .1 .1)
 
 element-copy-out-wide : tie.Need-element-copy-out-wide Inv-loop μ-loop
-element-copy-out-wide c = let a = c .before .before .before .before .before .before .before .args in let l = c .before .before .before .before .loop in let p = c .before .before .before .before .before .before .before .pre in let h : c .before .wide .result < a .k = rw (c .before .wide .ensures) (p .1 .1 .0 (l .i) (c .before .before .before .loop-test .taken)) in let t = stepped (a .n) (a .k) (a .mo .now) (a .mn .now) (l .s) (c .before .wide .result) (p .0) (l .inv .state) h in omega (arith, t .index)
+element-copy-out-wide c =
+    let at-loop-test = c .before .before .before in
+    let at-loop = at-loop-test .before in
+    let entry = at-loop .before .before .before in
+    let a = entry .args in let l = at-loop .loop in let p = entry .pre in let h : c .before .wide .result < a .k = rw (c .before .wide .ensures) (p .1 .1 .0 (l .i) (at-loop-test .loop-test .taken)) in let t = stepped (a .n) (a .k) (a .mo .now) (a .mn .now) (l .s) (c .before .wide .result) (p .0) (l .inv .state) h in omega (arith, t .index)
 
 wide-requires-2 : tie.Need-wide-requires-2 Inv-loop μ-loop
 wide-requires-2 c κs = tt
 
 add-i : tie.Need-add-i Inv-loop μ-loop
-add-i c = omega (arith, c .before .before .before .before .before .loop-test .taken, c .before .before .before .before .before .before .before .before .before .good)
+add-i c =
+    let at-loop-test = c .before .before .before .before .before in
+    let entry = at-loop-test .before .before .before .before in
+    omega (arith, at-loop-test .loop-test .taken, entry .good)
 
 loop-less : tie.Need-loop-less Inv-loop μ-loop
 loop-less c = omega arith
 
 loop-again : tie.Need-loop-again Inv-loop μ-loop
 loop-again c =
-    let a = c .before .before .before .before .before .before .before .before .before .args in
-    let l = c .before .before .before .before .before .before .loop in
-    let p = c .before .before .before .before .before .before .before .before .before .pre in
-    let h : c .before .before .before .wide .result < a .k = rw (c .before .before .before .wide .ensures) (p .1 .1 .0 (l .i) (c .before .before .before .before .before .loop-test .taken)) in
-    let t = stepped (a .n) (a .k) (a .mo .now) (a .mn .now) (l .s) (c .before .before .before .wide .result) (p .0) (l .inv .state) h in
+    let at-wide = c .before .before .before in
+    let at-loop-test = at-wide .before .before in
+    let at-loop = at-loop-test .before in
+    let entry = at-loop .before .before .before in
+    let a = entry .args in
+    let l = at-loop .loop in
+    let p = entry .pre in
+    let h : at-wide .wide .result < a .k = rw (at-wide .wide .ensures) (p .1 .1 .0 (l .i) (at-loop-test .loop-test .taken)) in
+    let t = stepped (a .n) (a .k) (a .mo .now) (a .mn .now) (l .s) (at-wide .wide .result) (p .0) (l .inv .state) h in
     let m : ℕ → ℕ → Move = movesIn (a .n) (a .k) (a .mo .now) (a .mn .now) in
-    respond-more m (a .n) (a .start) (a .inputs .now) (a .buffer .now) (l .buffer) (l .s) (l .i) _ (c .wide2 .result) (l .inv) (c .before .before .before .before .before .loop-test .taken)
+    respond-more m (a .n) (a .start) (a .inputs .now) (a .buffer .now) (l .buffer) (l .s) (l .i) _ (c .wide2 .result) (l .inv) (at-loop-test .loop-test .taken)
     (omega (arith, l .inv .long, p .1 .1 .1))
-    (t .output ∙ ap (λ (x : ℕ). m (l .s) x .output) (c .before .before .before .wide .ensures))
-    (c .wide2 .ensures ∙ t .target ∙ ap (λ (x : ℕ). m (l .s) x .target) (c .before .before .before .wide .ensures))
+    (t .output ∙ ap (λ (x : ℕ). m (l .s) x .output) (at-wide .wide .ensures))
+    (c .wide2 .ensures ∙ t .target ∙ ap (λ (x : ℕ). m (l .s) x .target) (at-wide .wide .ensures))
     (rw (c .wide2 .ensures) (t .below))
 
 same-length : tie.Need-same-length Inv-loop μ-loop

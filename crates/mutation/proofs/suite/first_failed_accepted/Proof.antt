@@ -16,7 +16,10 @@ enum-known-fit : tie.Need-enum-known-fit
 enum-known-fit c = search needs
 
 returns : tie.Need-returns
-returns c = let a = c .before .before .before .before .before .before .args in λ sh rd. sym (ap failedAnswer (mutant-refused sh _ _ (rd .read) _ _ (c .before .before .before .machine-of .ensures sh (rd .read)) _ _ (c .before .fit .given .1) (accepted (firstFailedOf sh (a .mutant .now)))))
+returns c =
+    let at-machine-of = c .before .before .before in
+    let entry = at-machine-of .before .before .before in
+    let a = entry .args in λ sh rd. sym (ap failedAnswer (mutant-refused sh _ _ (rd .read) _ _ (at-machine-of .machine-of .ensures sh (rd .read)) _ _ (c .before .fit .given .1) (accepted (firstFailedOf sh (a .mutant .now)))))
 
 enum-told : tie.Need-enum-told
 enum-told c = search needs
@@ -32,15 +35,27 @@ initial-requires c κs = search needs
 
 first-failure-requires : tie.Need-first-failure-requires
 first-failure-requires c κs =
-    let p = c .before .before .before .before .before .before .before .before .before .before .before .before .before .before .before .before .pre in
-    let q = prepared (p .0) _ _ (p .1 .read) _ _ (c .before .before .before .before .before .before .before .before .before .before .before .before .before .machine-of .ensures (p .0) (p .1 .read)) (c .before .before .before .before .before .before .before .before .before .before .before .enum-told .given .1) _ _ _ (c .before .before .before .before .before .before .before .before .before .before .wide .ensures) (c .before .before .before .before .before .before .before .before .before .wide2 .ensures) (c .initial .ensures (p .0) _) in
+    let place = c .before .before .before .before .before .before .before .before .before in
+    let at-wide2 = place in
+    let at-wide = at-wide2 .before in
+    let at-enum-told = at-wide .before in
+    let at-machine-of = at-enum-told .before .before in
+    let entry = at-machine-of .before .before .before in
+    let p = entry .pre in
+    let q = prepared (p .0) _ _ (p .1 .read) _ _ (at-machine-of .machine-of .ensures (p .0) (p .1 .read)) (at-enum-told .enum-told .given .1) _ _ _ (at-wide .wide .ensures) (at-wide2 .wide2 .ensures) (c .initial .ensures (p .0) _) in
     (q .valid, (q .low, (p .0 .tests, suite-tests (p .0) _ _ _ (p .1) _ (q .same))))
 
 returns-2 : tie.Need-returns-2
-returns-2 c = λ sh rd.
-    let q = prepared sh _ _ (rd .read) _ _ (c .before .before .before .before .before .before .before .before .before .before .before .before .before .before .machine-of .ensures sh (rd .read)) (c .before .before .before .before .before .before .before .before .before .before .before .before .enum-told .given .1) _ _ _ (c .before .before .before .before .before .before .before .before .before .before .before .wide .ensures) (c .before .before .before .before .before .before .before .before .before .before .wide2 .ensures) (c .before .initial .ensures sh _) in
+returns-2 c =
+    let place = c .before .before .before .before .before .before .before .before .before .before in
+    let at-wide2 = place in
+    let at-wide = at-wide2 .before in
+    let at-enum-told = at-wide .before in
+    let at-machine-of = at-enum-told .before .before in
+    λ sh rd.
+    let q = prepared sh _ _ (rd .read) _ _ (at-machine-of .machine-of .ensures sh (rd .read)) (at-enum-told .enum-told .given .1) _ _ _ (at-wide .wide .ensures) (at-wide2 .wide2 .ensures) (c .before .initial .ensures sh _) in
     c .first-failure .ensures (sh .tests) (suite-tests sh _ _ _ rd _ (q .same)) ∙ ap failedOf (failed-is sh _ (q .same))
-    ∙ sym (ap failedAnswer (failed-on sh _ _ (rd .read) _ _ (c .before .before .before .before .before .before .before .before .before .before .before .before .before .before .machine-of .ensures sh (rd .read)) (c .before .before .before .before .before .before .before .before .before .before .before .before .enum-told .given .1)))
+    ∙ sym (ap failedAnswer (failed-on sh _ _ (rd .read) _ _ (at-machine-of .machine-of .ensures sh (rd .read)) (at-enum-told .enum-told .given .1)))
 
 pub first-failed-accepted-spec : {M : Type 1} → statement M
 first-failed-accepted-spec =

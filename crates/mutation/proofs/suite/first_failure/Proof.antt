@@ -42,28 +42,44 @@ wide16-requires-2 : tie.Need-wide16-requires-2 Inv-loop μ-loop
 wide16-requires-2 c κs = tt
 
 first-wrong-requires : tie.Need-first-wrong-requires Inv-loop μ-loop
-first-wrong-requires c κs = let a = c .before .before .before .before .before .before .before .args in let l = c .before .before .before .before .before .loop in (c .before .before .before .before .before .before .before .pre .0, (c .before .before .before .before .before .before .before .pre .1 .0, (getD (c .before .before .before .before .before .before .before .pre .1 .1 .0) (l .t) [], (rw (c .wide162 .ensures, c .before .before .wide16 .ensures) (c .before .before .before .before .before .before .before .pre .1 .1 .1 .each (l .t) (c .before .before .before .before .loop-test .taken))))))
+first-wrong-requires c κs =
+    let at-loop-test = c .before .before .before .before in
+    let at-loop = at-loop-test .before in
+    let entry = at-loop .before .before in
+    let a = entry .args in let l = at-loop .loop in (entry .pre .0, (entry .pre .1 .0, (getD (entry .pre .1 .1 .0) (l .t) [], (rw (c .wide162 .ensures, c .before .before .wide16 .ensures) (entry .pre .1 .1 .1 .each (l .t) (at-loop-test .loop-test .taken))))))
 
 returns : tie.Need-returns Inv-loop μ-loop
 unfolding tables
-returns c = let a = c .before .before .before .before .before .before .before .before .before .args in let l = c .before .before .before .before .before .before .before .loop in λ ts is.
-    ap failedOf (sym (suite-failed (tables (a .n) (a .k) (a .start) (a .so .now) (a .sn .now) (a .mo .now) (a .mn .now)) ts (l .t) (l .inv .1 ts is) (omega (arith, is .many, c .before .before .before .before .before .before .loop-test .taken)) (c .before .first-wrong .result)
-    (index-there (c .before .before .before .before .wide16 .result) (c .before .first-wrong .result) _ (c .before .first-wrong .ensures (getD ts (l .t) []) (rw (c .before .before .wide162 .ensures, c .before .before .before .before .wide16 .ensures) (is .each (l .t) (c .before .before .before .before .before .before .loop-test .taken)))) (c .if1 .taken))))
+returns c =
+    let at-wide16 = c .before .before .before .before in
+    let at-loop-test = at-wide16 .before .before in
+    let at-loop = at-loop-test .before in
+    let entry = at-loop .before .before in
+    let a = entry .args in let l = at-loop .loop in λ ts is.
+    ap failedOf (sym (suite-failed (tables (a .n) (a .k) (a .start) (a .so .now) (a .sn .now) (a .mo .now) (a .mn .now)) ts (l .t) (l .inv .1 ts is) (omega (arith, is .many, at-loop-test .loop-test .taken)) (c .before .first-wrong .result)
+    (index-there (at-wide16 .wide16 .result) (c .before .first-wrong .result) _ (c .before .first-wrong .ensures (getD ts (l .t) []) (rw (c .before .before .wide162 .ensures, at-wide16 .wide16 .ensures) (is .each (l .t) (at-loop-test .loop-test .taken)))) (c .if1 .taken))))
 
 add-t : tie.Need-add-t Inv-loop μ-loop
-add-t c = omega (arith, c .before .before .before .before .before .before .before .before .before .pre .1 .1 .1 .few)
+add-t c =
+    let entry = c .before .before .before .before .before .before .before .before .before in
+    omega (arith, entry .pre .1 .1 .1 .few)
 
 loop-less : tie.Need-loop-less Inv-loop μ-loop
 loop-less c = omega arith
 
 loop-again : tie.Need-loop-again Inv-loop μ-loop
 unfolding tables
-loop-again c = let a = c .before .before .before .before .before .before .before .before .before .args in let l = c .before .before .before .before .before .before .before .loop in (
-  omega arith,
-  λ ts is.
-      suite-more (tables (a .n) (a .k) (a .start) (a .so .now) (a .sn .now) (a .mo .now) (a .mn .now)) ts (l .t) (l .inv .1 ts is) (omega (arith, is .many, c .before .before .before .before .before .before .loop-test .taken))
-      (test-right (tables (a .n) (a .k) (a .start) (a .so .now) (a .sn .now) (a .mo .now) (a .mn .now)) (a .sheet .now) (c .before .before .wide162 .result) (c .before .before .before .before .wide16 .result) (getD ts (l .t) []) (rw (c .before .before .wide162 .ensures, c .before .before .before .before .wide16 .ensures) (is .each (l .t) (c .before .before .before .before .before .before .loop-test .taken))) (c .before .first-wrong .result) (c .before .first-wrong .ensures (getD ts (l .t) []) (rw (c .before .before .wide162 .ensures, c .before .before .before .before .wide16 .ensures) (is .each (l .t) (c .before .before .before .before .before .before .loop-test .taken)))) (c .if1 .left)),
-)
+loop-again c =
+    let at-wide16 = c .before .before .before .before in
+    let at-loop-test = at-wide16 .before .before in
+    let at-loop = at-loop-test .before in
+    let entry = at-loop .before .before in
+    let a = entry .args in let l = at-loop .loop in (
+      omega arith,
+      λ ts is.
+          suite-more (tables (a .n) (a .k) (a .start) (a .so .now) (a .sn .now) (a .mo .now) (a .mn .now)) ts (l .t) (l .inv .1 ts is) (omega (arith, is .many, at-loop-test .loop-test .taken))
+          (test-right (tables (a .n) (a .k) (a .start) (a .so .now) (a .sn .now) (a .mo .now) (a .mn .now)) (a .sheet .now) (c .before .before .wide162 .result) (at-wide16 .wide16 .result) (getD ts (l .t) []) (rw (c .before .before .wide162 .ensures, at-wide16 .wide16 .ensures) (is .each (l .t) (at-loop-test .loop-test .taken))) (c .before .first-wrong .result) (c .before .first-wrong .ensures (getD ts (l .t) []) (rw (c .before .before .wide162 .ensures, at-wide16 .wide16 .ensures) (is .each (l .t) (at-loop-test .loop-test .taken)))) (c .if1 .left)),
+    )
 
 returns-2 : tie.Need-returns-2 Inv-loop μ-loop
 unfolding tables

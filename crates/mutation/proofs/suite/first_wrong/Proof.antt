@@ -22,16 +22,24 @@ unfolding tables
 loop-holds c = let a = c .before .args in (omega arith, c .before .pre .0 .some-state, c .before .pre .1 .0, λ xs t. try-start (tables (a .n) (a .k) (a .start) (a .so .now) (a .sn .now) (a .mo .now) (a .mn .now)) (a .sheet .now) (a .at) (a .count) xs t)
 
 mul-wide : tie.Need-mul-wide Inv-loop μ-loop
-mul-wide c = let a = c .before .before .before .args in let l = c .before .loop in let t = c .before .before .before .pre .1 .1 .1 in omega (arith, t .inside, c .loop-test .taken, c .before .before .before .good)
+mul-wide c =
+    let entry = c .before .before .before in
+    let a = entry .args in let l = c .before .loop in let t = entry .pre .1 .1 .1 in omega (arith, t .inside, c .loop-test .taken, entry .good)
 
 add-wide : tie.Need-add-wide Inv-loop μ-loop
-add-wide c = let a = c .before .before .before .args in let l = c .before .loop in let t = c .before .before .before .pre .1 .1 .1 in omega (arith, t .inside, c .loop-test .taken, c .before .before .before .good)
+add-wide c =
+    let entry = c .before .before .before in
+    let a = entry .args in let l = c .before .loop in let t = entry .pre .1 .1 .1 in omega (arith, t .inside, c .loop-test .taken, entry .good)
 
 add-wide-2 : tie.Need-add-wide-2 Inv-loop μ-loop
-add-wide-2 c = let a = c .before .before .before .args in let l = c .before .loop in let t = c .before .before .before .pre .1 .1 .1 in omega (arith, t .inside, c .loop-test .taken, c .before .before .before .good)
+add-wide-2 c =
+    let entry = c .before .before .before in
+    let a = entry .args in let l = c .before .loop in let t = entry .pre .1 .1 .1 in omega (arith, t .inside, c .loop-test .taken, entry .good)
 
 shared-slice-read-wide : tie.Need-shared-slice-read-wide Inv-loop μ-loop
-shared-slice-read-wide c = let a = c .before .before .before .before .args in let l = c .before .before .loop in let t = c .before .before .before .before .pre .1 .1 .1 in omega (arith, t .inside, c .before .loop-test .taken, c .before .before .before .before .good)
+shared-slice-read-wide c =
+    let entry = c .before .before .before .before in
+    let a = entry .args in let l = c .before .before .loop in let t = entry .pre .1 .1 .1 in omega (arith, t .inside, c .before .loop-test .taken, entry .good)
 
 wide-requires : tie.Need-wide-requires Inv-loop μ-loop
 wide-requires c κs = tt
@@ -40,49 +48,86 @@ mul-a : tie.Need-mul-a Inv-loop μ-loop
 mul-a c = omega (arith, c .before .before .before .before .before .pre .0 .few-states, c .before .before .before .loop .inv .1)
 
 add-a : tie.Need-add-a Inv-loop μ-loop
-add-a c = let a = c .before .before .before .before .before .args in let l = c .before .before .before .loop in omega (arith, index (a .n) (a .k) (a .start) (a .so .now) (a .sn .now) (a .mo .now) (a .mn .now) (c .before .before .before .before .before .pre .0) (c .before .before .before .before .before .pre .1 .1 .0) (l .p) (l .q) (l .i) (c .wide .result) (l .inv .1) (l .inv .2) (l .inv .3 (c .before .before .before .before .before .pre .1 .1 .0) (c .before .before .before .before .before .pre .1 .1 .1)) (omega (arith, (c .before .before .before .before .before .pre .1 .1 .1) .many, c .before .before .loop-test .taken)) (c .wide .ensures ∙ (c .before .before .before .before .before .pre .1 .1 .1) .bytes (l .i) (c .before .before .loop-test .taken)))
+add-a c =
+    let at-loop = c .before .before .before in
+    let entry = at-loop .before .before in
+    let a = entry .args in let l = at-loop .loop in omega (arith, index (a .n) (a .k) (a .start) (a .so .now) (a .sn .now) (a .mo .now) (a .mn .now) (entry .pre .0) (entry .pre .1 .1 .0) (l .p) (l .q) (l .i) (c .wide .result) (l .inv .1) (l .inv .2) (l .inv .3 (entry .pre .1 .1 .0) (entry .pre .1 .1 .1)) (omega (arith, (entry .pre .1 .1 .1) .many, c .before .before .loop-test .taken)) (c .wide .ensures ∙ (entry .pre .1 .1 .1) .bytes (l .i) (c .before .before .loop-test .taken)))
 
 mul-b : tie.Need-mul-b Inv-loop μ-loop
 mul-b c = omega (arith, c .before .before .before .before .before .pre .0 .few-states, c .before .before .before .loop .inv .2)
 
 add-b : tie.Need-add-b Inv-loop μ-loop
-add-b c = let a = c .before .before .before .before .before .args in let l = c .before .before .before .loop in omega (arith, index (a .n) (a .k) (a .start) (a .so .now) (a .sn .now) (a .mo .now) (a .mn .now) (c .before .before .before .before .before .pre .0) (c .before .before .before .before .before .pre .1 .1 .0) (l .p) (l .q) (l .i) (c .wide .result) (l .inv .1) (l .inv .2) (l .inv .3 (c .before .before .before .before .before .pre .1 .1 .0) (c .before .before .before .before .before .pre .1 .1 .1)) (omega (arith, (c .before .before .before .before .before .pre .1 .1 .1) .many, c .before .before .loop-test .taken)) (c .wide .ensures ∙ (c .before .before .before .before .before .pre .1 .1 .1) .bytes (l .i) (c .before .before .loop-test .taken)))
+add-b c =
+    let at-loop = c .before .before .before in
+    let entry = at-loop .before .before in
+    let a = entry .args in let l = at-loop .loop in omega (arith, index (a .n) (a .k) (a .start) (a .so .now) (a .sn .now) (a .mo .now) (a .mn .now) (entry .pre .0) (entry .pre .1 .1 .0) (l .p) (l .q) (l .i) (c .wide .result) (l .inv .1) (l .inv .2) (l .inv .3 (entry .pre .1 .1 .0) (entry .pre .1 .1 .1)) (omega (arith, (entry .pre .1 .1 .1) .many, c .before .before .loop-test .taken)) (c .wide .ensures ∙ (entry .pre .1 .1 .1) .bytes (l .i) (c .before .before .loop-test .taken)))
 
 element-copy-out-if1 : tie.Need-element-copy-out-if1 Inv-loop μ-loop
-element-copy-out-if1 c = let a = c .before .before .before .before .before .args in let l = c .before .before .before .loop in omega (arith, index (a .n) (a .k) (a .start) (a .so .now) (a .sn .now) (a .mo .now) (a .mn .now) (c .before .before .before .before .before .pre .0) (c .before .before .before .before .before .pre .1 .1 .0) (l .p) (l .q) (l .i) (c .wide .result) (l .inv .1) (l .inv .2) (l .inv .3 (c .before .before .before .before .before .pre .1 .1 .0) (c .before .before .before .before .before .pre .1 .1 .1)) (omega (arith, (c .before .before .before .before .before .pre .1 .1 .1) .many, c .before .before .loop-test .taken)) (c .wide .ensures ∙ (c .before .before .before .before .before .pre .1 .1 .1) .bytes (l .i) (c .before .before .loop-test .taken)))
+element-copy-out-if1 c =
+    let at-loop = c .before .before .before in
+    let entry = at-loop .before .before in
+    let a = entry .args in let l = at-loop .loop in omega (arith, index (a .n) (a .k) (a .start) (a .so .now) (a .sn .now) (a .mo .now) (a .mn .now) (entry .pre .0) (entry .pre .1 .1 .0) (l .p) (l .q) (l .i) (c .wide .result) (l .inv .1) (l .inv .2) (l .inv .3 (entry .pre .1 .1 .0) (entry .pre .1 .1 .1)) (omega (arith, (entry .pre .1 .1 .1) .many, c .before .before .loop-test .taken)) (c .wide .ensures ∙ (entry .pre .1 .1 .1) .bytes (l .i) (c .before .before .loop-test .taken)))
 
 element-copy-out-if1-2 : tie.Need-element-copy-out-if1-2 Inv-loop μ-loop
-element-copy-out-if1-2 c = let a = c .before .before .before .before .before .before .args in let l = c .before .before .before .before .loop in omega (arith, index (a .n) (a .k) (a .start) (a .so .now) (a .sn .now) (a .mo .now) (a .mn .now) (c .before .before .before .before .before .before .pre .0) (c .before .before .before .before .before .before .pre .1 .1 .0) (l .p) (l .q) (l .i) (c .before .wide .result) (l .inv .1) (l .inv .2) (l .inv .3 (c .before .before .before .before .before .before .pre .1 .1 .0) (c .before .before .before .before .before .before .pre .1 .1 .1)) (omega (arith, (c .before .before .before .before .before .before .pre .1 .1 .1) .many, c .before .before .before .loop-test .taken)) (c .before .wide .ensures ∙ (c .before .before .before .before .before .before .pre .1 .1 .1) .bytes (l .i) (c .before .before .before .loop-test .taken)))
+element-copy-out-if1-2 c =
+    let at-loop-test = c .before .before .before in
+    let at-loop = at-loop-test .before in
+    let entry = at-loop .before .before in
+    let a = entry .args in let l = at-loop .loop in omega (arith, index (a .n) (a .k) (a .start) (a .so .now) (a .sn .now) (a .mo .now) (a .mn .now) (entry .pre .0) (entry .pre .1 .1 .0) (l .p) (l .q) (l .i) (c .before .wide .result) (l .inv .1) (l .inv .2) (l .inv .3 (entry .pre .1 .1 .0) (entry .pre .1 .1 .1)) (omega (arith, (entry .pre .1 .1 .1) .many, at-loop-test .loop-test .taken)) (c .before .wide .ensures ∙ (entry .pre .1 .1 .1) .bytes (l .i) (at-loop-test .loop-test .taken)))
 
 returns : tie.Need-returns Inv-loop μ-loop
-returns c = let a = c .before .before .before .before .before .before .before .before .args in let l = c .before .before .before .before .before .before .loop in λ xs t. turn-wrong (a .n) (a .k) (a .start) (a .so .now) (a .sn .now) (a .mo .now) (a .mn .now) (c .before .before .before .before .before .before .before .before .pre .0) xs (l .p) (l .q) (l .i) (c .before .before .before .wide .result) (l .inv .1) (l .inv .2) (l .inv .3 xs t) (omega (arith, t .many, c .before .before .before .before .before .loop-test .taken)) (c .before .before .before .wide .ensures ∙ t .bytes (l .i) (c .before .before .before .before .before .loop-test .taken)) (a .count) (c .if1 .taken)
+returns c =
+    let at-wide = c .before .before .before in
+    let at-loop-test = at-wide .before .before in
+    let at-loop = at-loop-test .before in
+    let entry = at-loop .before .before in
+    let a = entry .args in let l = at-loop .loop in λ xs t. turn-wrong (a .n) (a .k) (a .start) (a .so .now) (a .sn .now) (a .mo .now) (a .mn .now) (entry .pre .0) xs (l .p) (l .q) (l .i) (at-wide .wide .result) (l .inv .1) (l .inv .2) (l .inv .3 xs t) (omega (arith, t .many, at-loop-test .loop-test .taken)) (at-wide .wide .ensures ∙ t .bytes (l .i) (at-loop-test .loop-test .taken)) (a .count) (c .if1 .taken)
 
 element-copy-out-wide : tie.Need-element-copy-out-wide Inv-loop μ-loop
-element-copy-out-wide c = let a = c .before .before .before .before .before .before .before .before .args in let l = c .before .before .before .before .before .before .loop in omega (arith, index (a .n) (a .k) (a .start) (a .so .now) (a .sn .now) (a .mo .now) (a .mn .now) (c .before .before .before .before .before .before .before .before .pre .0) (c .before .before .before .before .before .before .before .before .pre .1 .1 .0) (l .p) (l .q) (l .i) (c .before .before .before .wide .result) (l .inv .1) (l .inv .2) (l .inv .3 (c .before .before .before .before .before .before .before .before .pre .1 .1 .0) (c .before .before .before .before .before .before .before .before .pre .1 .1 .1)) (omega (arith, (c .before .before .before .before .before .before .before .before .pre .1 .1 .1) .many, c .before .before .before .before .before .loop-test .taken)) (c .before .before .before .wide .ensures ∙ (c .before .before .before .before .before .before .before .before .pre .1 .1 .1) .bytes (l .i) (c .before .before .before .before .before .loop-test .taken)))
+element-copy-out-wide c =
+    let at-wide = c .before .before .before in
+    let at-loop-test = at-wide .before .before in
+    let at-loop = at-loop-test .before in
+    let entry = at-loop .before .before in
+    let a = entry .args in let l = at-loop .loop in omega (arith, index (a .n) (a .k) (a .start) (a .so .now) (a .sn .now) (a .mo .now) (a .mn .now) (entry .pre .0) (entry .pre .1 .1 .0) (l .p) (l .q) (l .i) (at-wide .wide .result) (l .inv .1) (l .inv .2) (l .inv .3 (entry .pre .1 .1 .0) (entry .pre .1 .1 .1)) (omega (arith, (entry .pre .1 .1 .1) .many, at-loop-test .loop-test .taken)) (at-wide .wide .ensures ∙ (entry .pre .1 .1 .1) .bytes (l .i) (at-loop-test .loop-test .taken)))
 
 wide-requires-2 : tie.Need-wide-requires-2 Inv-loop μ-loop
 wide-requires-2 c κs = tt
 
 element-copy-out-wide-2 : tie.Need-element-copy-out-wide-2 Inv-loop μ-loop
-element-copy-out-wide-2 c = let a = c .before .before .before .before .before .before .before .before .before .before .args in let l = c .before .before .before .before .before .before .before .before .loop in omega (arith, index (a .n) (a .k) (a .start) (a .so .now) (a .sn .now) (a .mo .now) (a .mn .now) (c .before .before .before .before .before .before .before .before .before .before .pre .0) (c .before .before .before .before .before .before .before .before .before .before .pre .1 .1 .0) (l .p) (l .q) (l .i) (c .before .before .before .before .before .wide .result) (l .inv .1) (l .inv .2) (l .inv .3 (c .before .before .before .before .before .before .before .before .before .before .pre .1 .1 .0) (c .before .before .before .before .before .before .before .before .before .before .pre .1 .1 .1)) (omega (arith, (c .before .before .before .before .before .before .before .before .before .before .pre .1 .1 .1) .many, c .before .before .before .before .before .before .before .loop-test .taken)) (c .before .before .before .before .before .wide .ensures ∙ (c .before .before .before .before .before .before .before .before .before .before .pre .1 .1 .1) .bytes (l .i) (c .before .before .before .before .before .before .before .loop-test .taken)))
+element-copy-out-wide-2 c =
+    let at-wide = c .before .before .before .before .before in
+    let at-loop-test = at-wide .before .before in
+    let at-loop = at-loop-test .before in
+    let entry = at-loop .before .before in
+    let a = entry .args in let l = at-loop .loop in omega (arith, index (a .n) (a .k) (a .start) (a .so .now) (a .sn .now) (a .mo .now) (a .mn .now) (entry .pre .0) (entry .pre .1 .1 .0) (l .p) (l .q) (l .i) (at-wide .wide .result) (l .inv .1) (l .inv .2) (l .inv .3 (entry .pre .1 .1 .0) (entry .pre .1 .1 .1)) (omega (arith, (entry .pre .1 .1 .1) .many, at-loop-test .loop-test .taken)) (at-wide .wide .ensures ∙ (entry .pre .1 .1 .1) .bytes (l .i) (at-loop-test .loop-test .taken)))
 
 wide-requires-3 : tie.Need-wide-requires-3 Inv-loop μ-loop
 wide-requires-3 c κs = tt
 
 add-i : tie.Need-add-i Inv-loop μ-loop
-add-i c = omega (arith, c .before .before .before .before .before .before .before .before .before .before .before .before .fits .count, c .before .before .before .before .before .before .before .before .before .loop-test .taken)
+add-i c =
+    let place = c .before .before .before .before .before .before .before .before .before in
+    let at-loop-test = place in
+    let at-fits = at-loop-test .before .before .before in
+    omega (arith, at-fits .fits .count, at-loop-test .loop-test .taken)
 
 loop-less : tie.Need-loop-less Inv-loop μ-loop
 loop-less c = omega arith
 
 loop-again : tie.Need-loop-again Inv-loop μ-loop
 loop-again c =
-    let a = c .before .before .before .before .before .before .before .before .before .before .before .before .args in
-    let l = c .before .before .before .before .before .before .before .before .before .before .loop in (
+    let at-if1 = c .before .before .before .before in
+    let at-wide = at-if1 .before .before .before in
+    let at-loop-test = at-wide .before .before in
+    let at-loop = at-loop-test .before in
+    let entry = at-loop .before .before in
+    let a = entry .args in
+    let l = at-loop .loop in (
       omega arith,
-      rw (c .before .before .wide2 .ensures) (rule-below (a .n) (a .k) (a .start) (a .so .now) (a .sn .now) (a .mo .now) (a .mn .now) (c .before .before .before .before .before .before .before .before .before .before .before .before .pre .0) (c .before .before .before .before .before .before .before .before .before .before .before .before .pre .1 .1 .0) (l .p) (l .q) (l .i) (c .before .before .before .before .before .before .before .wide .result) (l .inv .1) (l .inv .2) (l .inv .3 (c .before .before .before .before .before .before .before .before .before .before .before .before .pre .1 .1 .0) (c .before .before .before .before .before .before .before .before .before .before .before .before .pre .1 .1 .1)) (omega (arith, (c .before .before .before .before .before .before .before .before .before .before .before .before .pre .1 .1 .1) .many, c .before .before .before .before .before .before .before .before .before .loop-test .taken)) (c .before .before .before .before .before .before .before .wide .ensures ∙ (c .before .before .before .before .before .before .before .before .before .before .before .before .pre .1 .1 .1) .bytes (l .i) (c .before .before .before .before .before .before .before .before .before .loop-test .taken))),
-      rw (c .wide3 .ensures) (move-below (a .n) (a .k) (a .start) (a .so .now) (a .sn .now) (a .mo .now) (a .mn .now) (c .before .before .before .before .before .before .before .before .before .before .before .before .pre .0) (c .before .before .before .before .before .before .before .before .before .before .before .before .pre .1 .1 .0) (l .p) (l .q) (l .i) (c .before .before .before .before .before .before .before .wide .result) (l .inv .1) (l .inv .2) (l .inv .3 (c .before .before .before .before .before .before .before .before .before .before .before .before .pre .1 .1 .0) (c .before .before .before .before .before .before .before .before .before .before .before .before .pre .1 .1 .1)) (omega (arith, (c .before .before .before .before .before .before .before .before .before .before .before .before .pre .1 .1 .1) .many, c .before .before .before .before .before .before .before .before .before .loop-test .taken)) (c .before .before .before .before .before .before .before .wide .ensures ∙ (c .before .before .before .before .before .before .before .before .before .before .before .before .pre .1 .1 .1) .bytes (l .i) (c .before .before .before .before .before .before .before .before .before .loop-test .taken))),
-      λ xs t. rw (c .before .before .wide2 .ensures, c .wide3 .ensures) (turn-more (a .n) (a .k) (a .start) (a .so .now) (a .sn .now) (a .mo .now) (a .mn .now) (c .before .before .before .before .before .before .before .before .before .before .before .before .pre .0) xs (l .p) (l .q) (l .i) (c .before .before .before .before .before .before .before .wide .result) (l .inv .1) (l .inv .2) (l .inv .3 xs t) (omega (arith, t .many, c .before .before .before .before .before .before .before .before .before .loop-test .taken)) (c .before .before .before .before .before .before .before .wide .ensures ∙ t .bytes (l .i) (c .before .before .before .before .before .before .before .before .before .loop-test .taken)) (c .before .before .before .before .if1 .left)),
+      rw (c .before .before .wide2 .ensures) (rule-below (a .n) (a .k) (a .start) (a .so .now) (a .sn .now) (a .mo .now) (a .mn .now) (entry .pre .0) (entry .pre .1 .1 .0) (l .p) (l .q) (l .i) (at-wide .wide .result) (l .inv .1) (l .inv .2) (l .inv .3 (entry .pre .1 .1 .0) (entry .pre .1 .1 .1)) (omega (arith, (entry .pre .1 .1 .1) .many, at-loop-test .loop-test .taken)) (at-wide .wide .ensures ∙ (entry .pre .1 .1 .1) .bytes (l .i) (at-loop-test .loop-test .taken))),
+      rw (c .wide3 .ensures) (move-below (a .n) (a .k) (a .start) (a .so .now) (a .sn .now) (a .mo .now) (a .mn .now) (entry .pre .0) (entry .pre .1 .1 .0) (l .p) (l .q) (l .i) (at-wide .wide .result) (l .inv .1) (l .inv .2) (l .inv .3 (entry .pre .1 .1 .0) (entry .pre .1 .1 .1)) (omega (arith, (entry .pre .1 .1 .1) .many, at-loop-test .loop-test .taken)) (at-wide .wide .ensures ∙ (entry .pre .1 .1 .1) .bytes (l .i) (at-loop-test .loop-test .taken))),
+      λ xs t. rw (c .before .before .wide2 .ensures, c .wide3 .ensures) (turn-more (a .n) (a .k) (a .start) (a .so .now) (a .sn .now) (a .mo .now) (a .mn .now) (entry .pre .0) xs (l .p) (l .q) (l .i) (at-wide .wide .result) (l .inv .1) (l .inv .2) (l .inv .3 xs t) (omega (arith, t .many, at-loop-test .loop-test .taken)) (at-wide .wide .ensures ∙ t .bytes (l .i) (at-loop-test .loop-test .taken)) (at-if1 .if1 .left)),
     )
 
 returns-2 : tie.Need-returns-2 Inv-loop μ-loop

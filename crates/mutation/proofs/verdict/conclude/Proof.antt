@@ -29,7 +29,9 @@ same-length-2 : tie.Need-same-length-2
 same-length-2 c = search needs
 
 returns : tie.Need-returns
-returns c = (λ sh w. judges-complete (rw (c .enum-told .given .1) at (c .before .before .before .before .before .before .before .before .find .ensures .0 sh w)), tt)
+returns c =
+    let at-find = c .before .before .before .before .before .before .before .before in
+    (λ sh w. judges-complete (rw (c .enum-told .given .1) at (at-find .find .ensures .0 sh w)), tt)
 
 same-length-3 : tie.Need-same-length-3
 same-length-3 c = search needs
@@ -38,7 +40,9 @@ same-length-4 : tie.Need-same-length-4
 same-length-4 c = search needs
 
 returns-2 : tie.Need-returns-2
-returns-2 c = (λ sh w. judges-survivor (rw (c .before .found .given .1) at (c .before .before .before .before .before .before .before .before .before .find .ensures .0 sh w)), tt)
+returns-2 c =
+    let at-find = c .before .before .before .before .before .before .before .before .before in
+    (λ sh w. judges-survivor (rw (c .before .found .given .1) at (at-find .find .ensures .0 sh w)), tt)
 
 same-length-5 : tie.Need-same-length-5
 same-length-5 c = search needs
@@ -47,7 +51,9 @@ same-length-6 : tie.Need-same-length-6
 same-length-6 c = search needs
 
 returns-3 : tie.Need-returns-3
-returns-3 c = absurd (c .before .before .before .before .before .before .before .before .find .ensures .1 (c .enum-told2 .given .1))
+returns-3 c =
+    let at-find = c .before .before .before .before .before .before .before .before in
+    absurd (at-find .find .ensures .1 (c .enum-told2 .given .1))
 
 pub conclude-spec : {M : Type 1} → statement M
 conclude-spec =

@@ -20,7 +20,12 @@ slice-aggregate-search-2 : tie.Need-slice-aggregate-search-2
 slice-aggregate-search-2 c = search needs
 
 search-requires : tie.Need-search-requires
-search-requires c κs = ((c .before .before .before .before .before .before .before .before .before .before .before .pre .0 .0, rw (c .before .before .before .before .before .unsettled .ensures) (c .before .before .before .before .before .before .before .before .before .before .before .pre .0 .1)), (rw (c .before .before .before .before .before .before .before .no-sets .ensures, c .before .before .before .before .before .before .no-values .ensures .0) (c .before .before .before .before .before .before .no-values .ensures .1 _ _), c .before .before .before .before .before .before .before .before .before .before .before .pre .1))
+search-requires c κs =
+    let at-unsettled = c .before .before .before .before .before in
+    let at-no-values = at-unsettled .before in
+    let at-no-sets = at-no-values .before in
+    let entry = at-no-sets .before .before .before .before in
+    ((entry .pre .0 .0, rw (at-unsettled .unsettled .ensures) (entry .pre .0 .1)), (rw (at-no-sets .no-sets .ensures, at-no-values .no-values .ensures .0) (at-no-values .no-values .ensures .1 _ _), entry .pre .1))
 
 enum-told : tie.Need-enum-told
 enum-told c = search needs
@@ -32,7 +37,12 @@ enum-told-2 : tie.Need-enum-told-2
 enum-told-2 c = search needs
 
 find-thoroughly-requires : tie.Need-find-thoroughly-requires
-find-thoroughly-requires c κs = (c .before .before .before .before .before .before .before .before .before .before .before .before .before .before .before .before .before .before .before .before .before .before .before .pre .0, kept-room (rw (c .before .before .before .enum-told2 .given .1) at (c .before .before .before .before .before .before .before .before .before .before .before .search .ensures .0 (c .before .before .before .before .before .before .before .before .before .before .before .before .before .before .before .before .before .before .before .before .before .before .before .pre .0 .0) (rw (c .before .before .before .before .before .before .before .before .before .before .before .before .before .before .before .before .before .unsettled .ensures) (c .before .before .before .before .before .before .before .before .before .before .before .before .before .before .before .before .before .before .before .before .before .before .before .pre .0 .1)))) (c .before .before .before .before .before .before .before .before .before .before .before .before .before .before .before .before .before .before .before .before .before .before .before .pre .1))
+find-thoroughly-requires c κs =
+    let at-enum-told2 = c .before .before .before in
+    let at-search = at-enum-told2 .before .before .before .before .before .before .before .before in
+    let at-unsettled = at-search .before .before .before .before .before .before in
+    let entry = at-unsettled .before .before .before .before .before .before in
+    (entry .pre .0, kept-room (rw (at-enum-told2 .enum-told2 .given .1) at (at-search .search .ensures .0 (entry .pre .0 .0) (rw (at-unsettled .unsettled .ensures) (entry .pre .0 .1)))) (entry .pre .1))
 
 same-length : tie.Need-same-length
 same-length c = search needs
@@ -41,7 +51,11 @@ same-length-2 : tie.Need-same-length-2
 same-length-2 c = search needs
 
 returns : tie.Need-returns
-returns c = (λ sh w. rw (c .enum-told .given .1, c .before .before .before .before .before .before .before .before .before .before .before .before .before .before .unsettled .ensures) at (c .before .before .before .before .before .before .before .before .search .ensures .0 sh (rw (c .before .before .before .before .before .before .before .before .before .before .before .before .before .before .unsettled .ensures) w)), nothing)
+returns c =
+    let place = c .before .before .before .before .before .before .before .before in
+    let at-search = place in
+    let at-unsettled = at-search .before .before .before .before .before .before in
+    (λ sh w. rw (c .enum-told .given .1, at-unsettled .unsettled .ensures) at (at-search .search .ensures .0 sh (rw (at-unsettled .unsettled .ensures) w)), nothing)
 
 same-length-3 : tie.Need-same-length-3
 same-length-3 c = search needs
@@ -50,7 +64,11 @@ same-length-4 : tie.Need-same-length-4
 same-length-4 c = search needs
 
 returns-2 : tie.Need-returns-2
-returns-2 c = (λ sh w. rw (c .before .found .given .1, c .before .before .before .before .before .before .before .before .before .before .before .before .before .before .before .unsettled .ensures) at (c .before .before .before .before .before .before .before .before .before .search .ensures .0 sh (rw (c .before .before .before .before .before .before .before .before .before .before .before .before .before .before .before .unsettled .ensures) w)), first)
+returns-2 c =
+    let place = c .before .before .before .before .before .before .before .before .before in
+    let at-search = place in
+    let at-unsettled = at-search .before .before .before .before .before .before in
+    (λ sh w. rw (c .before .found .given .1, at-unsettled .unsettled .ensures) at (at-search .search .ensures .0 sh (rw (at-unsettled .unsettled .ensures) w)), first)
 
 same-length-5 : tie.Need-same-length-5
 same-length-5 c = search needs
@@ -60,7 +78,11 @@ same-length-6 c = search needs
 
 returns-3 : tie.Need-returns-3
 returns-3 c =
-    (λ sh w. let k = rw (c .before .before .before .before .before .before .before .before .enum-told2 .given .1) at (c .before .before .before .before .before .before .before .before .before .before .before .before .before .before .before .before .search .ensures .0 sh (rw (c .before .before .before .before .before .before .before .before .before .before .before .before .before .before .before .before .before .before .before .before .before .before .unsettled .ensures) w)) in rw (← k .board, ← k .sequence) (c .before .before .before .before .find-thoroughly .ensures .0 sh w), c .before .before .before .before .find-thoroughly .ensures .1)
+    let at-find-thoroughly = c .before .before .before .before in
+    let at-enum-told2 = at-find-thoroughly .before .before .before .before in
+    let at-search = at-enum-told2 .before .before .before .before .before .before .before .before in
+    let at-unsettled = at-search .before .before .before .before .before .before in
+    (λ sh w. let k = rw (at-enum-told2 .enum-told2 .given .1) at (at-search .search .ensures .0 sh (rw (at-unsettled .unsettled .ensures) w)) in rw (← k .board, ← k .sequence) (at-find-thoroughly .find-thoroughly .ensures .0 sh w), at-find-thoroughly .find-thoroughly .ensures .1)
 
 pub find-spec : {M : Type 1} → statement M
 find-spec =

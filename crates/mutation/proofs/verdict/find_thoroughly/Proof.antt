@@ -30,8 +30,12 @@ slice-aggregate-search-2 c = search needs
 
 search-requires : tie.Need-search-requires
 search-requires c κs =
-    let w = c .before .before .before .before .before .before .before .before .before .before .before .pre .0 .1 in
-    ((c .before .before .before .before .before .before .before .before .before .before .before .pre .0 .0, rw (c .before .before .before .before .before .unsettled .ensures) w), (rw (c .before .before .before .before .before .before .before .fresh-sets .ensures) (c .before .before .before .before .before .before .fresh-values .ensures _ _ (asked w .0)), c .before .before .before .before .before .before .before .before .before .before .before .pre .1))
+    let at-unsettled = c .before .before .before .before .before in
+    let at-fresh-values = at-unsettled .before in
+    let at-fresh-sets = at-fresh-values .before in
+    let entry = at-fresh-sets .before .before .before .before in
+    let w = entry .pre .0 .1 in
+    ((entry .pre .0 .0, rw (at-unsettled .unsettled .ensures) w), (rw (at-fresh-sets .fresh-sets .ensures) (at-fresh-values .fresh-values .ensures _ _ (asked w .0)), entry .pre .1))
 
 same-length : tie.Need-same-length
 same-length c = search needs
@@ -40,7 +44,11 @@ same-length-2 : tie.Need-same-length-2
 same-length-2 c = search needs
 
 returns : tie.Need-returns
-returns c = (λ sh w. rw (c .before .before .before .before .before .before .before .before .before .before .before .before .unsettled .ensures) at (c .before .before .before .before .before .before .search .ensures .0 sh (rw (c .before .before .before .before .before .before .before .before .before .before .before .before .unsettled .ensures) w)), λ e. full (rw (c .before .before .before .before .before .before .before .before .before .before .before .before .before .before .fresh-sets .ensures) at (c .before .before .before .before .before .before .search .ensures .1 .1 e)))
+returns c =
+    let at-search = c .before .before .before .before .before .before in
+    let at-unsettled = at-search .before .before .before .before .before .before in
+    let at-fresh-sets = at-unsettled .before .before in
+    (λ sh w. rw (at-unsettled .unsettled .ensures) at (at-search .search .ensures .0 sh (rw (at-unsettled .unsettled .ensures) w)), λ e. full (rw (at-fresh-sets .fresh-sets .ensures) at (at-search .search .ensures .1 .1 e)))
 
 pub find-thoroughly-spec : {M : Type 1} → statement M
 find-thoroughly-spec =

@@ -22,15 +22,20 @@ refusal-of-requires c κs = search needs
 
 returns : tie.Need-returns
 returns c =
-    let a = c .before .before .before .before .before .before .before .before .args in
+    let at-load = c .before .before .before .before in
+    let entry = at-load .before .before .before .before in
+    let a = entry .args in
     let g = c .before .enum-told .given in
     let z = refusal-told _ _ _ _ (c .refusal-of .ensures) (g .1) in
-    let x = judge-refused (a .sheet .now) (a .board .now) (a .sequence .now) (c .before .before .before .before .load .result) (g .0 .0) (g .0 .1 .0) _ (c .before .before .before .before .load .ensures) (g .1) (ap₂ Refused (z .0) (z .1)) in
+    let x = judge-refused (a .sheet .now) (a .board .now) (a .sequence .now) (at-load .load .result) (g .0 .0) (g .0 .1 .0) _ (at-load .load .ensures) (g .1) (ap₂ Refused (z .0) (z .1)) in
     (x .0 .answer, (x .0 .board, (x .0 .sequence, (x .1, refl))))
 
 judge-read-requires : tie.Need-judge-read-requires
 judge-read-requires c κs =
-    let x = opened (c .before .before .before .before .before .before .before .before .before .before .before .args .sheet .now) (c .before .before .before .before .before .before .before .load .result) _ (c .before .before .before .before .before .before .before .load .ensures) (c .before .before .before .before .reading .given .1) in
+    let at-reading = c .before .before .before .before in
+    let at-load = at-reading .before .before .before in
+    let entry = at-load .before .before .before .before in
+    let x = opened (entry .args .sheet .now) (at-load .load .result) _ (at-load .load .ensures) (at-reading .reading .given .1) in
     (x .sheet, x .holds)
 
 same-length : tie.Need-same-length
@@ -41,10 +46,14 @@ same-length-2 c = search needs
 
 returns-2 : tie.Need-returns-2
 returns-2 c =
-    let a = c .before .before .before .before .before .before .before .before .before .before .before .before .before .before .before .before .args in
-    let x = opened (a .sheet .now) (c .before .before .before .before .before .before .before .before .before .before .before .before .load .result) _ (c .before .before .before .before .before .before .before .before .before .before .before .before .load .ensures) (c .before .before .before .before .before .before .before .before .before .reading .given .1) in
-    let y = judge-accepted (a .sheet .now) (a .board .now) (a .sequence .now) (x .sheet) (x .is) _ _ _ (c .before .before .before .before .judge-read .ensures .0 (x .sheet) (x .holds)) in
-    (y .0 .answer, (y .0 .board, (y .0 .sequence, (y .1, c .before .before .before .before .judge-read .ensures .1))))
+    let at-judge-read = c .before .before .before .before in
+    let at-reading = at-judge-read .before .before .before .before .before in
+    let at-load = at-reading .before .before .before in
+    let entry = at-load .before .before .before .before in
+    let a = entry .args in
+    let x = opened (a .sheet .now) (at-load .load .result) _ (at-load .load .ensures) (at-reading .reading .given .1) in
+    let y = judge-accepted (a .sheet .now) (a .board .now) (a .sequence .now) (x .sheet) (x .is) _ _ _ (at-judge-read .judge-read .ensures .0 (x .sheet) (x .holds)) in
+    (y .0 .answer, (y .0 .board, (y .0 .sequence, (y .1, at-judge-read .judge-read .ensures .1))))
 
 pub judge-counting-spec : {M : Type 1} → statement M
 judge-counting-spec =

@@ -13,33 +13,46 @@ wide-requires-2 : tie.Need-wide-requires-2
 wide-requires-2 c κs = search needs
 
 number-requires : tie.Need-number-requires
-number-requires c κs = few-open (c .before .before .before .before .before .before .before .pre .1) (c .before .before .before .wide .result) (c .before .before .wide2 .result) (c .before .before .before .wide .ensures) (c .before .before .wide2 .ensures)
+number-requires c κs =
+    let at-wide = c .before .before .before in
+    let entry = at-wide .before .before .before .before in
+    few-open (entry .pre .1) (at-wide .wide .result) (c .before .before .wide2 .result) (at-wide .wide .ensures) (c .before .before .wide2 .ensures)
 
 returns : tie.Need-returns
-returns c = (
-  λ sh rd.
-      judges-no-board rd (c .before .before .before .before .before .before .before .before .before .args .board .now) (c .before .before .before .before .before .before .before .before .before .args .sequence .now) (c .before .number .result .count)
-      (counted rd (c .before .before .before .before .before .wide .result) (c .before .before .before .before .wide2 .result) (c .before .before .before .before .before .wide .ensures) (c .before .before .before .before .wide2 .ensures) (c .before .number .result) (c .before .number .ensures)) (c .if1 .taken),
-  refl,
-)
+returns c =
+    let at-wide2 = c .before .before .before .before in
+    let at-wide = at-wide2 .before in
+    let entry = at-wide .before .before .before .before in (
+      λ sh rd.
+          judges-no-board rd (entry .args .board .now) (entry .args .sequence .now) (c .before .number .result .count)
+          (counted rd (at-wide .wide .result) (at-wide2 .wide2 .result) (at-wide .wide .ensures) (at-wide2 .wide2 .ensures) (c .before .number .result) (c .before .number .ensures)) (c .if1 .taken),
+      refl,
+    )
 
 bound-requires : tie.Need-bound-requires
-bound-requires c κs = (
-  some-state (c .before .before .before .before .before .before .before .before .before .pre .1) (c .before .before .before .before .before .wide .result) (c .before .before .before .before .wide2 .result) (c .before .before .before .before .before .wide .ensures) (c .before .before .before .before .wide2 .ensures),
-  few-open (c .before .before .before .before .before .before .before .before .before .pre .1) (c .before .before .before .before .before .wide .result) (c .before .before .before .before .wide2 .result) (c .before .before .before .before .before .wide .ensures) (c .before .before .before .before .wide2 .ensures) .0,
-)
+bound-requires c κs =
+    let at-wide2 = c .before .before .before .before in
+    let at-wide = at-wide2 .before in
+    let entry = at-wide .before .before .before .before in (
+      some-state (entry .pre .1) (at-wide .wide .result) (at-wide2 .wide2 .result) (at-wide .wide .ensures) (at-wide2 .wide2 .ensures),
+      few-open (entry .pre .1) (at-wide .wide .result) (at-wide2 .wide2 .result) (at-wide .wide .ensures) (at-wide2 .wide2 .ensures) .0,
+    )
 
 cast-if2 : tie.Need-cast-if2
 cast-if2 c = search needs
 
 returns-2 : tie.Need-returns-2
-returns-2 c = (
-  λ sh rd.
-      judges-no-sequence rd (c .before .before .before .before .before .before .before .before .before .before .before .args .board .now) (c .before .before .before .before .before .before .before .before .before .before .before .args .sequence .now) (c .before .before .before .number .result .count) (c .before .before .before .before .before .before .before .wide .result)
-      (counted rd (c .before .before .before .before .before .before .before .wide .result) (c .before .before .before .before .before .before .wide2 .result) (c .before .before .before .before .before .before .before .wide .ensures) (c .before .before .before .before .before .before .wide2 .ensures) (c .before .before .before .number .result) (c .before .before .before .number .ensures))
-      (c .before .before .before .before .before .before .before .wide .ensures) (c .before .before .if1 .left) (rw (c .before .bound .ensures) at (c .if2 .taken)),
-  refl,
-)
+returns-2 c =
+    let at-number = c .before .before .before in
+    let at-wide2 = at-number .before .before .before in
+    let at-wide = at-wide2 .before in
+    let entry = at-wide .before .before .before .before in (
+      λ sh rd.
+          judges-no-sequence rd (entry .args .board .now) (entry .args .sequence .now) (at-number .number .result .count) (at-wide .wide .result)
+          (counted rd (at-wide .wide .result) (at-wide2 .wide2 .result) (at-wide .wide .ensures) (at-wide2 .wide2 .ensures) (at-number .number .result) (at-number .number .ensures))
+          (at-wide .wide .ensures) (c .before .before .if1 .left) (rw (c .before .bound .ensures) at (c .if2 .taken)),
+      refl,
+    )
 
 no-block-requires : tie.Need-no-block-requires
 no-block-requires c κs = search needs
@@ -48,31 +61,57 @@ pack-requires : tie.Need-pack-requires
 pack-requires c κs = search needs
 
 mul-place : tie.Need-mul-place
-mul-place c = omega (arith, place-in (c .before .before .before .before .before .before .before .before .before .before .before .before .before .before .before .before .before .before .before .before .before .before .before .before .pre .1), c .before .before .before .before .before .before .before .before .before .before .before .before .before .before .before .before .before .before .before .before .before .before .before .before)
+mul-place c =
+    let place = c .before .before .before .before .before .before .before .before .before .before .before .before .before .before .before .before .before .before .before .before .before .before .before .before in
+    let entry = place in
+    omega (arith, place-in (entry .pre .1), entry)
 
 add-place : tie.Need-add-place
-add-place c = omega (arith, place-in (c .before .before .before .before .before .before .before .before .before .before .before .before .before .before .before .before .before .before .before .before .before .before .before .before .pre .1), c .before .before .before .before .before .before .before .before .before .before .before .before .before .before .before .before .before .before .before .before .before .before .before .before)
+add-place c =
+    let place = c .before .before .before .before .before .before .before .before .before .before .before .before .before .before .before .before .before .before .before .before .before .before .before .before in
+    let entry = place in
+    omega (arith, place-in (entry .pre .1), entry)
 
 mul-place-2 : tie.Need-mul-place-2
-mul-place-2 c = omega (arith, place-in (c .before .before .before .before .before .before .before .before .before .before .before .before .before .before .before .before .before .before .before .before .before .before .before .before .before .pre .1), c .before .before .before .before .before .before .before .before .before .before .before .before .before .before .before .before .before .before .before .before .before .before .before .before .before)
+mul-place-2 c =
+    let place = c .before .before .before .before .before .before .before .before .before .before .before .before .before .before .before .before .before .before .before .before .before .before .before .before .before in
+    let entry = place in
+    omega (arith, place-in (entry .pre .1), entry)
 
 add-place-2 : tie.Need-add-place-2
-add-place-2 c = omega (arith, place-in (c .before .before .before .before .before .before .before .before .before .before .before .before .before .before .before .before .before .before .before .before .before .before .before .before .before .pre .1), c .before .before .before .before .before .before .before .before .before .before .before .before .before .before .before .before .before .before .before .before .before .before .before .before .before)
+add-place-2 c =
+    let place = c .before .before .before .before .before .before .before .before .before .before .before .before .before .before .before .before .before .before .before .before .before .before .before .before .before in
+    let entry = place in
+    omega (arith, place-in (entry .pre .1), entry)
 
 sub-bytes : tie.Need-sub-bytes
-sub-bytes c = omega (arith, place-in (c .before .before .before .before .before .before .before .before .before .before .before .before .before .before .before .before .before .before .before .before .before .before .before .before .before .pre .1), c .before .before .before .before .before .before .before .before .before .before .before .before .before .before .before .before .before .before .before .before .before .before .before .before .before)
+sub-bytes c =
+    let place = c .before .before .before .before .before .before .before .before .before .before .before .before .before .before .before .before .before .before .before .before .before .before .before .before .before in
+    let entry = place in
+    omega (arith, place-in (entry .pre .1), entry)
 
 part-bytes-start : tie.Need-part-bytes-start
-part-bytes-start c = omega (arith, place-in (c .before .before .before .before .before .before .before .before .before .before .before .before .before .before .before .before .before .before .before .before .before .before .before .before .before .pre .1), c .before .before .before .before .before .before .before .before .before .before .before .before .before .before .before .before .before .before .before .before .before .before .before .before .before)
+part-bytes-start c =
+    let place = c .before .before .before .before .before .before .before .before .before .before .before .before .before .before .before .before .before .before .before .before .before .before .before .before .before in
+    let entry = place in
+    omega (arith, place-in (entry .pre .1), entry)
 
 part-bytes-end : tie.Need-part-bytes-end
 part-bytes-end c = search needs
 
 conclude-requires : tie.Need-conclude-requires
 conclude-requires c κs =
-    let rd = c .before .before .before .before .before .before .before .before .before .before .before .before .before .before .before .before .before .before .before .before .before .before .before .before .before .before .before .before .before .before .pre .1 in
-    let w = searching-start rd (c .before .before .before .before .before .before .before .before .before .before .before .before .before .before .before .before .before .before .before .before .before .before .before .before .before .before .wide .result) (c .before .before .before .before .before .before .before .before .before .before .before .before .before .before .before .before .before .before .before .before .before .before .before .before .before .wide2 .result) (c .before .before .before .before .before .before .before .before .before .before .before .before .before .before .before .before .before .before .before .before .before .before .before .before .before .before .wide .ensures) (c .before .before .before .before .before .before .before .before .before .before .before .before .before .before .before .before .before .before .before .before .before .before .before .before .before .wide2 .ensures) (c .before .before .before .before .before .before .before .before .before .before .before .before .before .before .before .before .before .before .before .before .before .before .number .result) (c .before .before .before .before .before .before .before .before .before .before .before .before .before .before .before .before .before .before .before .before .before .before .number .ensures) _ (c .before .before .before .before .before .before .before .pack .ensures) in
-    ((c .before .before .before .before .before .before .before .before .before .before .before .before .before .before .before .before .before .before .before .before .before .before .before .before .before .before .before .before .before .before .pre .0, w), record { choices = c .before .before .before .before .before .before .before .before .before .before .before .before .before .before .before .before .before .before .before .before .before .if1 .left; inputs = rw (packed-square rd (c .before .before .before .before .before .before .before .before .before .before .before .before .before .before .before .before .before .before .before .before .before .before .before .before .before .before .wide .result) (c .before .before .before .before .before .before .before .before .before .before .before .before .before .before .before .before .before .before .before .before .before .before .before .before .before .wide2 .result) (c .before .before .before .before .before .before .before .before .before .before .before .before .before .before .before .before .before .before .before .before .before .before .before .before .before .before .wide .ensures) (c .before .before .before .before .before .before .before .before .before .before .before .before .before .before .before .before .before .before .before .before .before .before .before .before .before .wide2 .ensures) w) (rw (c .before .before .before .before .before .before .before .before .before .before .before .before .before .before .before .before .before .before .before .before .bound .ensures) at (c .before .before .before .before .before .before .before .before .before .before .before .before .before .before .before .before .before .before .before .if2 .left)) })
+    let at-pack = c .before .before .before .before .before .before .before in
+    let at-if2 = at-pack .before .before .before .before .before .before .before .before .before .before .before .before in
+    let at-bound = at-if2 .before in
+    let at-if1 = at-bound .before in
+    let at-number = at-if1 .before in
+    let at-wide2 = at-number .before .before .before in
+    let at-wide = at-wide2 .before in
+    let entry = at-wide .before .before .before .before in
+    let rd = entry .pre .1 in
+    let w = searching-start rd (at-wide .wide .result) (at-wide2 .wide2 .result) (at-wide .wide .ensures) (at-wide2 .wide2 .ensures) (at-number .number .result) (at-number .number .ensures) _ (at-pack .pack .ensures) in
+    ((entry .pre .0, w), record { choices = at-if1 .if1 .left; inputs = rw (packed-square rd (at-wide .wide .result) (at-wide2 .wide2 .result) (at-wide .wide .ensures) (at-wide2 .wide2 .ensures) w) (rw (at-bound .bound .ensures) at (at-if2 .if2 .left)) })
 
 same-length : tie.Need-same-length
 same-length c = search needs
@@ -81,14 +120,23 @@ same-length-2 : tie.Need-same-length-2
 same-length-2 c = search needs
 
 returns-3 : tie.Need-returns-3
-returns-3 c = (
-  λ sh rd.
-      rw (room rd (c .before .before .before .before .before .before .before .before .before .before .before .before .before .before .before .before .before .before .before .before .before .before .before .before .before .before .before .before .before .before .before .before .before .before .before .args .board .now) (c .before .before .before .before .before .before .before .before .before .before .before .before .before .before .before .before .before .before .before .before .before .before .before .before .before .before .before .before .before .before .before .before .before .before .before .args .sequence .now) (c .before .before .before .before .before .before .before .before .before .before .before .before .before .before .before .before .before .before .before .before .before .before .before .before .before .before .before .number .result .count) (c .before .before .before .before .before .before .before .before .before .before .before .before .before .before .before .before .before .before .before .before .before .before .before .before .before .before .before .before .before .before .before .wide .result)
-      (counted rd (c .before .before .before .before .before .before .before .before .before .before .before .before .before .before .before .before .before .before .before .before .before .before .before .before .before .before .before .before .before .before .before .wide .result) (c .before .before .before .before .before .before .before .before .before .before .before .before .before .before .before .before .before .before .before .before .before .before .before .before .before .before .before .before .before .before .wide2 .result) (c .before .before .before .before .before .before .before .before .before .before .before .before .before .before .before .before .before .before .before .before .before .before .before .before .before .before .before .before .before .before .before .wide .ensures) (c .before .before .before .before .before .before .before .before .before .before .before .before .before .before .before .before .before .before .before .before .before .before .before .before .before .before .before .before .before .before .wide2 .ensures) (c .before .before .before .before .before .before .before .before .before .before .before .before .before .before .before .before .before .before .before .before .before .before .before .before .before .before .before .number .result) (c .before .before .before .before .before .before .before .before .before .before .before .before .before .before .before .before .before .before .before .before .before .before .before .before .before .before .before .number .ensures))
-      (c .before .before .before .before .before .before .before .before .before .before .before .before .before .before .before .before .before .before .before .before .before .before .before .before .before .before .before .before .before .before .before .wide .ensures) (c .before .before .before .before .before .before .before .before .before .before .before .before .before .before .before .before .before .before .before .before .before .before .before .before .before .before .if1 .left) (rw (c .before .before .before .before .before .before .before .before .before .before .before .before .before .before .before .before .before .before .before .before .before .before .before .before .before .bound .ensures) at (c .before .before .before .before .before .before .before .before .before .before .before .before .before .before .before .before .before .before .before .before .before .before .before .before .if2 .left)))
-      (c .before .before .before .before .conclude .ensures .0 sh (searching-start rd (c .before .before .before .before .before .before .before .before .before .before .before .before .before .before .before .before .before .before .before .before .before .before .before .before .before .before .before .before .before .before .before .wide .result) (c .before .before .before .before .before .before .before .before .before .before .before .before .before .before .before .before .before .before .before .before .before .before .before .before .before .before .before .before .before .before .wide2 .result) (c .before .before .before .before .before .before .before .before .before .before .before .before .before .before .before .before .before .before .before .before .before .before .before .before .before .before .before .before .before .before .before .wide .ensures) (c .before .before .before .before .before .before .before .before .before .before .before .before .before .before .before .before .before .before .before .before .before .before .before .before .before .before .before .before .before .before .wide2 .ensures) (c .before .before .before .before .before .before .before .before .before .before .before .before .before .before .before .before .before .before .before .before .before .before .before .before .before .before .before .number .result) (c .before .before .before .before .before .before .before .before .before .before .before .before .before .before .before .before .before .before .before .before .before .before .before .before .before .before .before .number .ensures) _ (c .before .before .before .before .before .before .before .before .before .before .before .before .pack .ensures))),
-  c .before .before .before .before .conclude .ensures .1,
-)
+returns-3 c =
+    let at-conclude = c .before .before .before .before in
+    let at-pack = at-conclude .before .before .before .before .before .before .before .before in
+    let at-if2 = at-pack .before .before .before .before .before .before .before .before .before .before .before .before in
+    let at-bound = at-if2 .before in
+    let at-if1 = at-bound .before in
+    let at-number = at-if1 .before in
+    let at-wide2 = at-number .before .before .before in
+    let at-wide = at-wide2 .before in
+    let entry = at-wide .before .before .before .before in (
+      λ sh rd.
+          rw (room rd (entry .args .board .now) (entry .args .sequence .now) (at-number .number .result .count) (at-wide .wide .result)
+          (counted rd (at-wide .wide .result) (at-wide2 .wide2 .result) (at-wide .wide .ensures) (at-wide2 .wide2 .ensures) (at-number .number .result) (at-number .number .ensures))
+          (at-wide .wide .ensures) (at-if1 .if1 .left) (rw (at-bound .bound .ensures) at (at-if2 .if2 .left)))
+          (at-conclude .conclude .ensures .0 sh (searching-start rd (at-wide .wide .result) (at-wide2 .wide2 .result) (at-wide .wide .ensures) (at-wide2 .wide2 .ensures) (at-number .number .result) (at-number .number .ensures) _ (at-pack .pack .ensures))),
+      at-conclude .conclude .ensures .1,
+    )
 
 pub judge-read-spec : {M : Type 1} → statement M
 judge-read-spec =

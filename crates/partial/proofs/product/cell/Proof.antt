@@ -15,13 +15,21 @@ returns : tie.Need-returns
 returns c = fined-none (c .before .before .before .pre .5) (rw (c .before .rule-target .ensures, c .before .before .place .ensures .0) at (c .if1 .taken))
 
 take-requires : tie.Need-take-requires
-take-requires c κs = (c .before .before .before .pre .0, c .before .before .before .pre .1, c .before .before .before .pre .3, c .before .before .before .pre .4, c .before .before .before .pre .5)
+take-requires c κs =
+    let entry = c .before .before .before in
+    (entry .pre .0, entry .pre .1, entry .pre .3, entry .pre .4, entry .pre .5)
 
 enum-known-i : tie.Need-enum-known-i
 enum-known-i c = search needs
 
 any-requires : tie.Need-any-requires
-any-requires c κs = (c .before .before .before .before .before .before .before .pre .0, rw (c .before .i .given .1) at (c .before .before .before .take .ensures), c .before .before .before .before .before .before .before .pre .2, c .before .before .before .before .before .before .before .pre .3, c .before .before .before .before .before .before .before .pre .4, c .before .before .before .before .before .before .before .pre .5, rw (c .before .before .before .before .before .rule-target .ensures, c .before .before .before .before .before .before .place .ensures .0) at (c .before .before .before .before .if1 .left))
+any-requires c κs =
+    let at-take = c .before .before .before in
+    let at-if1 = at-take .before in
+    let at-rule-target = at-if1 .before in
+    let at-place = at-rule-target .before in
+    let entry = at-place .before in
+    (entry .pre .0, rw (c .before .i .given .1) at (at-take .take .ensures), entry .pre .2, entry .pre .3, entry .pre .4, entry .pre .5, rw (at-rule-target .rule-target .ensures, at-place .place .ensures .0) at (at-if1 .if1 .left))
 
 enum-known-output : tie.Need-enum-known-output
 enum-known-output c = search needs
@@ -34,8 +42,14 @@ returns-2 c = search needs
 
 place-requires-2 : tie.Need-place-requires-2
 place-requires-2 c κs =
-    let st = (rw (c .before .before .before .output .given .1) at (c .before .before .before .before .before .take .ensures)) in
-    (omega (arith, c .before .before .before .before .before .before .before .rule-target .ensures, c .before .before .before .before .before .before .before .before .before .pre .0 .few-states, c .before .before .before .before .before .before .before .before .before .pre .0 .rules (c .before .before .before .before .before .before .before .before .place .result) (c .before .before .before .before .before .before .before .before .place .ensures .1) (rw (c .before .before .before .before .before .before .before .rule-target .ensures) at (c .before .before .before .before .before .before .if1 .left))), omega (arith, st .low, c .before .before .before .before .before .before .before .before .before .pre .0 .few-states))
+    let at-output = c .before .before .before in
+    let at-take = at-output .before .before in
+    let at-if1 = at-take .before in
+    let at-rule-target = at-if1 .before in
+    let at-place = at-rule-target .before in
+    let entry = at-place .before in
+    let st = (rw (at-output .output .given .1) at (at-take .take .ensures)) in
+    (omega (arith, at-rule-target .rule-target .ensures, entry .pre .0 .few-states, entry .pre .0 .rules (at-place .place .result) (at-place .place .ensures .1) (rw (at-rule-target .rule-target .ensures) at (at-if1 .if1 .left))), omega (arith, st .low, entry .pre .0 .few-states))
 
 listed-requires : tie.Need-listed-requires
 listed-requires c κs = search needs
@@ -47,7 +61,14 @@ returns-4 : tie.Need-returns-4
 returns-4 c = search needs
 
 returns-5 : tie.Need-returns-5
-returns-5 c = fined-step (rw (c .before .before .before .before .before .before .output .given .1) at (c .before .before .before .before .before .before .before .before .take .ensures)) (rw (c .before .before .before .before .rule-output .ensures, c .before .before .before .before .before .before .before .before .before .before .before .place .ensures .0) at (c .before .before .before .if2 .left)) (rw (c .before .before .place2 .ensures .0, c .before .before .before .before .before .before .before .before .before .before .rule-target .ensures, c .before .before .before .before .before .before .before .before .before .before .before .place .ensures .0) at (c .before .listed .ensures (not-false _ (c .if3 .left))))
+returns-5 c =
+    let at-if2 = c .before .before .before in
+    let at-rule-output = at-if2 .before in
+    let at-output = at-rule-output .before .before in
+    let at-take = at-output .before .before in
+    let at-rule-target = at-take .before .before in
+    let at-place = at-rule-target .before in
+    fined-step (rw (at-output .output .given .1) at (at-take .take .ensures)) (rw (at-rule-output .rule-output .ensures, at-place .place .ensures .0) at (at-if2 .if2 .left)) (rw (c .before .before .place2 .ensures .0, at-rule-target .rule-target .ensures, at-place .place .ensures .0) at (c .before .listed .ensures (not-false _ (c .if3 .left))))
 
 pub cell-spec : {M : Type 1} → statement M
 cell-spec =

@@ -23,7 +23,10 @@ wide-requires-2 : tie.Need-wide-requires-2
 wide-requires-2 c κs = search needs
 
 returns-2 : tie.Need-returns-2
-returns-2 c = λ e. listed-at (c .before .before .before .wide .result) (c .before .before .before .before .before .args .z) (omega (arith, c .before .before .if1 .left)) (sym (c .wide2 .ensures .0) ∙ eqb-true _ _ e)
+returns-2 c =
+    let at-wide = c .before .before .before in
+    let entry = at-wide .before .before in
+    λ e. listed-at (at-wide .wide .result) (entry .args .z) (omega (arith, c .before .before .if1 .left)) (sym (c .wide2 .ensures .0) ∙ eqb-true _ _ e)
 
 pub listed-spec : {M : Type 1} → statement M
 listed-spec =

@@ -17,7 +17,9 @@ loop-holds : tie.Need-loop-holds Inv-loop μ-loop
 loop-holds c = row-none (c .before .pre .4)
 
 cell-requires : tie.Need-cell-requires Inv-loop μ-loop
-cell-requires c κs = (c .before .before .before .pre .0, c .before .before .before .pre .1, c .before .before .before .pre .2, c .before .before .before .pre .3, rw (c .before .before .inputs .ensures) at (c .loop-test .taken), c .before .loop .inv .settled)
+cell-requires c κs =
+    let entry = c .before .before .before in
+    (entry .pre .0, entry .pre .1, entry .pre .2, entry .pre .3, rw (c .before .before .inputs .ensures) at (c .loop-test .taken), c .before .loop .inv .settled)
 
 enum-known-more : tie.Need-enum-known-more Inv-loop μ-loop
 enum-known-more c = search needs
@@ -35,7 +37,12 @@ loop-less : tie.Need-loop-less Inv-loop μ-loop
 loop-less c = search needs
 
 loop-again : tie.Need-loop-again Inv-loop μ-loop
-loop-again c = row-more (c .before .before .before .before .before .loop .inv) (rw (c .before .before .before .before .before .before .inputs .ensures) at (c .before .before .before .before .loop-test .taken)) (rw (c .before .more .given .1) at (c .before .before .before .cell .ensures))
+loop-again c =
+    let at-cell = c .before .before .before in
+    let at-loop-test = at-cell .before in
+    let at-loop = at-loop-test .before in
+    let at-inputs = at-loop .before in
+    row-more (at-loop .loop .inv) (rw (at-inputs .inputs .ensures) at (at-loop-test .loop-test .taken)) (rw (c .before .more .given .1) at (at-cell .cell .ensures))
 
 returns-2 : tie.Need-returns-2 Inv-loop μ-loop
 returns-2 c = row-all (c .before .loop .inv) (rw (c .before .before .inputs .ensures) at (c .loop-test .left))

@@ -43,7 +43,10 @@ upper-requires : tie.Need-upper-requires Inv-loop μ-loop
 upper-requires c κs = search needs
 
 row-requires : tie.Need-row-requires Inv-loop μ-loop
-row-requires c κs = (c .before .before .before .before .before .before .before .before .before .before .before .pre .0, c .before .before .before .before .before .before .before .before .before .before .before .pre .1, c .upper .ensures .1, omega (arith, c .before .if2 .left, c .before .before .states .ensures), c .before .before .before .before .before .before .before .loop .inv .settled)
+row-requires c κs =
+    let at-loop = c .before .before .before .before .before .before .before in
+    let entry = at-loop .before .before .before .before in
+    (entry .pre .0, entry .pre .1, c .upper .ensures .1, omega (arith, c .before .if2 .left, c .before .before .states .ensures), at-loop .loop .inv .settled)
 
 enum-known-more : tie.Need-enum-known-more Inv-loop μ-loop
 enum-known-more c = search needs
@@ -61,10 +64,21 @@ loop-less : tie.Need-loop-less Inv-loop μ-loop
 loop-less c = search needs
 
 loop-again : tie.Need-loop-again Inv-loop μ-loop
-loop-again c = scan-more (c .before .before .before .before .before .before .before .before .wide .result) (c .before .before .before .before .before .before .before .before .before .before .before .loop .inv) (c .before .before .before .before .before .before .before .before .before .before .loop-test .taken) (c .before .before .before .before .before .before .before .before .wide .ensures .0) (c .before .before .before .before .upper .ensures .0) (c .before .before .before .before .before .before .before .lower .ensures) (rw (c .before .more .given .1) at (c .before .before .before .row .ensures))
+loop-again c =
+    let at-row = c .before .before .before in
+    let at-upper = at-row .before in
+    let at-lower = at-upper .before .before .before in
+    let at-wide = at-lower .before in
+    let at-loop-test = at-wide .before .before in
+    let at-loop = at-loop-test .before in
+    scan-more (at-wide .wide .result) (at-loop .loop .inv) (at-loop-test .loop-test .taken) (at-wide .wide .ensures .0) (at-upper .upper .ensures .0) (at-lower .lower .ensures) (rw (c .before .more .given .1) at (at-row .row .ensures))
 
 returns-4 : tie.Need-returns-4 Inv-loop μ-loop
-returns-4 c = conforms (c .before .before .before .before .before .pre .0) (c .before .loop .inv) (c .loop-test .left) (c .before .before .before .before .listed .ensures (not-false _ (c .before .before .before .if1 .left)))
+returns-4 c =
+    let at-if1 = c .before .before .before in
+    let at-listed = at-if1 .before in
+    let entry = at-listed .before in
+    conforms (entry .pre .0) (c .before .loop .inv) (c .loop-test .left) (at-listed .listed .ensures (not-false _ (at-if1 .if1 .left)))
 
 pub scan-spec : {M : Type 1} → statement M
 scan-spec =

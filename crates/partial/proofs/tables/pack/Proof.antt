@@ -35,7 +35,14 @@ element-write-tables-2 : tie.Need-element-write-tables-2
 element-write-tables-2 c = search needs
 
 returns : tie.Need-returns
-returns c = packed _ _ (c .before .before .before .before .before .before .before .before .before .before .before .before .before .before .copy .ensures) (c .before .before .before .before .before .before .before .before .before .before .before .before .copy2 .ensures) (c .before .before .before .before .before .before .before .before .before .before .copy3 .ensures) (c .before .before .before .before .before .before .before .before .copy-first .ensures) (c .before .before .before .before .before .before .copy4 .ensures) (c .before .before .before .before .copy5 .ensures) (c .before .before .copy-choices .ensures) (c .locate .ensures)
+returns c =
+    let at-copy5 = c .before .before .before .before in
+    let at-copy4 = at-copy5 .before .before in
+    let at-copy-first = at-copy4 .before .before in
+    let at-copy3 = at-copy-first .before .before in
+    let at-copy2 = at-copy3 .before .before in
+    let at-copy = at-copy2 .before .before in
+    packed _ _ (at-copy .copy .ensures) (at-copy2 .copy2 .ensures) (at-copy3 .copy3 .ensures) (at-copy-first .copy-first .ensures) (at-copy4 .copy4 .ensures) (at-copy5 .copy5 .ensures) (c .before .before .copy-choices .ensures) (c .locate .ensures)
 
 pub pack-spec : {M : Type 1} → statement M
 pack-spec =

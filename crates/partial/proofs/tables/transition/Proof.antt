@@ -14,13 +14,19 @@ unruled-requires : tie.Need-unruled-requires
 unruled-requires c κs = search needs
 
 returns : tie.Need-returns
-returns c = is-unruled (c .before .before .before .before .args .k) (c .before .before .before .before .args .c) (c .before .states .result) (c .unruled .result) (c .before .before .before .before .pre) (rw (c .before .before .before .rule-target .ensures) at (c .before .before .if1 .taken)) (c .before .states .ensures) (c .unruled .ensures)
+returns c =
+    let at-rule-target = c .before .before .before in
+    let entry = at-rule-target .before in
+    is-unruled (entry .args .k) (entry .args .c) (c .before .states .result) (c .unruled .result) (entry .pre) (rw (at-rule-target .rule-target .ensures) at (c .before .before .if1 .taken)) (c .before .states .ensures) (c .unruled .ensures)
 
 rule-output-requires : tie.Need-rule-output-requires
 rule-output-requires c κs = search needs
 
 returns-2 : tie.Need-returns-2
-returns-2 c = is-rule (c .before .before .before .before .args .k) (c .before .before .before .before .args .c) _ (rw (c .before .before .before .rule-target .ensures) at (c .before .before .if1 .left)) (c .before .if2 .taken) (c .rule-output .ensures) (c .before .before .before .rule-target .ensures)
+returns-2 c =
+    let at-rule-target = c .before .before .before in
+    let entry = at-rule-target .before in
+    is-rule (entry .args .k) (entry .args .c) _ (rw (at-rule-target .rule-target .ensures) at (c .before .before .if1 .left)) (c .before .if2 .taken) (c .rule-output .ensures) (at-rule-target .rule-target .ensures)
 
 add-wide : tie.Need-add-wide
 add-wide c = search needs
@@ -41,7 +47,12 @@ sub-f : tie.Need-sub-f
 sub-f c = search needs
 
 returns-3 : tie.Need-returns-3
-returns-3 c = is-none (c .before .before .before .before .before .before .before .args .k) (c .before .before .before .before .before .before .before .args .c) _ _ (c .before .before .before .before .before .before .before .pre) (rw (c .before .before .before .before .before .before .rule-target .ensures) at (c .before .before .before .before .before .if1 .left)) (c .before .before .before .before .if2 .left) (rw (c .before .before .wide .ensures .0, c .before .wide16 .ensures .0)) (c .if3 .taken)
+returns-3 c =
+    let at-if2 = c .before .before .before .before in
+    let at-if1 = at-if2 .before in
+    let at-rule-target = at-if1 .before in
+    let entry = at-rule-target .before in
+    is-none (entry .args .k) (entry .args .c) _ _ (entry .pre) (rw (at-rule-target .rule-target .ensures) at (at-if1 .if1 .left)) (at-if2 .if2 .left) (rw (c .before .before .wide .ensures .0, c .before .wide16 .ensures .0)) (c .if3 .taken)
 
 add-t15 : tie.Need-add-t15
 add-t15 c = search needs
@@ -56,7 +67,14 @@ element-copy-out-t20 : tie.Need-element-copy-out-t20
 element-copy-out-t20 c = search needs
 
 returns-4 : tie.Need-returns-4
-returns-4 c = is-fault (c .before .before .before .before .before .before .before .before .before .args .k) (c .before .before .before .before .before .before .before .before .before .args .c) _ _ (rw (c .before .before .before .before .before .before .before .before .rule-target .ensures) at (c .before .before .before .before .before .before .before .if1 .left)) (c .before .before .before .before .before .before .if2 .left) (rw (c .before .before .before .before .wide .ensures .0, c .before .before .before .wide16 .ensures .0)) refl refl
+returns-4 c =
+    let at-wide16 = c .before .before .before in
+    let at-wide = at-wide16 .before in
+    let at-if2 = at-wide .before .before in
+    let at-if1 = at-if2 .before in
+    let at-rule-target = at-if1 .before in
+    let entry = at-rule-target .before in
+    is-fault (entry .args .k) (entry .args .c) _ _ (rw (at-rule-target .rule-target .ensures) at (at-if1 .if1 .left)) (at-if2 .if2 .left) (rw (at-wide .wide .ensures .0, at-wide16 .wide16 .ensures .0)) refl refl
 
 pub transition-spec : {M : Type 1} → statement M
 transition-spec =

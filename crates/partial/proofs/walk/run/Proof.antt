@@ -19,7 +19,9 @@ loop-holds : tie.Need-loop-holds Inv-loop μ-loop
 loop-holds c = (c .start .ensures _ _ _ (c .before .before .pre .0) (c .before .before .pre .2), c .before .before .pre .3)
 
 stride-requires : tie.Need-stride-requires Inv-loop μ-loop
-stride-requires c κs = (c .before .before .before .before .pre .0, c .before .before .before .before .pre .1, c .before .loop .inv .0, c .before .loop .inv .1)
+stride-requires c κs =
+    let entry = c .before .before .before .before in
+    (entry .pre .0, entry .pre .1, c .before .loop .inv .0, c .before .loop .inv .1)
 
 enum-known-used : tie.Need-enum-known-used Inv-loop μ-loop
 enum-known-used c = search needs

@@ -32,7 +32,10 @@ empty-requires : tie.Need-empty-requires Inv-loop μ-loop
 empty-requires c κs = search needs
 
 returns : tie.Need-returns Inv-loop μ-loop
-returns c = (behind-cursor (c .empty .result) (c .before .before .before .before .before .args .waits) (c .before .before .before .before .before .pre .0) (c .empty .ensures) (c .before .before .before .loop .inv .0) (c .before .if1 .left), c .before .before .before .loop .inv .1, omega (arith, behind-inside (c .before .before .before .loop .inv .0)))
+returns c =
+    let at-loop = c .before .before .before in
+    let entry = at-loop .before .before in
+    (behind-cursor (c .empty .result) (entry .args .waits) (entry .pre .0) (c .empty .ensures) (at-loop .loop .inv .0) (c .before .if1 .left), at-loop .loop .inv .1, omega (arith, behind-inside (at-loop .loop .inv .0)))
 
 pub skip-spec : {M : Type 1} → statement M
 skip-spec =

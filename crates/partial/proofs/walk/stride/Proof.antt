@@ -18,16 +18,22 @@ note-requires c κs = (rw (c .before .before .i .given .1) at (c .before .before
 
 add-skip : tie.Need-add-skip
 add-skip c =
-    let st = rw (c .before .before .before .i .given .1) at (c .before .before .before .before .before .advance .ensures) in
-    omega (arith, st .within, c .before .before .before .before .before .before .before)
+    let at-i = c .before .before .before in
+    let at-advance = at-i .before .before in
+    let place = at-advance .before .before in
+    let st = rw (at-i .i .given .1) at (at-advance .advance .ensures) in
+    omega (arith, st .within, place)
 
 with-requires : tie.Need-with-requires
 with-requires c κs = (rw (c .before .before .before .i .given .1) at (c .before .before .before .before .before .advance .ensures)) .low
 
 skip-requires : tie.Need-skip-requires
 skip-requires c κs =
-    let st = rw (c .before .before .before .before .i .given .1) at (c .before .before .before .before .before .before .advance .ensures) in
-    (c .before .before .before .before .before .before .before .before .pre .0, st .behind, st .within)
+    let at-i = c .before .before .before .before in
+    let at-advance = at-i .before .before in
+    let entry = at-advance .before .before in
+    let st = rw (at-i .i .given .1) at (at-advance .advance .ensures) in
+    (entry .pre .0, st .behind, st .within)
 
 enum-known-next : tie.Need-enum-known-next
 enum-known-next c = search needs
@@ -40,8 +46,11 @@ returns c = (rw (c .before .used .given .1) at (c .before .before .before .advan
 
 returns-2 : tie.Need-returns-2
 returns-2 c =
-    let st = rw (c .before .before .before .before .before .i .given .1) at (c .before .before .before .before .before .before .before .advance .ensures) in
-    (record { ok = c .skip .ensures .0; more = omega (arith, c .skip .ensures .1); within = c .skip .ensures .2 }, wants-noted (c .before .before .before .before .before .before .before .before .before .pre .3) (st .low) (st .wanted) (c .before .before .note .ensures))
+    let at-i = c .before .before .before .before .before in
+    let at-advance = at-i .before .before in
+    let entry = at-advance .before .before in
+    let st = rw (at-i .i .given .1) at (at-advance .advance .ensures) in
+    (record { ok = c .skip .ensures .0; more = omega (arith, c .skip .ensures .1); within = c .skip .ensures .2 }, wants-noted (entry .pre .3) (st .low) (st .wanted) (c .before .before .note .ensures))
 
 returns-3 : tie.Need-returns-3
 returns-3 c = (rw (c .before .next .given .1) at (c .before .before .before .advance .ensures), c .before .before .before .before .before .pre .3)

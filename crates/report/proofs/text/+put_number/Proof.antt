@@ -69,7 +69,9 @@ put-number-put-number-requires : (t : ℕ) → put-number-lts.Need-put-number-re
   put-number-below t,
   put-number.Post,
 ) (put-number-at t) put-number.Post
-put-number-put-number-requires t c κs = (omega (arith, c .before .before .before .pre .0), omega (arith, c .before .before .before .pre .1, decimal-longer (c .before .before .before .args .n) (c .before .if1 .left)))
+put-number-put-number-requires t c κs =
+    let entry = c .before .before .before in
+    (omega (arith, entry .pre .0), omega (arith, entry .pre .1, decimal-longer (entry .args .n) (c .before .if1 .left)))
 
 put-number-put-requires-2 : (t : ℕ) → put-number-lts.Need-put-requires-2 (
   put-reads.Asked,
@@ -77,7 +79,11 @@ put-number-put-requires-2 : (t : ℕ) → put-number-lts.Need-put-requires-2 (
   put-number-below t,
   put-number.Post,
 ) (put-number-at t) put-number.Post
-put-number-put-requires-2 t c κs = omega (arith, c .before .before .before .before .before .before .before .pre .1, decimal-longer (c .before .before .before .before .before .before .before .args .n) (c .before .before .before .before .before .if1 .left), c .before .before .before .put-number .ensures .end, c .before .before .before .put-number .ensures .long)
+put-number-put-requires-2 t c κs =
+    let at-put-number = c .before .before .before in
+    let at-if1 = at-put-number .before .before in
+    let entry = at-if1 .before .before in
+    omega (arith, entry .pre .1, decimal-longer (entry .args .n) (at-if1 .if1 .left), at-put-number .put-number .ensures .end, at-put-number .put-number .ensures .long)
 
 put-number-same-length-2 : (t : ℕ) → put-number-lts.Need-same-length-2 (
   put-reads.Asked,
@@ -93,7 +99,10 @@ put-number-returns-2 : (t : ℕ) → put-number-lts.Need-returns-2 (
   put-number-below t,
   put-number.Post,
 ) (put-number-at t) put-number.Post
-put-number-returns-2 t c = number-more _ (c .before .before .before .before .before .before .before .before .if1 .left) (c .before .before .before .before .before .before .put-number .ensures) (c .before .before .put2 .ensures)
+put-number-returns-2 t c =
+    let at-put-number = c .before .before .before .before .before .before in
+    let at-if1 = at-put-number .before .before in
+    number-more _ (at-if1 .if1 .left) (at-put-number .put-number .ensures) (c .before .before .put2 .ensures)
 
 pub +put-number-spec : {M : Type 1} → statement M
 +put-number-spec = close μ-put-number λ t. put-number-lts.spec (

@@ -30,7 +30,10 @@ loop-less : tie.Need-loop-less Inv-loop μ-loop
 loop-less c = omega arith
 
 loop-again : tie.Need-loop-again Inv-loop μ-loop
-loop-again c = (omega arith, omega arith, appended-byte (c .before .before .before .before .before .before .before .before .before .args .text .now) (c .before .before .before .before .before .before .loop .i) (c .before .before .before .before .before .before .loop .inv .2) (c .before .before .put .ensures) (omega arith))
+loop-again c =
+    let at-loop = c .before .before .before .before .before .before in
+    let entry = at-loop .before .before .before in
+    (omega arith, omega arith, appended-byte (entry .args .text .now) (at-loop .loop .i) (at-loop .loop .inv .2) (c .before .before .put .ensures) (omega arith))
 
 same-length : tie.Need-same-length Inv-loop μ-loop
 same-length c = c .before .loop .inv .2 .long

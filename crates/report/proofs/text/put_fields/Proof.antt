@@ -27,7 +27,9 @@ cast-put-number c = omega (arith, c .shared-slice-known2 .given (c .before .befo
 
 put-number-requires : tie.Need-put-number-requires Inv-loop μ-loop
 put-number-requires c κs =
-    omega (arith, c .before .before .before .before .before .before .before .loop .inv .2 .long, c .before .before .before .before .put .ensures .end, c .before .before .before .before .put .ensures .long, byte-digits _ (c .shared-slice-known2 .given (c .before .before .before .before .before .before .before .loop .i)))
+    let at-put = c .before .before .before .before in
+    let at-loop = at-put .before .before .before in
+    omega (arith, at-loop .loop .inv .2 .long, at-put .put .ensures .end, at-put .put .ensures .long, byte-digits _ (c .shared-slice-known2 .given (at-loop .loop .i)))
 
 add-i : tie.Need-add-i Inv-loop μ-loop
 add-i c = omega arith
@@ -36,11 +38,15 @@ loop-less : tie.Need-loop-less Inv-loop μ-loop
 loop-less c = omega arith
 
 loop-again : tie.Need-loop-again Inv-loop μ-loop
-loop-again c = (
-  omega arith,
-  omega (arith, c .before .before .before .before .before .before .before .put .ensures .end, c .before .before .put-number .ensures .end, byte-digits _ (c .before .before .before .shared-slice-known2 .given (c .before .before .before .before .before .before .before .before .before .before .loop .i))),
-  field-more (c .before .before .before .before .before .before .before .before .before .before .before .before .before .args .numbers .now) (c .before .before .before .before .before .before .before .before .before .before .loop .i) (c .before .before .before .before .before .before .before .before .before .before .loop .inv .2) (c .before .before .before .before .before .before .before .put .ensures) (c .before .before .put-number .ensures) (omega arith),
-)
+loop-again c =
+    let at-shared-slice-known2 = c .before .before .before in
+    let at-put = at-shared-slice-known2 .before .before .before .before in
+    let at-loop = at-put .before .before .before in
+    let entry = at-loop .before .before .before in (
+      omega arith,
+      omega (arith, at-put .put .ensures .end, c .before .before .put-number .ensures .end, byte-digits _ (at-shared-slice-known2 .shared-slice-known2 .given (at-loop .loop .i))),
+      field-more (entry .args .numbers .now) (at-loop .loop .i) (at-loop .loop .inv .2) (at-put .put .ensures) (c .before .before .put-number .ensures) (omega arith),
+    )
 
 same-length : tie.Need-same-length Inv-loop μ-loop
 same-length c = c .before .loop .inv .2 .long

@@ -19,7 +19,10 @@ same-length c = search needs
 
 returns : tie.Need-returns
 unfolding line
-returns c = (appended-more (c .before .before .before .before .before .before .before .before .before .before .put-all .ensures) (appended-more (c .before .before .before .before .before .before .put-fields .ensures .0) (c .before .before .put .ensures)), search needs)
+returns c =
+    let at-put-fields = c .before .before .before .before .before .before in
+    let at-put-all = at-put-fields .before .before .before .before in
+    (appended-more (at-put-all .put-all .ensures) (appended-more (at-put-fields .put-fields .ensures .0) (c .before .before .put .ensures)), search needs)
 
 pub put-line-spec : {M : Type 1} → statement M
 put-line-spec =

@@ -19,13 +19,21 @@ slice-aggregate-put-all-2 : tie.Need-slice-aggregate-put-all-2
 slice-aggregate-put-all-2 c = search needs
 
 put-all-requires-2 : tie.Need-put-all-requires-2
-put-all-requires-2 c κs = omega (arith, byte-digits _ (c .before .before .before .before .before .before .before .before .before .before .before .before .fits .number))
+put-all-requires-2 c κs =
+    let at-fits = c .before .before .before .before .before .before .before .before .before .before .before .before in
+    omega (arith, byte-digits _ (at-fits .fits .number))
 
 put-number-requires-2 : tie.Need-put-number-requires-2
-put-number-requires-2 c κs = omega (arith, byte-digits _ (c .before .before .before .before .before .before .before .before .before .before .before .before .before .before .before .before .fits .number), place-digits _ (c .before .before .before .before .before .before .before .before .before .before .before .before .before .before .before .before .fits .place))
+put-number-requires-2 c κs =
+    let place-2 = c .before .before .before .before .before .before .before .before .before .before .before .before .before .before .before .before in
+    let at-fits = place-2 in
+    omega (arith, byte-digits _ (at-fits .fits .number), place-digits _ (at-fits .fits .place))
 
 put-requires : tie.Need-put-requires
-put-requires c κs = omega (arith, byte-digits _ (c .before .before .before .before .before .before .before .before .before .before .before .before .before .before .before .before .before .before .before .before .fits .number), place-digits _ (c .before .before .before .before .before .before .before .before .before .before .before .before .before .before .before .before .before .before .before .before .fits .place))
+put-requires c κs =
+    let place-2 = c .before .before .before .before .before .before .before .before .before .before .before .before .before .before .before .before .before .before .before .before in
+    let at-fits = place-2 in
+    omega (arith, byte-digits _ (at-fits .fits .number), place-digits _ (at-fits .fits .place))
 
 same-length : tie.Need-same-length
 same-length c = search needs
@@ -33,8 +41,12 @@ same-length c = search needs
 returns : tie.Need-returns
 unfolding refusedLine
 returns c =
-    appended-more (c .before .before .before .before .before .before .before .before .before .before .before .before .before .before .before .before .before .before .before .put-all .ensures)
-    (appended-more (c .before .before .before .before .before .before .before .before .before .before .before .before .before .before .before .put-number .ensures) (appended-more (c .before .before .before .before .before .before .before .before .before .before .put-all2 .ensures) (appended-more (c .before .before .before .before .before .before .put-number2 .ensures) (c .before .before .put .ensures))))
+    let at-put-number2 = c .before .before .before .before .before .before in
+    let at-put-all2 = at-put-number2 .before .before .before .before in
+    let at-put-number = at-put-all2 .before .before .before .before .before in
+    let at-put-all = at-put-number .before .before .before .before in
+    appended-more (at-put-all .put-all .ensures)
+    (appended-more (at-put-number .put-number .ensures) (appended-more (at-put-all2 .put-all2 .ensures) (appended-more (at-put-number2 .put-number2 .ensures) (c .before .before .put .ensures))))
 
 pub put-refused-spec : {M : Type 1} → statement M
 put-refused-spec =

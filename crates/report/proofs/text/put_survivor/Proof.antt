@@ -28,7 +28,10 @@ same-length c = search needs
 
 returns : tie.Need-returns
 unfolding survivorLines
-returns c = appended-more (c .before .before .before .before .before .before .before .before .before .before .before .before .put-all .ensures) (appended-more (c .before .before .before .before .before .before .before .put-line .ensures .0) (c .before .before .put-line2 .ensures .0))
+returns c =
+    let at-put-line = c .before .before .before .before .before .before .before in
+    let at-put-all = at-put-line .before .before .before .before .before in
+    appended-more (at-put-all .put-all .ensures) (appended-more (at-put-line .put-line .ensures .0) (c .before .before .put-line2 .ensures .0))
 
 pub put-survivor-spec : {M : Type 1} → statement M
 put-survivor-spec =

@@ -29,7 +29,13 @@ add-t20 : tie.Need-add-t20
 add-t20 c = search needs
 
 returns : tie.Need-returns
-returns c = let a = c .before .before .before .before .before .before .before .before .before .args in let s = now (a .sheet) in laws.whole s (a .at) _ _ _ _ _ (c .before .before .before .before .before .before .before .if1 .taken) (c .before .before .before .before .before .width-of .ensures) (c .before .before .before .before .if2 .taken) (c .before .before .before .operand-of .ensures) (c .before .before .operand-of2 .ensures) (c .before .operand-of3 .ensures) (c .operand-of4 .ensures)
+returns c =
+    let at-operand-of = c .before .before .before in
+    let at-if2 = at-operand-of .before in
+    let at-width-of = at-if2 .before in
+    let at-if1 = at-width-of .before .before in
+    let entry = at-if1 .before .before in
+    let a = entry .args in let s = now (a .sheet) in laws.whole s (a .at) _ _ _ _ _ (at-if1 .if1 .taken) (at-width-of .width-of .ensures) (at-if2 .if2 .taken) (at-operand-of .operand-of .ensures) (c .before .before .operand-of2 .ensures) (c .before .operand-of3 .ensures) (c .operand-of4 .ensures)
 
 returns-2 : tie.Need-returns-2
 returns-2 c = let a = c .before .before .before .before .before .args in let s = now (a .sheet) in laws.short s (a .at) _ (c .before .before .before .if1 .taken) (c .before .width-of .ensures) (c .if2 .left)

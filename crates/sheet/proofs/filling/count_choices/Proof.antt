@@ -33,9 +33,10 @@ mul-n c = omega arith
 
 element-copy-out-n : tie.Need-element-copy-out-n Inv-loop μ-loop
 element-copy-out-n c =
-    let a = c .before .before .before .before .args in
+    let entry = c .before .before .before .before in
+    let a = entry .args in
     let l = c .before .loop in
-    let g = l .inv .1 (a .size) (c .before .before .before .before .pre .1 .0) refl (c .before .before .before .before .pre .1 .1) in
+    let g = l .inv .1 (a .size) (entry .pre .1 .0) refl (entry .pre .1 .1) in
     omega (arith, g .size)
 
 element-copy-out-t : tie.Need-element-copy-out-t Inv-loop μ-loop
@@ -43,19 +44,23 @@ element-copy-out-t c = omega (arith, c .before .before .before .before .before .
 
 choices-of-requires : tie.Need-choices-of-requires Inv-loop μ-loop
 choices-of-requires c κs =
-    let a = c .before .before .before .before .before .before .args in
-    let l = c .before .before .before .loop in
-    let g = l .inv .1 (a .size) (c .before .before .before .before .before .before .pre .1 .0) refl (c .before .before .before .before .before .before .pre .1 .1) in
-    laws.faults-here (a .size) _ _ (c .before .before .before .before .before .before .pre .1 .0) (c .before .before .before .before .before .before .pre .1 .1) (l .p) (omega arith) g
+    let at-loop = c .before .before .before in
+    let entry = at-loop .before .before .before in
+    let a = entry .args in
+    let l = at-loop .loop in
+    let g = l .inv .1 (a .size) (entry .pre .1 .0) refl (entry .pre .1 .1) in
+    laws.faults-here (a .size) _ _ (entry .pre .1 .0) (entry .pre .1 .1) (l .p) (omega arith) g
 
 mul-choices : tie.Need-mul-choices Inv-loop μ-loop
 mul-choices c = omega arith
 
 element-write-choices : tie.Need-element-write-choices Inv-loop μ-loop
 element-write-choices c =
-    let a = c .before .before .before .before .before .before .before .args in
-    let l = c .before .before .before .before .loop in
-    let g = l .inv .1 (a .size) (c .before .before .before .before .before .before .before .pre .1 .0) refl (c .before .before .before .before .before .before .before .pre .1 .1) in
+    let at-loop = c .before .before .before .before in
+    let entry = at-loop .before .before .before in
+    let a = entry .args in
+    let l = at-loop .loop in
+    let g = l .inv .1 (a .size) (entry .pre .1 .0) refl (entry .pre .1 .1) in
     omega (arith, g .size)
 
 add-p : tie.Need-add-p Inv-loop μ-loop

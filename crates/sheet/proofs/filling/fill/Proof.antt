@@ -43,36 +43,44 @@ add-tests c =
 
 fill-faults-requires : tie.Need-fill-faults-requires
 fill-faults-requires c κs =
-    let a = c .before .before .before .before .before .before .before .args in
+    let entry = c .before .before .before .before .before .before .before in
+    let a = entry .args in
     let s = now (a .sheet) in
-    let sh = c .before .before .before .before .before .before .before .pre .0 in
-    let h = c .before .before .before .before .before .before .before .pre .1 in
+    let sh = entry .pre .0 in
+    let h = entry .pre .1 in
     ((sh .faults, laws.faults-here s (a .summary) _ _ sh h, laws.faults-are s (a .summary) _ _ sh h), faults-none)
 
 count-choices-requires : tie.Need-count-choices-requires
 count-choices-requires c κs =
-    let a = c .before .before .before .before .before .before .before .before .before .before .args in
+    let place = c .before .before .before .before .before .before .before .before .before .before in
+    let entry = place in
+    let a = entry .args in
     let s = now (a .sheet) in
-    let sh = c .before .before .before .before .before .before .before .before .before .before .pre .0 in
-    let h = c .before .before .before .before .before .before .before .before .before .before .pre .1 in
+    let sh = entry .pre .0 in
+    let h = entry .pre .1 in
     let f = c .before .before .fill-faults .ensures (sh .faults) (laws.faults-here s (a .summary) _ _ sh h) (laws.faults-are s (a .summary) _ _ sh h) in
     (laws.size-fits s (a .summary) _ _ sh h, (sh, laws.countable s (a .summary) _ _ sh h _ _ _ _ f))
 
 fill-tests-requires : tie.Need-fill-tests-requires
 fill-tests-requires c κs =
-    let a = c .before .before .before .before .before .before .before .before .before .before .before .before .before .args in
+    let place = c .before .before .before .before .before .before .before .before .before .before .before .before .before in
+    let entry = place in
+    let a = entry .args in
     let s = now (a .sheet) in
-    let sh = c .before .before .before .before .before .before .before .before .before .before .before .before .before .pre .0 in
-    let h = c .before .before .before .before .before .before .before .before .before .before .before .before .before .pre .1 in
+    let sh = entry .pre .0 in
+    let h = entry .pre .1 in
     (sh .tests, laws.tests-here s (a .summary) _ _ sh h, laws.tests-are s (a .summary) _ _ sh h, tests-none _ _)
 
 returns : tie.Need-returns
 returns c =
+    let at-count-choices = c .before .before .before in
+    let at-fill-faults = at-count-choices .before .before .before in
+    let entry = at-fill-faults .before .before .before .before .before .before .before .before in
     λ sh h.
-    let a = c .before .before .before .before .before .before .before .before .before .before .before .before .before .before .args in
+    let a = entry .args in
     let s = now (a .sheet) in
-    let f = c .before .before .before .before .before .before .fill-faults .ensures (sh .faults) (laws.faults-here s (a .summary) _ _ sh h) (laws.faults-are s (a .summary) _ _ sh h) in
-    let n = c .before .before .before .count-choices .ensures sh (laws.countable s (a .summary) _ _ sh h _ _ _ _ f) in
+    let f = at-fill-faults .fill-faults .ensures (sh .faults) (laws.faults-here s (a .summary) _ _ sh h) (laws.faults-are s (a .summary) _ _ sh h) in
+    let n = at-count-choices .count-choices .ensures sh (laws.countable s (a .summary) _ _ sh h _ _ _ _ f) in
     let t = c .fill-tests .ensures (sh .tests) (laws.tests-here s (a .summary) _ _ sh h) (laws.tests-are s (a .summary) _ _ sh h) (tests-none _ _) in
     laws.filled s (a .summary) _ _ sh h _ _ _ _ _ _ _ f n t
 

@@ -31,15 +31,20 @@ row-of-requires c κs = search needs
 
 note-fault-requires : tie.Need-note-fault-requires Inv-loop μ-loop
 note-fault-requires c κs =
-    let a = c .before .before .before .before .before .before .before .before .before .before .args in
+    let at-row-of = c .before .before .before .before in
+    let at-item-in = at-row-of .before in
+    let at-fetch-from = at-item-in .before in
+    let at-loop = at-fetch-from .before .before in
+    let entry = at-loop .before .before in
+    let a = entry .args in
     let s = now (a .sheet) in
-    let l = c .before .before .before .before .before .before .before .before .loop in
-    let f = c .before .before .before .before .before .before .fetch-from in
-    let rows = c .before .before .before .before .before .before .before .before .before .before .pre .0 .0 in
-    let from = c .before .before .before .before .before .before .before .before .before .before .pre .0 .1 in
-    let g = l .inv .1 rows from (c .before .before .before .before .before .before .before .before .before .before .pre .0 .2) (c .before .before .before .before .before .before .before .before .before .before .pre .1) in
-    let h : l .i < length rows = omega (arith, c .before .before .before .before .before .before .before .before .before .before .pre .0 .2) in
-    let same = laws.row-fetched s (a .place) rows from (l .at) (l .i) h _ _ _ _ g (f .result) (c .before .before .before .before .before .item-in .result) (c .before .before .before .before .row-of .result) (f .ensures) (c .before .before .before .before .before .item-in .ensures) (c .before .before .before .before .row-of .ensures) in
+    let l = at-loop .loop in
+    let f = at-fetch-from .fetch-from in
+    let rows = entry .pre .0 .0 in
+    let from = entry .pre .0 .1 in
+    let g = l .inv .1 rows from (entry .pre .0 .2) (entry .pre .1) in
+    let h : l .i < length rows = omega (arith, entry .pre .0 .2) in
+    let same = laws.row-fetched s (a .place) rows from (l .at) (l .i) h _ _ _ _ g (f .result) (at-item-in .item-in .result) (at-row-of .row-of .result) (f .ensures) (at-item-in .item-in .ensures) (at-row-of .row-of .ensures) in
     (laws.row-digits s (a .place) rows from (l .at) (l .i) h _ _ _ _ g _ same, omega (arith, from .few), (_, laws.taken-length s (a .place) rows from (l .at) (l .i) h _ _ _ _ g, g .tables))
 
 add-i : tie.Need-add-i Inv-loop μ-loop
@@ -50,16 +55,21 @@ loop-less c = omega arith
 
 loop-again : tie.Need-loop-again Inv-loop μ-loop
 loop-again c =
-    let a = c .before .before .before .before .before .before .before .before .before .before .before .args in
+    let at-row-of = c .before .before .before .before .before in
+    let at-item-in = at-row-of .before in
+    let at-fetch-from = at-item-in .before in
+    let at-loop = at-fetch-from .before .before in
+    let entry = at-loop .before .before in
+    let a = entry .args in
     let s = now (a .sheet) in
-    let l = c .before .before .before .before .before .before .before .before .before .loop in
-    let f = c .before .before .before .before .before .before .before .fetch-from in (
+    let l = at-loop .loop in
+    let f = at-fetch-from .fetch-from in (
       omega arith,
       λ rows from e t.
           let g = l .inv .1 rows from e t in
           let h : l .i < length rows = omega arith in
-          let same = laws.row-fetched s (a .place) rows from (l .at) (l .i) h _ _ _ _ g (f .result) (c .before .before .before .before .before .before .item-in .result) (c .before .before .before .before .before .row-of .result) (f .ensures) (c .before .before .before .before .before .before .item-in .ensures) (c .before .before .before .before .before .row-of .ensures) in
-          laws.filling-next s (a .place) rows from (l .at) (l .i) h _ _ _ _ g (f .result) (c .before .before .before .before .before .row-of .result) _ _ _ _ (f .ensures) same
+          let same = laws.row-fetched s (a .place) rows from (l .at) (l .i) h _ _ _ _ g (f .result) (at-item-in .item-in .result) (at-row-of .row-of .result) (f .ensures) (at-item-in .item-in .ensures) (at-row-of .row-of .ensures) in
+          laws.filling-next s (a .place) rows from (l .at) (l .i) h _ _ _ _ g (f .result) (at-row-of .row-of .result) _ _ _ _ (f .ensures) same
           (c .note-fault .ensures _ (laws.taken-length s (a .place) rows from (l .at) (l .i) h _ _ _ _ g) (g .tables)),
     )
 

@@ -24,27 +24,35 @@ cast-starts : tie.Need-cast-starts Inv-loop μ-loop
 cast-starts c = omega (arith, c .before .test-at .ensures .within, c .before .before .before .before .before .pre .1 .short)
 
 mul-starts : tie.Need-mul-starts Inv-loop μ-loop
-mul-starts c = omega (arith, c .before .before .before .before .before .pre .1 .few, c .before .before .before .before .before .pre .2)
+mul-starts c =
+    let entry = c .before .before .before .before .before in
+    omega (arith, entry .pre .1 .few, entry .pre .2)
 
 element-write-starts : tie.Need-element-write-starts Inv-loop μ-loop
 element-write-starts c =
-    let a = c .before .before .before .before .before .args in
-    let l = c .before .before .before .loop in
-    let g = l .inv .2 (c .before .before .before .before .before .pre .0) (c .before .before .before .before .before .pre .1) (c .before .before .before .before .before .pre .2) (c .before .before .before .before .before .pre .3) in
-    omega (arith, g .tables .starts-are .size, c .before .before .before .before .before .pre .1 .few, c .before .before .before .before .before .pre .2)
+    let at-loop = c .before .before .before in
+    let entry = at-loop .before .before in
+    let a = entry .args in
+    let l = at-loop .loop in
+    let g = l .inv .2 (entry .pre .0) (entry .pre .1) (entry .pre .2) (entry .pre .3) in
+    omega (arith, g .tables .starts-are .size, entry .pre .1 .few, entry .pre .2)
 
 cast-lengths : tie.Need-cast-lengths Inv-loop μ-loop
 cast-lengths c = omega (arith, c .before .before .test-at .ensures .within, c .before .before .before .before .before .before .pre .1 .short)
 
 mul-lengths : tie.Need-mul-lengths Inv-loop μ-loop
-mul-lengths c = omega (arith, c .before .before .before .before .before .before .pre .1 .few, c .before .before .before .before .before .before .pre .2)
+mul-lengths c =
+    let entry = c .before .before .before .before .before .before in
+    omega (arith, entry .pre .1 .few, entry .pre .2)
 
 element-write-lengths : tie.Need-element-write-lengths Inv-loop μ-loop
 element-write-lengths c =
-    let a = c .before .before .before .before .before .before .args in
-    let l = c .before .before .before .before .loop in
-    let g = l .inv .2 (c .before .before .before .before .before .before .pre .0) (c .before .before .before .before .before .before .pre .1) (c .before .before .before .before .before .before .pre .2) (c .before .before .before .before .before .before .pre .3) in
-    omega (arith, g .tables .lengths-are .size, c .before .before .before .before .before .before .pre .1 .few, c .before .before .before .before .before .before .pre .2)
+    let at-loop = c .before .before .before .before in
+    let entry = at-loop .before .before in
+    let a = entry .args in
+    let l = at-loop .loop in
+    let g = l .inv .2 (entry .pre .0) (entry .pre .1) (entry .pre .2) (entry .pre .3) in
+    omega (arith, g .tables .lengths-are .size, entry .pre .1 .few, entry .pre .2)
 
 add-at : tie.Need-add-at Inv-loop μ-loop
 add-at c = omega (arith, c .before .before .before .test-at .ensures .within)
@@ -57,9 +65,12 @@ loop-less c = omega arith
 
 loop-again : tie.Need-loop-again Inv-loop μ-loop
 loop-again c =
-    let a = c .before .before .before .before .before .before .before .args in
-    let l = c .before .before .before .before .before .loop in
-    (omega arith, c .before .before .before .test-at .ensures .within, λ tests h e t. laws.testing-next _ (a .place) tests _ _ (l .at) (l .i) h (omega arith) (c .before .before .before .test-at .result) (c .before .before .before .test-at .ensures) (l .inv .2 tests h e t))
+    let at-test-at = c .before .before .before in
+    let at-loop = at-test-at .before .before in
+    let entry = at-loop .before .before in
+    let a = entry .args in
+    let l = at-loop .loop in
+    (omega arith, at-test-at .test-at .ensures .within, λ tests h e t. laws.testing-next _ (a .place) tests _ _ (l .at) (l .i) h (omega arith) (at-test-at .test-at .result) (at-test-at .test-at .ensures) (l .inv .2 tests h e t))
 
 returns : tie.Need-returns Inv-loop μ-loop
 returns c = λ l h e t. let q : c .before .loop .i ≡ c .before .before .before .args .tests = omega arith in rw (← q) (c .before .loop .inv .2 l h e t .tables)

@@ -41,7 +41,9 @@ element-write-first : tie.Need-element-write-first
 element-write-first c = search needs
 
 add-count : tie.Need-add-count
-add-count c = let k = laws.count-few _ _ _ _ _ (c .before .before .before .before .before .args .row) (c .before .before .before .before .before .pre .0) (c .before .before .before .before .before .pre .2 .2) in omega arith
+add-count c =
+    let entry = c .before .before .before .before .before in
+    let k = laws.count-few _ _ _ _ _ (entry .args .row) (entry .pre .0) (entry .pre .2 .2) in omega arith
 
 mul-count : tie.Need-mul-count
 mul-count c = search needs
@@ -56,7 +58,9 @@ element-write-diverted : tie.Need-element-write-diverted
 element-write-diverted c = search needs
 
 returns : tie.Need-returns
-returns c = λ l e h. laws.fault-more _ _ _ _ l (c .before .before .before .before .before .args .row) (c .before .before .before .before .before .args .i) _ (c .before .before .before .before .before .pre .0) (c .before .before .before .before .before .pre .1) e (c .first-of .ensures) h
+returns c =
+    let entry = c .before .before .before .before .before in
+    λ l e h. laws.fault-more _ _ _ _ l (entry .args .row) (entry .args .i) _ (entry .pre .0) (entry .pre .1) e (c .first-of .ensures) h
 
 pub note-fault-spec : {M : Type 1} → statement M
 note-fault-spec =

@@ -36,12 +36,14 @@ loop-less : tie.Need-loop-less Inv-loop μ-loop
 loop-less c = omega arith
 
 loop-again : tie.Need-loop-again Inv-loop μ-loop
-loop-again c = (
-  omega arith,
-  λ sh e h.
-      let r = c .before .before .before .before .loop .inv .1 sh e h in
-      laws.rounds-more (c .before .before .before .before .before .args .size) sh _ e (r .seen) (c .round .ensures (sh .rules) (r .before) (reachedWithin sh _) h (r .done) (r .seen) (r .follows)),
-)
+loop-again c =
+    let at-loop = c .before .before .before .before in
+    let entry = at-loop .before in (
+      omega arith,
+      λ sh e h.
+          let r = at-loop .loop .inv .1 sh e h in
+          laws.rounds-more (entry .args .size) sh _ e (r .seen) (c .round .ensures (sh .rules) (r .before) (reachedWithin sh _) h (r .done) (r .seen) (r .follows)),
+    )
 
 all-marked-requires-2 : tie.Need-all-marked-requires-2 Inv-loop μ-loop
 all-marked-requires-2 c κs = c .before .before .pre .states

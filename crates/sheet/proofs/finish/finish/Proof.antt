@@ -23,16 +23,24 @@ open-pairs-requires : tie.Need-open-pairs-requires
 open-pairs-requires c κs = search needs
 
 returns-2 : tie.Need-returns-2
-returns-2 c = λ sh k.
-    let a = c .before .before .before .before .before .before .args in
+returns-2 c =
+    let at-all-reached = c .before .before .before in
+    let at-if1 = at-all-reached .before in
+    let entry = at-if1 .before .before in
+    λ sh k.
+    let a = entry .args in
     let n = c .before .open-pairs .ensures sh k in
-    ap Accepted n ∙ laws.end-good sh (now (a .sheet)) (a .at) (c .before .before .before .before .if1 .left) (sym (c .before .before .before .all-reached .ensures sh (k .size) (k .leads)) ∙ c .before .before .if2 .taken) (omega arith)
+    ap Accepted n ∙ laws.end-good sh (now (a .sheet)) (a .at) (at-if1 .if1 .left) (sym (at-all-reached .all-reached .ensures sh (k .size) (k .leads)) ∙ c .before .before .if2 .taken) (omega arith)
 
 returns-3 : tie.Need-returns-3
-returns-3 c = λ sh k.
-    let a = c .before .before .before .before .before .before .args in
+returns-3 c =
+    let at-all-reached = c .before .before .before in
+    let at-if1 = at-all-reached .before in
+    let entry = at-if1 .before .before in
+    λ sh k.
+    let a = entry .args in
     let n = c .before .open-pairs .ensures sh k in
-    laws.end-many sh (now (a .sheet)) (a .at) (c .before .before .before .before .if1 .left) (sym (c .before .before .before .all-reached .ensures sh (k .size) (k .leads)) ∙ c .before .before .if2 .taken) (omega arith)
+    laws.end-many sh (now (a .sheet)) (a .at) (at-if1 .if1 .left) (sym (at-all-reached .all-reached .ensures sh (k .size) (k .leads)) ∙ c .before .before .if2 .taken) (omega arith)
 
 returns-4 : tie.Need-returns-4
 returns-4 c = λ sh k.

@@ -39,9 +39,11 @@ loop-less : tie.Need-loop-less Inv-loop μ-loop
 loop-less c = omega arith
 
 loop-again : tie.Need-loop-again Inv-loop μ-loop
-loop-again c = ⊎-elim
-    (λ w. (omega arith, λ rules f g h d m q. rw (w .2) (laws.round-new (c .before .before .before .before .args .size) rules g d m _ (omega (arith, c .before .before .before .before .pre)) (w .0 .taken) (w .1 .ensures rules _ h (c .before .before .loop .inv .1 rules f g h d m q)))))
-    (λ w. (omega arith, λ rules f g h d m q. rw (w .1) (laws.round-known (c .before .before .before .before .args .size) rules g d m _ (omega (arith, c .before .before .before .before .pre)) q (omega arith) (w .0 .left) (c .before .before .loop .inv .1 rules f g h d m q))))
+loop-again c =
+    let entry = c .before .before .before .before in
+    ⊎-elim
+    (λ w. (omega arith, λ rules f g h d m q. rw (w .2) (laws.round-new (entry .args .size) rules g d m _ (omega (arith, entry .pre)) (w .0 .taken) (w .1 .ensures rules _ h (c .before .before .loop .inv .1 rules f g h d m q)))))
+    (λ w. (omega arith, λ rules f g h d m q. rw (w .1) (laws.round-known (entry .args .size) rules g d m _ (omega (arith, entry .pre)) q (omega arith) (w .0 .left) (c .before .before .loop .inv .1 rules f g h d m q))))
     (c .if1 .came)
 
 returns : tie.Need-returns Inv-loop μ-loop

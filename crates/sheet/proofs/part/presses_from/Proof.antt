@@ -32,10 +32,13 @@ add-n c = omega arith
 
 loop-less : tie.Need-loop-less Inv-loop μ-loop
 loop-less c =
-    let a = c .before .before .before .before .before .before .args in
+    let at-fetch-from = c .before .before .before in
+    let at-loop = at-fetch-from .before in
+    let entry = at-loop .before .before in
+    let a = entry .args in
     let s = now (a .sheet) in
-    let l = c .before .before .before .before .loop in
-    let f = c .before .before .before .fetch-from in
+    let l = at-loop .loop in
+    let f = at-fetch-from .fetch-from in
     let i = c .before .before .item-in in
     let w = laws.taken-whole s (l .at) (f .result) (i .result) (f .ensures) (i .ensures) (omega arith) in
     let e = w .next ∙ ap (λ (b : ℕ). l .at + width b) (sym (w .byte) ∙ c .if1 .taken) in
@@ -43,10 +46,13 @@ loop-less c =
 
 loop-again : tie.Need-loop-again Inv-loop μ-loop
 loop-again c =
-    let a = c .before .before .before .before .before .before .args in
+    let at-fetch-from = c .before .before .before in
+    let at-loop = at-fetch-from .before in
+    let entry = at-loop .before .before in
+    let a = entry .args in
     let s = now (a .sheet) in
-    let l = c .before .before .before .before .loop in
-    let f = c .before .before .before .fetch-from in
+    let l = at-loop .loop in
+    let f = at-fetch-from .fetch-from in
     let i = c .before .before .item-in in
     let w = laws.taken-whole s (l .at) (f .result) (i .result) (f .ensures) (i .ensures) (omega arith) in
     let e = w .next ∙ ap (λ (b : ℕ). l .at + width b) (sym (w .byte) ∙ c .if1 .taken) in
@@ -54,10 +60,13 @@ loop-again c =
 
 returns : tie.Need-returns Inv-loop μ-loop
 returns c =
-    let a = c .before .before .before .before .before .before .args in
+    let at-fetch-from = c .before .before .before in
+    let at-loop = at-fetch-from .before in
+    let entry = at-loop .before .before in
+    let a = entry .args in
     let s = now (a .sheet) in
-    let l = c .before .before .before .before .loop in
-    let f = c .before .before .before .fetch-from in
+    let l = at-loop .loop in
+    let f = at-fetch-from .fetch-from in
     let i = c .before .before .item-in in
     record { within = omega (arith, l .inv .0, l .inv .1); counted = λ xs rest d calm. laws.left-stop s xs rest calm (l .n) (l .at) (f .result) (i .result) (f .ensures) (i .ensures) (c .if1 .left) (l .inv .2 xs rest d calm) }
 

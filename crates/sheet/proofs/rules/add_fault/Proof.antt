@@ -40,10 +40,19 @@ add-key-2 : tie.Need-add-key-2
 add-key-2 c = search needs
 
 is-other-requires : tie.Need-is-other-requires
-is-other-requires c κs = let a = c .before .before .before .before .before .before .before .before .args in omega (arith, row-in (a .size) (a .row) (sym (c .before .before .before .before .before .before .before .in-range .ensures) ∙ c .before .before .before .before .before .before .if1 .taken))
+is-other-requires c κs =
+    let at-if1 = c .before .before .before .before .before .before in
+    let at-in-range = at-if1 .before in
+    let entry = at-in-range .before in
+    let a = entry .args in omega (arith, row-in (a .size) (a .row) (sym (at-in-range .in-range .ensures) ∙ at-if1 .if1 .taken))
 
 element-write-faulty : tie.Need-element-write-faulty
-element-write-faulty c = let a = c .before .before .before .before .before .before .before .before .before .before .before .before .args in omega (arith, row-in (a .size) (a .row) (sym (c .before .before .before .before .before .before .before .before .before .before .before .in-range .ensures) ∙ c .before .before .before .before .before .before .before .before .before .before .if1 .taken))
+element-write-faulty c =
+    let place = c .before .before .before .before .before .before .before .before .before .before in
+    let at-if1 = place in
+    let at-in-range = at-if1 .before in
+    let entry = at-in-range .before in
+    let a = entry .args in omega (arith, row-in (a .size) (a .row) (sym (at-in-range .in-range .ensures) ∙ at-if1 .if1 .taken))
 
 add-t24 : tie.Need-add-t24
 add-t24 c = search needs
@@ -52,16 +61,38 @@ add-t25 : tie.Need-add-t25
 add-t25 c = search needs
 
 returns : tie.Need-returns
-returns c = λ sh ez ho ht h. fault-taken sh _ _ _ _ ez h (c .before .before .before .before .before .before .before .before .before .before .before .before .before .pre .0) (sym (c .before .before .before .before .before .before .before .before .before .before .before .before .in-range .ensures) ∙ c .before .before .before .before .before .before .before .before .before .before .before .if1 .taken) (c .before .before .before .before .before .if2 .taken) (sym (c .before .before .before .before .is-other .ensures _ ho ht) ∙ c .before .before .before .if3 .taken) (c .before .if4 .taken)
+returns c =
+    let at-if3 = c .before .before .before in
+    let at-is-other = at-if3 .before in
+    let at-if2 = at-is-other .before in
+    let at-if1 = at-if2 .before .before .before .before .before .before in
+    let at-in-range = at-if1 .before in
+    let entry = at-in-range .before in
+    λ sh ez ho ht h. fault-taken sh _ _ _ _ ez h (entry .pre .0) (sym (at-in-range .in-range .ensures) ∙ at-if1 .if1 .taken) (at-if2 .if2 .taken) (sym (at-is-other .is-other .ensures _ ho ht) ∙ at-if3 .if3 .taken) (c .before .if4 .taken)
 
 returns-2 : tie.Need-returns-2
-returns-2 c = λ sh ez ho ht h. fault-many sh _ _ _ _ ez h (c .before .before .before .before .before .before .before .before .before .before .before .before .pre .0) (sym (c .before .before .before .before .before .before .before .before .before .before .before .in-range .ensures) ∙ c .before .before .before .before .before .before .before .before .before .before .if1 .taken) (c .before .before .before .before .if2 .taken) (sym (c .before .before .before .is-other .ensures _ ho ht) ∙ c .before .before .if3 .taken) (c .if4 .left)
+returns-2 c =
+    let at-is-other = c .before .before .before in
+    let at-if2 = at-is-other .before in
+    let at-if1 = at-if2 .before .before .before .before .before .before in
+    let at-in-range = at-if1 .before in
+    let entry = at-in-range .before in
+    λ sh ez ho ht h. fault-many sh _ _ _ _ ez h (entry .pre .0) (sym (at-in-range .in-range .ensures) ∙ at-if1 .if1 .taken) (at-if2 .if2 .taken) (sym (at-is-other .is-other .ensures _ ho ht) ∙ c .before .before .if3 .taken) (c .if4 .left)
 
 returns-3 : tie.Need-returns-3
-returns-3 c = λ sh ez ho ht h. fault-same sh _ _ _ _ ez h (c .before .before .before .before .before .before .before .before .before .before .pre .0) (sym (c .before .before .before .before .before .before .before .before .before .in-range .ensures) ∙ c .before .before .before .before .before .before .before .before .if1 .taken) (c .before .before .if2 .taken) (sym (c .before .is-other .ensures _ ho ht) ∙ c .if3 .left)
+returns-3 c =
+    let place = c .before .before .before .before .before .before .before .before in
+    let at-if1 = place in
+    let at-in-range = at-if1 .before in
+    let entry = at-in-range .before in
+    λ sh ez ho ht h. fault-same sh _ _ _ _ ez h (entry .pre .0) (sym (at-in-range .in-range .ensures) ∙ at-if1 .if1 .taken) (c .before .before .if2 .taken) (sym (c .before .is-other .ensures _ ho ht) ∙ c .if3 .left)
 
 returns-4 : tie.Need-returns-4
-returns-4 c = λ sh ez ho ht h. fault-unordered sh _ _ _ _ ez h (c .before .before .before .before .before .before .before .before .pre .0) (sym (c .before .before .before .before .before .before .before .in-range .ensures) ∙ c .before .before .before .before .before .before .if1 .taken) (c .if2 .left)
+returns-4 c =
+    let at-if1 = c .before .before .before .before .before .before in
+    let at-in-range = at-if1 .before in
+    let entry = at-in-range .before in
+    λ sh ez ho ht h. fault-unordered sh _ _ _ _ ez h (entry .pre .0) (sym (at-in-range .in-range .ensures) ∙ at-if1 .if1 .taken) (c .if2 .left)
 
 returns-5 : tie.Need-returns-5
 returns-5 c = λ sh ez ho ht h. fault-outside sh _ _ _ _ ez h (sym (c .before .in-range .ensures) ∙ c .if1 .left)

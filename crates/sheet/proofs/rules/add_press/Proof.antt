@@ -21,10 +21,18 @@ cast-t19 : tie.Need-cast-t19
 cast-t19 c = search needs
 
 returns : tie.Need-returns
-returns c = λ sh ez hr h b. let a = c .before .before .before .before .before .before .before .before .args in press-taken sh (a .size) (a .tests) (a .x) _ ez h b (c .before .before .before .before .before .before .if1 .taken) (c .before .before .before .before .if2 .taken) (hr .table .at (a .tests .state) (a .x) (h .digit) (omega (arith, c .before .before .before .before .before .before .before .before .pre .0, c .before .before .before .before .before .before .if1 .taken))) (c .before .if3 .taken)
+returns c =
+    let at-if2 = c .before .before .before .before in
+    let at-if1 = at-if2 .before .before in
+    let entry = at-if1 .before .before in
+    λ sh ez hr h b. let a = entry .args in press-taken sh (a .size) (a .tests) (a .x) _ ez h b (at-if1 .if1 .taken) (at-if2 .if2 .taken) (hr .table .at (a .tests .state) (a .x) (h .digit) (omega (arith, entry .pre .0, at-if1 .if1 .taken))) (c .before .if3 .taken)
 
 returns-2 : tie.Need-returns-2
-returns-2 c = λ sh ez hr h b. let a = c .before .before .before .before .before .before .before .args in press-none sh (a .size) (a .tests) (a .x) _ ez h (c .before .before .before .before .before .if1 .taken) (c .before .before .before .if2 .taken) (hr .table .at (a .tests .state) (a .x) (h .digit) (omega (arith, c .before .before .before .before .before .before .before .pre .0, c .before .before .before .before .before .if1 .taken))) (rule-digits (sh .rules) _ _ (hr .digits)) (c .if3 .left)
+returns-2 c =
+    let at-if2 = c .before .before .before in
+    let at-if1 = at-if2 .before .before in
+    let entry = at-if1 .before .before in
+    λ sh ez hr h b. let a = entry .args in press-none sh (a .size) (a .tests) (a .x) _ ez h (at-if1 .if1 .taken) (at-if2 .if2 .taken) (hr .table .at (a .tests .state) (a .x) (h .digit) (omega (arith, entry .pre .0, at-if1 .if1 .taken))) (rule-digits (sh .rules) _ _ (hr .digits)) (c .if3 .left)
 
 returns-3 : tie.Need-returns-3
 returns-3 c = λ sh ez hr h b. let a = c .before .before .before .before .args in press-many sh (a .size) (a .tests) (a .x) 0 ez h (c .before .before .if1 .taken) (c .if2 .left)

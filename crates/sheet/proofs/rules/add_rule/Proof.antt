@@ -22,10 +22,18 @@ add-p : tie.Need-add-p
 add-p c = search needs
 
 element-write-output : tie.Need-element-write-output
-element-write-output c = let a = c .before .before .before .before .before .before .args in omega (arith, row-in (a .size) (a .row) (sym (c .before .before .before .before .before .in-range .ensures) ∙ c .before .before .before .before .if1 .taken))
+element-write-output c =
+    let at-if1 = c .before .before .before .before in
+    let at-in-range = at-if1 .before in
+    let entry = at-in-range .before in
+    let a = entry .args in omega (arith, row-in (a .size) (a .row) (sym (at-in-range .in-range .ensures) ∙ at-if1 .if1 .taken))
 
 element-write-target : tie.Need-element-write-target
-element-write-target c = let a = c .before .before .before .before .before .before .args in omega (arith, row-in (a .size) (a .row) (sym (c .before .before .before .before .before .in-range .ensures) ∙ c .before .before .before .before .if1 .taken))
+element-write-target c =
+    let at-if1 = c .before .before .before .before in
+    let at-in-range = at-if1 .before in
+    let entry = at-in-range .before in
+    let a = entry .args in omega (arith, row-in (a .size) (a .row) (sym (at-in-range .in-range .ensures) ∙ at-if1 .if1 .taken))
 
 add-t18 : tie.Need-add-t18
 add-t18 c = search needs
@@ -34,10 +42,18 @@ add-t19 : tie.Need-add-t19
 add-t19 c = search needs
 
 returns : tie.Need-returns
-returns c = λ sh ez h. rule-taken sh _ _ _ _ _ ez h (c .before .before .before .before .before .before .before .pre .0) (sym (c .before .before .before .before .before .before .in-range .ensures) ∙ c .before .before .before .before .before .if1 .taken) (c .before .if2 .taken)
+returns c =
+    let at-if1 = c .before .before .before .before .before in
+    let at-in-range = at-if1 .before in
+    let entry = at-in-range .before in
+    λ sh ez h. rule-taken sh _ _ _ _ _ ez h (entry .pre .0) (sym (at-in-range .in-range .ensures) ∙ at-if1 .if1 .taken) (c .before .if2 .taken)
 
 returns-2 : tie.Need-returns-2
-returns-2 c = λ sh ez h. rule-unordered sh _ _ _ _ _ ez h (c .before .before .before .before .before .before .pre .0) (sym (c .before .before .before .before .before .in-range .ensures) ∙ c .before .before .before .before .if1 .taken) (c .if2 .left)
+returns-2 c =
+    let at-if1 = c .before .before .before .before in
+    let at-in-range = at-if1 .before in
+    let entry = at-in-range .before in
+    λ sh ez h. rule-unordered sh _ _ _ _ _ ez h (entry .pre .0) (sym (at-in-range .in-range .ensures) ∙ at-if1 .if1 .taken) (c .if2 .left)
 
 returns-3 : tie.Need-returns-3
 returns-3 c = λ sh ez h. rule-outside sh _ _ _ _ _ ez h (sym (c .before .in-range .ensures) ∙ c .if1 .left)

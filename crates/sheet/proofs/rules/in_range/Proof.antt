@@ -5,13 +5,15 @@ use Rattle.sheet.proofs.rules.in_range.Tie as tie
 
 returns : tie.Need-returns
 returns c =
-    let a = c .before .before .before .before .before .before .before .before .before .before .before .args in
+    let entry = c .before .before .before .before .before .before .before .before .before .before .before in
+    let a = entry .args in
     simp
     (lt-ltb (a .row .source) (a .size .states) (omega arith), lt-ltb (a .row .input) (a .size .inputs) (omega arith), lt-ltb (a .row .output) (a .size .outputs) (omega arith))
 
 returns-2 : tie.Need-returns-2
 returns-2 c =
-    let a = c .before .before .before .before .before .before .before .before .before .args in
+    let entry = c .before .before .before .before .before .before .before .before .before in
+    let a = entry .args in
     simp (lt-ltb (a .row .source) (a .size .states) (omega arith), lt-ltb (a .row .input) (a .size .inputs) (omega arith), le-ltb (a .row .output) (a .size .outputs) (omega arith))
 
 returns-3 : tie.Need-returns-3

@@ -28,7 +28,10 @@ element-copy-out-t : tie.Need-element-copy-out-t
 element-copy-out-t c = search needs
 
 returns-2 : tie.Need-returns-2
-returns-2 c = λ l h k. let a = c .before .before .before .before .before .before .before .before .args in other-target (ruleAt l (a .row .source) (a .row .input)) (a .row) (h .at (a .row .source) (a .row .input) (omega arith) (omega arith)) (k .table .at (a .row .source) (a .row .input) (omega arith) (omega arith)) (c .before .before .before .before .if1 .left) (c .before .before .if2 .taken)
+returns-2 c =
+    let at-if1 = c .before .before .before .before in
+    let entry = at-if1 .before .before .before .before in
+    λ l h k. let a = entry .args in other-target (ruleAt l (a .row .source) (a .row .input)) (a .row) (h .at (a .row .source) (a .row .input) (omega arith) (omega arith)) (k .table .at (a .row .source) (a .row .input) (omega arith) (omega arith)) (at-if1 .if1 .left) (c .before .before .if2 .taken)
 
 returns-3 : tie.Need-returns-3
 returns-3 c = λ l h k. let a = c .before .before .before .before .before .before .args in other-output (ruleAt l (a .row .source) (a .row .input)) (a .row) (h .at (a .row .source) (a .row .input) (omega arith) (omega arith)) (c .before .before .if1 .left) (c .if2 .left)

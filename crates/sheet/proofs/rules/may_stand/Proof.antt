@@ -41,13 +41,16 @@ returns-6 c = rw (c .before .if6 .taken) (c .is-during6 .ensures)
 
 returns-7 : tie.Need-returns-7
 returns-7 c =
+    let at-if3 = c .before .before .before in
+    let at-if2 = at-if3 .before in
+    let at-if1 = at-if2 .before in
     simp (
       ne-eqb _ _ (c .if6 .left),
       ne-eqb _ _ (c .before .if5 .left),
       ne-eqb _ _ (c .before .before .if4 .left),
-      ne-eqb _ _ (c .before .before .before .if3 .left),
-      ne-eqb _ _ (c .before .before .before .before .if2 .left),
-      ne-eqb _ _ (c .before .before .before .before .before .if1 .left),
+      ne-eqb _ _ (at-if3 .if3 .left),
+      ne-eqb _ _ (at-if2 .if2 .left),
+      ne-eqb _ _ (at-if1 .if1 .left),
     )
 
 pub may-stand-spec : {M : Type 1} → statement M

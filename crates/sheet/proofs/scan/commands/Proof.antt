@@ -26,16 +26,28 @@ enum-known-verdict : tie.Need-enum-known-verdict Inv-loop μ-loop
 enum-known-verdict c = search needs
 
 loop-less : tie.Need-loop-less Inv-loop μ-loop
-loop-less c = let m = laws.going-on (now (c .before .before .before .before .before .before .before .before .before .before .before .before .before .before .args .sheet)) (c .before .before .before .before .before .before .before .before .loop .state) (c .before .before .before .before .before .before .before .before .loop .output) (c .before .before .before .before .before .before .before .before .loop .target) (c .before .before .before .before .before .before .before .before .loop .faulty) (c .before .before .before .before .before .before .before .before .loop .at) (c .before .before .before .before .command .result) _ _ _ (c .before .before .before .before .before .before .before .before .loop .inv .0) (c .before .before .before .before .command .ensures) (c .before .before .before .before .before .before .before .before .loop .inv .1) _ (c .before .verdict .given .1) in omega (arith, m .up, m .in')
+loop-less c =
+    let at-command = c .before .before .before .before in
+    let at-loop = at-command .before .before .before .before in
+    let entry = at-loop .before .before .before .before .before .before in
+    let m = laws.going-on (now (entry .args .sheet)) (at-loop .loop .state) (at-loop .loop .output) (at-loop .loop .target) (at-loop .loop .faulty) (at-loop .loop .at) (at-command .command .result) _ _ _ (at-loop .loop .inv .0) (at-command .command .ensures) (at-loop .loop .inv .1) _ (c .before .verdict .given .1) in omega (arith, m .up, m .in')
 
 loop-again : tie.Need-loop-again Inv-loop μ-loop
-loop-again c = let m = laws.going-on (now (c .before .before .before .before .before .before .before .before .before .before .before .before .before .before .args .sheet)) (c .before .before .before .before .before .before .before .before .loop .state) (c .before .before .before .before .before .before .before .before .loop .output) (c .before .before .before .before .before .before .before .before .loop .target) (c .before .before .before .before .before .before .before .before .loop .faulty) (c .before .before .before .before .before .before .before .before .loop .at) (c .before .before .before .before .command .result) _ _ _ (c .before .before .before .before .before .before .before .before .loop .inv .0) (c .before .before .before .before .command .ensures) (c .before .before .before .before .before .before .before .before .loop .inv .1) _ (c .before .verdict .given .1) in (m .in', m .on)
+loop-again c =
+    let at-command = c .before .before .before .before in
+    let at-loop = at-command .before .before .before .before in
+    let entry = at-loop .before .before .before .before .before .before in
+    let m = laws.going-on (now (entry .args .sheet)) (at-loop .loop .state) (at-loop .loop .output) (at-loop .loop .target) (at-loop .loop .faulty) (at-loop .loop .at) (at-command .command .result) _ _ _ (at-loop .loop .inv .0) (at-command .command .ensures) (at-loop .loop .inv .1) _ (c .before .verdict .given .1) in (m .in', m .on)
 
 enum-known-verdict-2 : tie.Need-enum-known-verdict-2 Inv-loop μ-loop
 enum-known-verdict-2 c = search needs
 
 returns : tie.Need-returns Inv-loop μ-loop
-returns c = laws.going-end (now (c .before .before .before .before .before .before .before .before .before .before .before .before .before .before .args .sheet)) (c .before .before .before .before .before .before .before .before .loop .state) (c .before .before .before .before .before .before .before .before .loop .output) (c .before .before .before .before .before .before .before .before .loop .target) (c .before .before .before .before .before .before .before .before .loop .faulty) (c .before .before .before .before .before .before .before .before .loop .at) (c .before .before .before .before .command .result) _ _ _ (c .before .before .before .before .before .before .before .before .loop .inv .0) (c .before .before .before .before .command .ensures) (c .before .before .before .before .before .before .before .before .loop .inv .1) _ (c .before .verdict2 .given .1)
+returns c =
+    let at-command = c .before .before .before .before in
+    let at-loop = at-command .before .before .before .before in
+    let entry = at-loop .before .before .before .before .before .before in
+    laws.going-end (now (entry .args .sheet)) (at-loop .loop .state) (at-loop .loop .output) (at-loop .loop .target) (at-loop .loop .faulty) (at-loop .loop .at) (at-command .command .result) _ _ _ (at-loop .loop .inv .0) (at-command .command .ensures) (at-loop .loop .inv .1) _ (c .before .verdict2 .given .1)
 
 pub commands-spec : {M : Type 1} → statement M
 commands-spec =

@@ -15,49 +15,58 @@ use Rattle.sheet.proofs.scan.obey.Tie as tie
 
 finish-requires : tie.Need-finish-requires
 finish-requires c κs =
-    let a = c .before .before .before .before .before .before .args in
+    let entry = c .before .before .before .before .before .before in
+    let a = entry .args in
     let s = now (a .sheet) in
-    let w = fetch.as-whole s (a .at) (a .item) (a .next) (c .before .before .before .before .before .before .pre .0) in
-    (w .here, c .before .before .before .before .before .before .pre .2 .1 .bounds)
+    let w = fetch.as-whole s (a .at) (a .item) (a .next) (entry .pre .0) in
+    (w .here, entry .pre .2 .1 .bounds)
 
 apply-requires : tie.Need-apply-requires
 apply-requires c κs =
-    let a = c .before .before .before .before .before .before .args in
-    let b = known (a .state .phase) (a .item .byte) (c .before .before .before .before .before .before .pre .1) in
-    ((b .0, omega (arith, b .1)), c .before .before .before .before .before .before .pre .2)
+    let entry = c .before .before .before .before .before .before in
+    let a = entry .args in
+    let b = known (a .state .phase) (a .item .byte) (entry .pre .1) in
+    ((b .0, omega (arith, b .1)), entry .pre .2)
 
 refuse-requires : tie.Need-refuse-requires
 refuse-requires c κs = search needs
 
 returns : tie.Need-returns
 returns c =
+    let at-if1 = c .before .before .before .before in
+    let entry = at-if1 .before .before .before in
     λ p h.
-    let a = c .before .before .before .before .before .before .before .args in
+    let a = entry .args in
     let s = now (a .sheet) in
-    let w = fetch.as-whole s (a .at) (a .item) (a .next) (c .before .before .before .before .before .before .before .pre .0) in
-    let al : allowed (p .phase) (a .item .byte) ≡ true = rw (← h .phase) (c .before .before .before .before .before .before .before .pre .1) in
-    rw (fetch.ends p s (a .at) (a .item) _ w al (c .before .before .before .before .if1 .taken)) (ap Stop (c .finish .ensures _ (laws.linked h)), laws.finish-held s (a .at) h)
+    let w = fetch.as-whole s (a .at) (a .item) (a .next) (entry .pre .0) in
+    let al : allowed (p .phase) (a .item .byte) ≡ true = rw (← h .phase) (entry .pre .1) in
+    rw (fetch.ends p s (a .at) (a .item) _ w al (at-if1 .if1 .taken)) (ap Stop (c .finish .ensures _ (laws.linked h)), laws.finish-held s (a .at) h)
 
 returns-2 : tie.Need-returns-2
 returns-2 c =
+    let at-if1 = c .before .before .before .before .before .before in
+    let entry = at-if1 .before .before .before in
     λ p h.
-    let a = c .before .before .before .before .before .before .before .before .before .args in
+    let a = entry .args in
     let s = now (a .sheet) in
-    let w = fetch.as-whole s (a .at) (a .item) (a .next) (c .before .before .before .before .before .before .before .before .before .pre .0) in
-    let al : allowed (p .phase) (a .item .byte) ≡ true = rw (← h .phase) (c .before .before .before .before .before .before .before .before .before .pre .1) in
+    let w = fetch.as-whole s (a .at) (a .item) (a .next) (entry .pre .0) in
+    let al : allowed (p .phase) (a .item .byte) ≡ true = rw (← h .phase) (entry .pre .1) in
     let ok = c .before .before .apply .ensures p al h in
-    rw (fetch.goes p s (a .at) (a .item) _ w al (c .before .before .before .before .before .before .if1 .left) (sym (ok .number) ∙ c .if2 .taken))
+    rw (fetch.goes p s (a .at) (a .item) _ w al (at-if1 .if1 .left) (sym (ok .number) ∙ c .if2 .taken))
     (refl, ok .state (c .if2 .taken), omega (arith, wide (getD s (a .at) 0), w .next), omega (arith, w .next, w .all))
 
 returns-3 : tie.Need-returns-3
 returns-3 c =
+    let at-apply = c .before .before .before in
+    let at-if1 = at-apply .before .before .before .before in
+    let entry = at-if1 .before .before .before in
     λ p h.
-    let a = c .before .before .before .before .before .before .before .before .before .before .args in
+    let a = entry .args in
     let s = now (a .sheet) in
-    let w = fetch.as-whole s (a .at) (a .item) (a .next) (c .before .before .before .before .before .before .before .before .before .before .pre .0) in
-    let al : allowed (p .phase) (a .item .byte) ≡ true = rw (← h .phase) (c .before .before .before .before .before .before .before .before .before .before .pre .1) in
-    let ok = c .before .before .before .apply .ensures p al h in
-    rw (fetch.refuses p s (a .at) (a .item) _ w al (c .before .before .before .before .before .before .before .if1 .left) _ (ok .number) (c .before .if2 .left)) (c .refuse .ensures, tt)
+    let w = fetch.as-whole s (a .at) (a .item) (a .next) (entry .pre .0) in
+    let al : allowed (p .phase) (a .item .byte) ≡ true = rw (← h .phase) (entry .pre .1) in
+    let ok = at-apply .apply .ensures p al h in
+    rw (fetch.refuses p s (a .at) (a .item) _ w al (at-if1 .if1 .left) _ (ok .number) (c .before .if2 .left)) (c .refuse .ensures, tt)
 
 pub obey-spec : {M : Type 1} → statement M
 obey-spec = tie.close (tie.spec finish-requires apply-requires refuse-requires returns returns-2 returns-3)

@@ -11,7 +11,10 @@ fresh-requires : tie.Need-fresh-requires
 fresh-requires c κs = search needs
 
 returns : tie.Need-returns
-returns c = laws.scan-all (now (c .before .before .before .before .before .before .args .sheet)) _ _ _ _ (c .before .before .before .before .if1 .taken) (c .commands .ensures)
+returns c =
+    let at-if1 = c .before .before .before .before in
+    let entry = at-if1 .before .before in
+    laws.scan-all (now (entry .args .sheet)) _ _ _ _ (at-if1 .if1 .taken) (c .commands .ensures)
 
 returns-2 : tie.Need-returns-2
 returns-2 c = laws.scan-long (now (c .before .before .before .args .sheet)) _ _ _ _ (c .before .if1 .left)

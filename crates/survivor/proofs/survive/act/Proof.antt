@@ -23,8 +23,11 @@ transition-requires c κs = search needs
 
 returns-2 : tie.Need-returns-2
 returns-2 c =
-    let p = c .before .before .before .before .before .pre in
-    acts-inside _ _ (c .before .before .before .before .before .args .k) (c .before .choice-at .result) _ (p .0) (p .1) (p .2) (omega (arith, c .before .before .if1 .left, c .before .before .before .wide .ensures, c .before .before .before .before .inputs .ensures)) (c .before .choice-at .ensures) (c .transition .ensures)
+    let at-wide = c .before .before .before in
+    let at-inputs = at-wide .before in
+    let entry = at-inputs .before in
+    let p = entry .pre in
+    acts-inside _ _ (entry .args .k) (c .before .choice-at .result) _ (p .0) (p .1) (p .2) (omega (arith, c .before .before .if1 .left, at-wide .wide .ensures, at-inputs .inputs .ensures)) (c .before .choice-at .ensures) (c .transition .ensures)
 
 pub act-spec : {M : Type 1} → statement M
 act-spec =

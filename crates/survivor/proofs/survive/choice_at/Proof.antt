@@ -18,10 +18,15 @@ mul-result : tie.Need-mul-result
 mul-result c = search needs
 
 element-copy-out-result : tie.Need-element-copy-out-result
-element-copy-out-result c = omega (arith, c .wide .ensures, c .before .before .site .ensures, c .before .before .before .pre .0 .sites (c .before .before .before .args .k) (c .before .before .before .pre .1) (rw (c .before .before .site .ensures) at (c .before .if1 .left)))
+element-copy-out-result c =
+    let entry = c .before .before .before in
+    omega (arith, c .wide .ensures, c .before .before .site .ensures, entry .pre .0 .sites (entry .args .k) (entry .pre .1) (rw (c .before .before .site .ensures) at (c .before .if1 .left)))
 
 returns-2 : tie.Need-returns-2
-returns-2 c = chosen-at (c .before .before .before .before .args .block .now) (c .before .before .before .before .args .p .now) (c .before .before .before .before .args .k) (c .before .wide .result) (rw (c .before .before .before .site .ensures) at (c .before .before .if1 .left)) (c .before .wide .ensures ∙ c .before .before .before .site .ensures)
+returns-2 c =
+    let at-site = c .before .before .before in
+    let entry = at-site .before in
+    chosen-at (entry .args .block .now) (entry .args .p .now) (entry .args .k) (c .before .wide .result) (rw (at-site .site .ensures) at (c .before .before .if1 .left)) (c .before .wide .ensures ∙ at-site .site .ensures)
 
 pub choice-at-spec : {M : Type 1} → statement M
 choice-at-spec =

@@ -32,7 +32,10 @@ loop-less : tie.Need-loop-less Inv-loop μ-loop
 loop-less c = omega (arith, c .before .before .loop-test .taken, c .before .before .before .before .before)
 
 loop-again : tie.Need-loop-again Inv-loop μ-loop
-loop-again c = let a = c .before .before .before .before .before .args in let l = c .before .before .before .loop in (omega (arith, c .before .before .loop-test .taken), c .before .before .before .loop .inv .1 ∙ walk-reset (a .so .now) (a .sn .now) (a .mo .now) (a .mn .now) (a .bytes .now) (l .s) (l .q) (l .at) (omega (arith, c .before .before .loop-test .taken)) (c .if1 .taken))
+loop-again c =
+    let at-loop = c .before .before .before in
+    let entry = at-loop .before .before in
+    let a = entry .args in let l = at-loop .loop in (omega (arith, c .before .before .loop-test .taken), at-loop .loop .inv .1 ∙ walk-reset (a .so .now) (a .sn .now) (a .mo .now) (a .mn .now) (a .bytes .now) (l .s) (l .q) (l .at) (omega (arith, c .before .before .loop-test .taken)) (c .if1 .taken))
 
 add-x : tie.Need-add-x Inv-loop μ-loop
 add-x c = omega (arith, c .before .before .loop-test .taken, c .before .before .before .before .before)
@@ -53,8 +56,15 @@ element-copy-out-if2-2 : tie.Need-element-copy-out-if2-2 Inv-loop μ-loop
 element-copy-out-if2-2 c = omega (arith, c .before .slot-at2 .ensures .1)
 
 returns : tie.Need-returns Inv-loop μ-loop
-returns c = let a = c .before .before .before .before .before .before .before .before .before .before .before .args in let l = c .before .before .before .before .before .before .before .before .before .loop in
-    sym (c .before .before .before .before .before .before .before .before .before .loop .inv .1 ∙ walk-wrong (a .so .now) (a .sn .now) (a .mo .now) (a .mn .now) (a .bytes .now) (l .s) (l .q) (l .at) _ (omega (arith, c .before .before .before .before .before .before .before .before .loop-test .taken)) (c .before .before .before .before .before .before .if1 .left) refl (rw (c .before .before .before .before .slot-at .ensures .0, c .before .before .before .slot-at2 .ensures .0) at (c .if2 .taken)))
+returns c =
+    let at-slot-at2 = c .before .before .before in
+    let at-slot-at = at-slot-at2 .before in
+    let at-if1 = at-slot-at .before .before in
+    let at-loop-test = at-if1 .before .before in
+    let at-loop = at-loop-test .before in
+    let entry = at-loop .before .before in
+    let a = entry .args in let l = at-loop .loop in
+    sym (at-loop .loop .inv .1 ∙ walk-wrong (a .so .now) (a .sn .now) (a .mo .now) (a .mn .now) (a .bytes .now) (l .s) (l .q) (l .at) _ (omega (arith, at-loop-test .loop-test .taken)) (at-if1 .if1 .left) refl (rw (at-slot-at .slot-at .ensures .0, at-slot-at2 .slot-at2 .ensures .0) at (c .if2 .taken)))
 
 element-copy-out-s : tie.Need-element-copy-out-s Inv-loop μ-loop
 element-copy-out-s c = omega (arith, c .before .before .before .before .slot-at .ensures .1)
@@ -63,16 +73,31 @@ element-copy-out-q : tie.Need-element-copy-out-q Inv-loop μ-loop
 element-copy-out-q c = omega (arith, c .before .before .before .before .slot-at2 .ensures .1)
 
 add-at-2 : tie.Need-add-at-2 Inv-loop μ-loop
-add-at-2 c = omega (arith, c .before .before .before .before .before .before .before .before .before .before .loop-test .taken, c .before .before .before .before .before .before .before .before .before .before .before .before .before)
+add-at-2 c =
+    let place-2 = c .before .before .before .before .before .before .before .before .before .before in
+    let at-loop-test = place-2 in
+    let place = at-loop-test .before .before .before in
+    omega (arith, at-loop-test .loop-test .taken, place)
 
 loop-less-2 : tie.Need-loop-less-2 Inv-loop μ-loop
-loop-less-2 c = omega (arith, c .before .before .before .before .before .before .before .before .before .before .loop-test .taken, c .before .before .before .before .before .before .before .before .before .before .before .before .before)
+loop-less-2 c =
+    let place-2 = c .before .before .before .before .before .before .before .before .before .before in
+    let at-loop-test = place-2 in
+    let place = at-loop-test .before .before .before in
+    omega (arith, at-loop-test .loop-test .taken, place)
 
 loop-again-2 : tie.Need-loop-again-2 Inv-loop μ-loop
-loop-again-2 c = let a = c .before .before .before .before .before .before .before .before .before .before .before .before .before .args in let l = c .before .before .before .before .before .before .before .before .before .before .before .loop in (
-  omega (arith, c .before .before .before .before .before .before .before .before .before .before .loop-test .taken),
-  c .before .before .before .before .before .before .before .before .before .before .before .loop .inv .1 ∙ rw (c .before .before .before .before .before .before .slot-at .ensures .0, c .before .before .before .before .before .slot-at2 .ensures .0) (walk-press (a .so .now) (a .sn .now) (a .mo .now) (a .mn .now) (a .bytes .now) (l .s) (l .q) (l .at) _ (omega (arith, c .before .before .before .before .before .before .before .before .before .before .loop-test .taken)) (c .before .before .before .before .before .before .before .before .if1 .left) refl (rw (c .before .before .before .before .before .before .slot-at .ensures .0, c .before .before .before .before .before .slot-at2 .ensures .0) at (c .before .before .if2 .left))),
-)
+loop-again-2 c =
+    let at-slot-at2 = c .before .before .before .before .before in
+    let at-slot-at = at-slot-at2 .before in
+    let at-if1 = at-slot-at .before .before in
+    let at-loop-test = at-if1 .before .before in
+    let at-loop = at-loop-test .before in
+    let entry = at-loop .before .before in
+    let a = entry .args in let l = at-loop .loop in (
+      omega (arith, at-loop-test .loop-test .taken),
+      at-loop .loop .inv .1 ∙ rw (at-slot-at .slot-at .ensures .0, at-slot-at2 .slot-at2 .ensures .0) (walk-press (a .so .now) (a .sn .now) (a .mo .now) (a .mn .now) (a .bytes .now) (l .s) (l .q) (l .at) _ (omega (arith, at-loop-test .loop-test .taken)) (at-if1 .if1 .left) refl (rw (at-slot-at .slot-at .ensures .0, at-slot-at2 .slot-at2 .ensures .0) at (c .before .before .if2 .left))),
+    )
 
 returns-2 : tie.Need-returns-2 Inv-loop μ-loop
 returns-2 c = let a = c .before .before .before .args in let l = c .before .loop in sym (c .before .loop .inv .1 ∙ walk-end (a .so .now) (a .sn .now) (a .mo .now) (a .mn .now) (a .bytes .now) (l .s) (l .q) (l .at) (omega (arith, c .loop-test .left)))

@@ -23,8 +23,13 @@ blank-requires-4 c κs = search needs
 
 lay-requires : tie.Need-lay-requires
 lay-requires c κs =
-    let w = c .before .before .before .before .before .before .before .before .before .before .before .pre .0 .1 in
-    ((formed-tables w, chosen-ok w), (rw (c .before .before .before .before .before .before .before .blank .ensures) (length-replicate {A = ℕ} 256 0), rw (c .before .before .before .before .before .before .blank2 .ensures) (length-replicate {A = ℕ} 256 0), rw (c .before .before .before .before .before .blank3 .ensures) (length-replicate {A = ℕ} 256 0), rw (c .before .before .before .before .blank4 .ensures) (length-replicate {A = ℕ} 256 0)))
+    let at-blank4 = c .before .before .before .before in
+    let at-blank3 = at-blank4 .before in
+    let at-blank2 = at-blank3 .before in
+    let at-blank = at-blank2 .before in
+    let entry = at-blank .before .before .before .before in
+    let w = entry .pre .0 .1 in
+    ((formed-tables w, chosen-ok w), (rw (at-blank .blank .ensures) (length-replicate {A = ℕ} 256 0), rw (at-blank2 .blank2 .ensures) (length-replicate {A = ℕ} 256 0), rw (at-blank3 .blank3 .ensures) (length-replicate {A = ℕ} 256 0), rw (at-blank4 .blank4 .ensures) (length-replicate {A = ℕ} 256 0)))
 
 passes-requires : tie.Need-passes-requires
 passes-requires c κs = search needs
@@ -46,17 +51,26 @@ wide-requires-2 c κs = search needs
 
 distinguish-requires : tie.Need-distinguish-requires
 distinguish-requires c κs =
-    let w = c .before .before .before .before .before .before .before .before .before .before .before .before .before .before .before .before .before .before .before .before .before .before .before .before .before .before .before .pre .0 .1 in
-    let l = c .before .before .before .before .before .before .before .before .before .before .before .before .before .before .before .lay .ensures in
-    let es = c .before .before .before .before .before .before .before .wide .ensures ∙ c .before .before .before .before .before .before .before .before .states .ensures in
-    let ei = c .before .before .before .before .before .wide2 .ensures ∙ c .before .before .before .before .before .before .inputs .ensures in
-    (valid w l (c .before .before .before .before .before .before .before .wide .result) (c .before .before .before .before .before .wide2 .result) es ei, (start-in w l (c .before .before .before .before .before .before .before .wide .result) (c .before .before .before .before .before .wide2 .result) es ei, rw es (c .before .before .before .before .before .before .before .before .before .before .before .before .before .before .before .before .before .before .before .before .before .before .before .before .before .before .before .pre .1 .inputs)))
+    let at-wide2 = c .before .before .before .before .before in
+    let at-inputs = at-wide2 .before in
+    let at-wide = at-inputs .before in
+    let at-states = at-wide .before in
+    let at-lay = at-states .before .before .before .before .before .before .before in
+    let entry = at-lay .before .before .before .before .before .before .before .before .before .before .before .before in
+    let w = entry .pre .0 .1 in
+    let l = at-lay .lay .ensures in
+    let es = at-wide .wide .ensures ∙ at-states .states .ensures in
+    let ei = at-wide2 .wide2 .ensures ∙ at-inputs .inputs .ensures in
+    (valid w l (at-wide .wide .result) (at-wide2 .wide2 .result) es ei, (start-in w l (at-wide .wide .result) (at-wide2 .wide2 .result) es ei, rw es (entry .pre .1 .inputs)))
 
 enum-known-length : tie.Need-enum-known-length
 enum-known-length c = search needs
 
 write-choices-requires : tie.Need-write-choices-requires
-write-choices-requires c κs = let b = choice-bytes (c .before .before .before .before .before .before .before .before .before .before .before .before .before .before .before .before .before .before .before .before .before .before .before .before .before .before .before .before .before .before .before .before .before .before .pre .0 .1) in (b .0, b .1, c .before .before .before .before .before .before .before .before .before .before .before .before .before .before .before .before .before .before .before .before .before .before .before .before .before .before .before .before .before .before .before .before .before .before .pre .1 .choices, b .2)
+write-choices-requires c κs =
+    let place = c .before .before .before .before .before .before .before .before .before .before .before .before .before .before .before .before .before .before .before .before .before .before .before .before .before .before .before .before .before .before .before .before .before .before in
+    let entry = place in
+    let b = choice-bytes (entry .pre .0 .1) in (b .0, b .1, entry .pre .1 .choices, b .2)
 
 enum-told : tie.Need-enum-told
 enum-told c = search needs
@@ -69,14 +83,31 @@ same-length-2 c = search needs
 
 returns-2 : tie.Need-returns-2
 returns-2 c =
-    (λ sh w. differs w (c .before .before .before .before .before .before .before .before .before .before .before .before .before .before .before .before .before .before .before .before .before .before .before .before .before .lay .ensures) (c .before .before .before .before .before .before .before .before .before .before .before .before .before .before .before .before .before .wide .result) (c .before .before .before .before .before .before .before .before .before .before .before .before .before .before .before .wide2 .result) (c .before .before .before .before .before .before .before .before .before .before .before .before .before .before .before .before .before .wide .ensures ∙ c .before .before .before .before .before .before .before .before .before .before .before .before .before .before .before .before .before .before .states .ensures) (c .before .before .before .before .before .before .before .before .before .before .before .before .before .before .before .wide2 .ensures ∙ c .before .before .before .before .before .before .before .before .before .before .before .before .before .before .before .before .inputs .ensures) (c .before .before .before .before .before .before .before .before .before .before .before .before .before .before .before .before .before .before .before .before .passes .result) (c .before .before .before .before .before .before .before .before .before .before .before .before .before .before .before .before .before .before .before .before .passes .ensures) (not-false _ (c .before .before .before .before .before .before .before .before .before .before .before .before .before .before .before .before .before .before .before .if1 .left)) (c .before .before .before .before .before .before .before .before .before .distinguish .ensures .0) (c .before .before .before .before .before .before .before .before .before .distinguish .ensures .1) _ (c .before .before .before .before .before .length .given .1) (c .before .before .write-choices .ensures), first)
+    let at-length = c .before .before .before .before .before in
+    let at-distinguish = at-length .before .before .before .before in
+    let at-wide2 = at-distinguish .before .before .before .before .before .before in
+    let at-inputs = at-wide2 .before in
+    let at-wide = at-inputs .before in
+    let at-states = at-wide .before in
+    let at-if1 = at-states .before in
+    let at-passes = at-if1 .before in
+    let at-lay = at-passes .before .before .before .before .before in
+    (λ sh w. differs w (at-lay .lay .ensures) (at-wide .wide .result) (at-wide2 .wide2 .result) (at-wide .wide .ensures ∙ at-states .states .ensures) (at-wide2 .wide2 .ensures ∙ at-inputs .inputs .ensures) (at-passes .passes .result) (at-passes .passes .ensures) (not-false _ (at-if1 .if1 .left)) (at-distinguish .distinguish .ensures .0) (at-distinguish .distinguish .ensures .1) _ (at-length .length .given .1) (c .before .before .write-choices .ensures), first)
 
 same-length-3 : tie.Need-same-length-3
 same-length-3 c = search needs
 
 returns-3 : tie.Need-returns-3
 returns-3 c =
-    (λ sh w. conforms w (c .before .before .before .before .before .before .before .before .before .before .before .before .before .before .before .before .before .before .before .before .lay .ensures) (c .before .before .before .before .before .before .before .before .before .before .before .before .wide .result) (c .before .before .before .before .before .before .before .before .before .before .wide2 .result) (c .before .before .before .before .before .before .before .before .before .before .before .before .wide .ensures ∙ c .before .before .before .before .before .before .before .before .before .before .before .before .before .states .ensures) (c .before .before .before .before .before .before .before .before .before .before .wide2 .ensures ∙ c .before .before .before .before .before .before .before .before .before .before .before .inputs .ensures) (c .before .before .before .before .before .before .before .before .before .before .before .before .before .before .before .passes .result) (c .before .before .before .before .before .before .before .before .before .before .before .before .before .before .before .passes .ensures) (not-false _ (c .before .before .before .before .before .before .before .before .before .before .before .before .before .before .if1 .left)) (c .before .before .before .before .distinguish .ensures .0) (c .before .before .before .before .distinguish .ensures .1) (c .enum-told .given .1), nothing)
+    let at-distinguish = c .before .before .before .before in
+    let at-wide2 = at-distinguish .before .before .before .before .before .before in
+    let at-inputs = at-wide2 .before in
+    let at-wide = at-inputs .before in
+    let at-states = at-wide .before in
+    let at-if1 = at-states .before in
+    let at-passes = at-if1 .before in
+    let at-lay = at-passes .before .before .before .before .before in
+    (λ sh w. conforms w (at-lay .lay .ensures) (at-wide .wide .result) (at-wide2 .wide2 .result) (at-wide .wide .ensures ∙ at-states .states .ensures) (at-wide2 .wide2 .ensures ∙ at-inputs .inputs .ensures) (at-passes .passes .result) (at-passes .passes .ensures) (not-false _ (at-if1 .if1 .left)) (at-distinguish .distinguish .ensures .0) (at-distinguish .distinguish .ensures .1) (c .enum-told .given .1), nothing)
 
 pub show-spec : {M : Type 1} → statement M
 show-spec =

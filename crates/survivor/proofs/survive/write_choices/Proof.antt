@@ -28,9 +28,10 @@ cast-board c = omega (arith, c .before .before .before .pre .3 (c .before .befor
 
 slice-write-board : tie.Need-slice-write-board Inv-loop μ-loop
 slice-write-board c =
-    let a = c .before .before .before .args in
+    let entry = c .before .before .before in
+    let a = entry .args in
     let l = c .before .before .loop in
-    omega (arith, c .before .before .before .pre .0, c .before .before .before .pre .1, c .before .before .before .pre .2, choice-room (a .p .now) (a .board .now) (l .board) (l .j) (omega (arith, c .before .before .before .pre .0, c .before .before .before .pre .1, l .inv .0)) (omega (arith, c .before .before .before .pre .2, l .inv .0)) (l .inv .1))
+    omega (arith, entry .pre .0, entry .pre .1, entry .pre .2, choice-room (a .p .now) (a .board .now) (l .board) (l .j) (omega (arith, entry .pre .0, entry .pre .1, l .inv .0)) (omega (arith, entry .pre .2, l .inv .0)) (l .inv .1))
 
 add-j : tie.Need-add-j Inv-loop μ-loop
 add-j c = omega (arith, c .before .before .before .pre .0)
@@ -40,9 +41,10 @@ loop-less c = omega (arith, c .before .before .before .pre .0)
 
 loop-again : tie.Need-loop-again Inv-loop μ-loop
 loop-again c =
-    let a = c .before .before .before .args in
+    let entry = c .before .before .before in
+    let a = entry .args in
     let l = c .before .before .loop in
-    (omega (arith, c .before .loop-test .taken), choice-more (a .p .now) (a .board .now) (l .board) (l .j) _ (omega (arith, c .before .before .before .pre .0, c .before .before .before .pre .1, c .before .loop-test .taken)) (omega (arith, c .before .before .before .pre .2, c .before .loop-test .taken)) (l .inv .1) refl)
+    (omega (arith, c .before .loop-test .taken), choice-more (a .p .now) (a .board .now) (l .board) (l .j) _ (omega (arith, entry .pre .0, entry .pre .1, c .before .loop-test .taken)) (omega (arith, entry .pre .2, c .before .loop-test .taken)) (l .inv .1) refl)
 
 same-length : tie.Need-same-length Inv-loop μ-loop
 same-length c =
