@@ -102,12 +102,12 @@ fn every_name_is_there() {
 
 #[test]
 fn wrong_names_are_found() {
-    assert_eq!(check("judging/src/verdict.rt:judge.told"), Ok(()));
+    assert_eq!(check("mutation/src/verdict.rt:judge.told"), Ok(()));
     for wrong in [
         "mutation/src/verdicts.rt",
         "mutation/src/verdicts.rt:judge",
-        "judging/src/verdict.rt:judges",
-        "judging/src/verdict.rt:judge.bytes",
+        "mutation/src/verdict.rt:judges",
+        "mutation/src/verdict.rt:judge.bytes",
         "mutation/src/lib.rt:told",
         "model/specs/Verdict.antt:Survive",
         "model/specs/Verdict.antt:FirstSurvivor.passes",
@@ -139,7 +139,7 @@ fn every_operation_promises() {
     for file in [
         "sheet/src/lib.rt",
         "mutation/src/lib.rt",
-        "judging/src/verdict.rt",
+        "mutation/src/verdict.rt",
         "capi/src/lib.rt",
         "report/src/lib.rt",
     ] {
