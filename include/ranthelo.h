@@ -2,7 +2,7 @@
  *
  * Link with target/staticlib/libcapi.a (made by `rt staticlib capi`); it needs nothing else. A sheet, a board, presses and
  * buffers are lent for the call only. Each pointer is valid for its length and not null, even at length 0; a buffer that is
- * written, and `answer`, overlap nothing else that is lent. Each function fills `answer`, whose first two numbers are the
+ * written, `answer` and `nodes` overlap nothing else that is lent. Each function fills `answer`, whose first two numbers are the
  * refusal's number (0: none) and place; after a refusal the others are 0 and every lent buffer is as it was. */
 #ifndef RANTHELO_H
 #define RANTHELO_H

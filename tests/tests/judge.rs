@@ -2,7 +2,7 @@
 
 use ranthelo_tests::enumeration::{self, Machine, Survivor};
 use ranthelo_tests::generator::{self, Random, Shape, SMALL};
-use ranthelo_tests::library::judge::{self, checked_judge};
+use ranthelo_tests::library::judge::{checked_judge, checked_judge_counting};
 use ranthelo_tests::listed::{self, spelled};
 use ranthelo_tests::reference::{read, Refusal, Sheet};
 
@@ -40,22 +40,12 @@ fn listed_sheets() {
 #[test]
 fn counting_changes_no_answer() {
     for (name, bytes) in listed::all() {
-        let (mut board, mut sequence, mut answer) = ([9; 32], [9; 256], [9; 4]);
-        let mut nodes = 9;
-        let (mut same_board, mut same_sequence, mut same_answer) = (board, sequence, answer);
-        judge::judge(&bytes, &mut board, &mut sequence, &mut answer);
-        judge::judge_counting(
-            &bytes,
-            &mut same_board,
-            &mut same_sequence,
-            &mut same_answer,
-            &mut nodes,
-        );
-        assert_eq!(same_answer, answer, "{name}");
-        if answer[0] != 0 {
-            assert_eq!(nodes, 9, "{name}: a refusal leaves the count as lent");
+        for (board, sequence) in [(32, 256), (0, 256), (32, 0)] {
+            let open = open_pairs(&bytes);
+            let counted = checked_judge_counting(&bytes, board, sequence, open);
+            let judged = checked_judge(&bytes, board, sequence, open);
+            assert_eq!(counted, judged, "{name}, {board} and {sequence} bytes");
         }
-        assert_eq!((same_board, same_sequence), (board, sequence), "{name}");
     }
 }
 

@@ -1,3 +1,3 @@
 mod Shrinks
 mod Tries
-pub mod Stores
+mod Stores

@@ -9,7 +9,7 @@ use lib.ListN.{length, getD, set, length-set}
 use lib.Seq.{getD-set-same, getD-set-other}
 use Rattle.partial.specs.Sets.{Has, With, Joined, Without}
 use Rattle.partial.specs.Machine.{Wf, Partial, Agree, Ranged, Survivor, testsOf, choicesOf, choiceOf}
-use Rattle.partial.specs.declared.tables.Step.{Step}
+use Rattle.partial.specs.declared.block.Step.{Step}
 use Rattle.partial.specs.declared.walk.Cursor.{Cursor}
 use Rattle.partial.specs.Answers.{Fails, WantsOk, StepIs, CursorOk}
 use Rattle.partial.specs.Product.{Conforms}

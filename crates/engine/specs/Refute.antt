@@ -1,4 +1,4 @@
--- What `refute` promises.
+-- What the answers of the engine promise: refutations.
 use mathlib.Core.Path.{_≡_}
 use mathlib.Core.Bool.{Bool, true}
 use mathlib.Core.List.{List}

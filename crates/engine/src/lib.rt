@@ -1,5 +1,5 @@
 // Refuting survivors: no mutant that agrees with a partly settled mutant passes the test suite and is nonconforming. For the
-// crate `judging` alone.
+// crates `survivor` and `mutation`, which show what its functions require.
 mod branch;
 mod notes;
 mod quick;
@@ -11,8 +11,6 @@ pub use notes::Notes;
 pub use notes::fresh_notes;
 pub use notes::nodes;
 pub use notes::spent;
-pub use store::StoreSets;
-pub use store::StoreValues;
 pub use store::fresh_sets;
 pub use store::fresh_values;
 pub use store::no_sets;

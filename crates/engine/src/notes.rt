@@ -1,6 +1,6 @@
 // Notes that steer the search. Nothing is promised of what they say: they decide what is tried, not what is answered.
-use partial::tables::wide;
-use partial::tables::wide32;
+use partial::block::wide;
+use partial::block::wide32;
 ghost use Prim.Native.Nat.{_≤_, _<_};
 
 // How many nodes were looked at.
@@ -28,7 +28,7 @@ pub fn fresh_notes() -> Notes {
 }
 
 // One more, as far as that goes.
-pub fn one_more(n: u32) -> u32 {
+fn one_more(n: u32) -> u32 {
     if n == 4294967295 {
         return n;
     }
@@ -36,7 +36,7 @@ pub fn one_more(n: u32) -> u32 {
 }
 
 // Counts a node.
-pub fn tick(notes: &mut Notes) {
+pub(crate) fn tick(notes: &mut Notes) {
     notes[NODES] = one_more(notes[NODES]);
 }
 
@@ -50,7 +50,7 @@ pub fn spent(notes: &Notes) -> bool {
 }
 
 // Keeps which suspect is settled with so many left.
-pub fn trail(notes: &mut Notes, left: u8, i: u8) {
+pub(crate) fn trail(notes: &mut Notes, left: u8, i: u8) {
     let at = TRAIL + wide(left);
     if at < WITNESS {
         notes[at] = i as u32;
@@ -58,7 +58,7 @@ pub fn trail(notes: &mut Notes, left: u8, i: u8) {
 }
 
 // Keeps the suspects settled beforehand, the last first.
-pub fn settled_before(notes: &mut Notes, left: u8, p: &[u16; 32]) {
+pub(crate) fn settled_before(notes: &mut Notes, left: u8, p: &[u16; 32]) {
     let mut at = TRAIL + 1 + wide(left);
     let mut j: u8 = 32;
     while j > 0 {
@@ -76,7 +76,7 @@ pub fn settled_before(notes: &mut Notes, left: u8, p: &[u16; 32]) {
 }
 
 // The suspect that was settled latest but d, or 255.
-pub fn latest(notes: &Notes, left: u8, d: u8) -> u8 {
+pub(crate) fn latest(notes: &Notes, left: u8, d: u8) -> u8 {
     let at = TRAIL + 1 + wide(left) + wide(d);
     if at < WITNESS {
         let j = notes[at];
@@ -88,7 +88,7 @@ pub fn latest(notes: &Notes, left: u8, d: u8) -> u8 {
 }
 
 // How many entries of a store are filled.
-pub fn filled(notes: &Notes, room: usize) -> usize
+pub(crate) fn filled(notes: &Notes, room: usize) -> usize
     ensures { λ r. ⌜ r ≤ room ⌝ }
 {
     let n = wide32(notes[LEARNT]);
@@ -99,7 +99,7 @@ pub fn filled(notes: &Notes, room: usize) -> usize
 }
 
 // The entry to write next: each in turn.
-pub fn entry(notes: &mut Notes, room: usize) -> usize
+pub(crate) fn entry(notes: &mut Notes, room: usize) -> usize
     requires { ⌜ 0 < room ⌝ }
     ensures { λ r. ⌜ r < room ⌝ }
 {
@@ -108,12 +108,12 @@ pub fn entry(notes: &mut Notes, room: usize) -> usize
     wide32(n) % room
 }
 
-pub fn as_note(choice: u16) -> u32 {
+fn as_note(choice: u16) -> u32 {
     choice as u32
 }
 
 // Keeps a witness: the choices of a survivor, 256 where any will do.
-pub fn keep(notes: &mut Notes, p: &[u16; 32]) {
+pub(crate) fn keep(notes: &mut Notes, p: &[u16; 32]) {
     let mut j: usize = 0;
     while j < 32 {
         notes[WITNESS + j] = as_note(p[j]);
@@ -123,7 +123,7 @@ pub fn keep(notes: &mut Notes, p: &[u16; 32]) {
 }
 
 // Whether a choice can be the one noted, where 256 is any.
-pub fn meets(noted: u32, choice: u16) -> bool {
+fn meets(noted: u32, choice: u16) -> bool {
     if noted == 256 {
         return true;
     }
@@ -134,7 +134,7 @@ pub fn meets(noted: u32, choice: u16) -> bool {
 }
 
 // Whether there is a witness, and it can have the settled choices.
-pub fn witnessed(notes: &Notes, p: &[u16; 32]) -> bool {
+pub(crate) fn witnessed(notes: &Notes, p: &[u16; 32]) -> bool {
     if notes[KEPT] != 1 {
         return false;
     }

@@ -3,8 +3,8 @@
 use crate::notes::Notes;
 use crate::notes::entry;
 use crate::notes::filled;
+use partial::block::wide;
 use partial::sets::has;
-use partial::tables::wide;
 ghost use mathlib.Core.Path.{_≡_};
 ghost use mathlib.Core.Bool.{true};
 ghost use Prim.Native.Nat.{ℕ, _+_, _*_, _<_, _≤_};
@@ -16,13 +16,13 @@ ghost use Rattle.partial.specs.Sets.{Has};
 ghost use Rattle.engine.specs.Store.{freshSets, StoreOk, Matches, Written, HitOk};
 
 // How many refutations a fresh store has room for.
-pub const ENTRIES: usize = 512;
+const ENTRIES: usize = 512;
 
 pub type StoreSets = [u32; ENTRIES];
 
 pub type StoreValues = [u16; ENTRIES * 32];
 
-pub enum Known {
+pub(crate) enum Known {
     By(u32),
     Fresh,
 }
@@ -57,7 +57,7 @@ pub fn no_values() -> [u16; 0]
 }
 
 // Where a choice of an entry is kept.
-pub fn value_at(e: usize, j: u8) -> usize
+fn value_at(e: usize, j: u8) -> usize
     requires { ⌜ (e * 32 + 32 < 18446744073709551616) × (j < 32) ⌝ }
     ensures { λ r. ⌜ r ≡ e * 32 + j ⌝ }
 {
@@ -65,7 +65,7 @@ pub fn value_at(e: usize, j: u8) -> usize
 }
 
 // Whether a settled choice is the entry's, if the set has the suspect.
-pub fn agrees(set: u32, j: u8, choice: u16, value: u16) -> bool
+fn agrees(set: u32, j: u8, choice: u16, value: u16) -> bool
     requires { ⌜ j < 32 ⌝ }
     ensures { λ r. ⌜ (r ≡ true → Has set j → (choice ≡ 256 → ⊥) × (choice ≡ value)) ⌝ }
 {
@@ -82,7 +82,7 @@ pub fn agrees(set: u32, j: u8, choice: u16, value: u16) -> bool
 }
 
 // Whether the choices of an entry are all settled, and the same.
-pub fn matches(p: &[u16; 32], values: &[u16], set: u32, e: usize) -> bool
+fn matches(p: &[u16; 32], values: &[u16], set: u32, e: usize) -> bool
     requires { ⌜ e * 32 + 32 ≤ length (now values) ⌝ }
     ensures { λ r. ⌜ (r ≡ true → Matches (now (p .entry)) (now (values .entry)) set e) ⌝ }
 {
@@ -97,7 +97,7 @@ pub fn matches(p: &[u16; 32], values: &[u16], set: u32, e: usize) -> bool
 }
 
 // The set of the settled suspects. It promises nothing.
-pub fn settled_set(p: &[u16; 32]) -> u32 {
+fn settled_set(p: &[u16; 32]) -> u32 {
     let mut set: u32 = 0;
     let mut j: usize = 32;
     while j > 0 {
@@ -107,7 +107,7 @@ pub fn settled_set(p: &[u16; 32]) -> u32 {
     set
 }
 
-pub fn bit(value: u16) -> u32 {
+fn bit(value: u16) -> u32 {
     if value == 256 {
         return 0;
     }
@@ -115,16 +115,16 @@ pub fn bit(value: u16) -> u32 {
 }
 
 // An entry that refutes.
-pub fn hit(
-    tables: &[u8; 1603],
+pub(crate) fn hit(
+    block: &[u8; 1603],
     bytes: &[u8],
     sets: &[u32],
     values: &[u16],
     notes: &Notes,
     p: &[u16; 32],
 ) -> Known
-    requires { ⌜ StoreOk (now tables) (now bytes) (now sets) (now values) ⌝ }
-    ensures { λ r. ⌜ HitOk (now (tables .entry)) (now (bytes .entry)) (now (p .entry)) r ⌝ }
+    requires { ⌜ StoreOk (now block) (now bytes) (now sets) (now values) ⌝ }
+    ensures { λ r. ⌜ HitOk (now (block .entry)) (now (bytes .entry)) (now (p .entry)) r ⌝ }
 {
     let settled = settled_set(p);
     let n = filled(notes, sets.len());
@@ -142,7 +142,7 @@ pub fn hit(
 }
 
 // Writes the choices of an entry.
-pub fn write(values: &mut [u16], e: usize, p: &[u16; 32])
+fn write(values: &mut [u16], e: usize, p: &[u16; 32])
     requires { ⌜ e * 32 + 32 ≤ length (now values) ⌝ }
     ensures { λ r. ⌜ Written (now (values .entry)) (now (values .exit)) e (now (p .entry)) 32 ⌝ }
 {
@@ -155,8 +155,8 @@ pub fn write(values: &mut [u16], e: usize, p: &[u16; 32])
 }
 
 // Keeps a refutation, where there is room.
-pub fn learn(
-    tables: &[u8; 1603],
+pub(crate) fn learn(
+    block: &[u8; 1603],
     bytes: &[u8],
     sets: &mut [u32],
     values: &mut [u16],
@@ -164,8 +164,8 @@ pub fn learn(
     p: &[u16; 32],
     set: u32,
 )
-    requires { ⌜ StoreOk (now tables) (now bytes) (now sets) (now values) × NoSurvivor (now tables) (now bytes) (now p) set × (length (now p) ≡ 32) ⌝ }
-    ensures { λ r. ⌜ StoreOk (now (tables .entry)) (now (bytes .entry)) (now (sets .exit)) (now (values .exit)) ⌝ }
+    requires { ⌜ StoreOk (now block) (now bytes) (now sets) (now values) × NoSurvivor (now block) (now bytes) (now p) set × (length (now p) ≡ 32) ⌝ }
+    ensures { λ r. ⌜ StoreOk (now (block .entry)) (now (bytes .entry)) (now (sets .exit)) (now (values .exit)) ⌝ }
 {
     let room = sets.len();
     if room == 0 {

@@ -1,1 +1,1 @@
-pub mod InputLaw
+mod InputLaw

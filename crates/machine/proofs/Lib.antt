@@ -5,6 +5,6 @@ mod MarksLaw
 mod FollowLaw
 mod SitesLaw
 mod SuspectSites
-pub mod MovesLaw
+mod MovesLaw
 pub mod Against
 pub mod FitsLaw

@@ -10,20 +10,18 @@ use borrow.Author.Tests.{ne-eqb}
 use lib.ListN.{length, getD, set, take}
 use lib.Seq.{getD-take, length-take-le, getD-set-same, getD-set-other}
 use Rattle.sheet.specs.declared.Row.{Row}
-use Rattle.sheet.specs.Lists.{maybe}
+use Rattle.sheet.specs.Lists.{maybe, indexOr}
 use Rattle.sheet.specs.Sheet.{Sheet, rowsAt, ruleAt, unruledChoices, choicesAt}
 use Rattle.sheet.specs.Tables.{firstFault, noRow, tablesOf}
-use Rattle.sheet.specs.laws.TablesLaw.{table-at}
+use Rattle.sheet.specs.laws.TablesLaw.{table-at, fault-at as fault-row, fault-below as fault-index}
 use Rattle.model.specs.Machine.{Move}
 use Rattle.model.specs.Mutant.{moveOf, rule, transitions, siteOf, idle, step}
 use Rattle.model.specs.Operations.{firstHigh}
 use Rattle.model.specs.laws.Closed.{rule-row}
 use Rattle.model.specs.laws.TransitionLaw.{rule-choice, fault-choice, unruled-choice, transition-in}
-use Rattle.model.specs.laws.FaultLaw.{FaultAt, fault-at}
 use Rattle.model.specs.laws.SuspectLaw.{slot-count, site-is}
 use Rattle.model.specs.laws.StepLaw.{choiceOf, step-at, step-outside, choice-below}
 use Rattle.model.specs.laws.OperationLaw.{in-range, first-high, none-high, mutant-length}
-use Rattle.sheet.specs.Lists.{indexOr}
 use Rattle.machine.specs.Tables.{ruleIn}
 use Rattle.machine.specs.Mutants.{Placed, Ruled, Ready, choiceIn, Moves}
 
@@ -139,15 +137,15 @@ module _ (sh : Sheet) (n k : ℕ) (output target first mutated diverted : List �
         rw (ec, rule-choice sh (i / 16) (i % 16) (r .0) (r .1), eo, et) refl
 
     -- then its faults
-    fault-there : (getD output i 0 ≡ 255 → ⊥) → (c ≡ 0 → ⊥) → FaultAt sh (i / 16) (i % 16) (c - 1)
+    fault-there : (getD output i 0 ≡ 255 → ⊥) → (c ≡ 0 → ⊥) → c - 1 < length (rowsAt (sh .faults) (i / 16) (i % 16))
     unfolding choicesAt
     fault-there ne pos =
         let r = rule-there ne in
         let h : c < suc (length (rowsAt (sh .faults) (i / 16) (i % 16))) = rw (r .1) at few in
-        fault-at sh (is .formed) (i / 16) (i % 16) (c - 1) (omega (arith, positive c pos))
+        omega (arith, positive c pos)
 
     pub fault-below : (getD output i 0 ≡ 255 → ⊥) → (c ≡ 0 → ⊥) → (0 < c) × (getD first i 0 + c ≤ 256)
-    fault-below ne pos = let p = positive c pos in (p, omega (arith, fault-there ne pos .is, first-at, is .formed .few-faults))
+    fault-below ne pos = let p = positive c pos in (p, omega (arith, fault-index (i / 16) (i % 16) (is .formed) (c - 1) (fault-there ne pos), first-at, is .formed .few-faults))
 
     pub fault-move : (ne : getD output i 0 ≡ 255 → ⊥) (pos : c ≡ 0 → ⊥) →
         record { output = getD mutated (getD first i 0 + c - 1) 0; target = getD diverted (getD first i 0 + c - 1) 0 } ≡ getD (transitions sh (i / 16) (i % 16)) c idle
@@ -157,9 +155,9 @@ module _ (sh : Sheet) (n k : ℕ) (output target first mutated diverted : List �
         let b = fault-below ne pos in
         let ef : getD first i 0 + c - 1 ≡ firstFault (sh .faults) (i / 16) (i % 16) + (c - 1) = omega (arith, first-at, b) in
         let ec : c ≡ suc (c - 1) = omega (arith, b) in
-        let lf : firstFault (sh .faults) (i / 16) (i % 16) + (c - 1) < 256 = omega (arith, f .is, is .formed .few-faults) in
+        let lf : firstFault (sh .faults) (i / 16) (i % 16) + (c - 1) < 256 = omega (arith, fault-index (i / 16) (i % 16) (is .formed) (c - 1) f, is .formed .few-faults) in
         let e : moveOf (getD (sh .faults) (firstFault (sh .faults) (i / 16) (i % 16) + (c - 1)) noRow) ≡ getD (transitions sh (i / 16) (i % 16)) c idle =
-        ap moveOf (f .row) ∙ sym (fault-choice sh (i / 16) (i % 16) (c - 1) (r .0) (r .1)) ∙ ap (λ (t : ℕ). getD (transitions sh (i / 16) (i % 16)) t idle) (sym ec) in
+        ap moveOf (sym (fault-row (i / 16) (i % 16) (is .formed) (c - 1) f)) ∙ sym (fault-choice sh (i / 16) (i % 16) (c - 1) (r .0) (r .1)) ∙ ap (λ (t : ℕ). getD (transitions sh (i / 16) (i % 16)) t idle) (sym ec) in
         rw (ef, mutated-at _ lf, diverted-at _ lf) e
 
 module _ (sh : Sheet) (n k : ℕ) (output target first mutated diverted site b : List ℕ) (is : Ready sh n k output target first mutated diverted site b)

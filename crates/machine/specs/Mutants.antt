@@ -5,14 +5,13 @@ use mathlib.Core.Bool.{cond}
 use mathlib.Core.List.{List}
 use lib.Dec.{eqb}
 use lib.ListN.{length, getD, replicate}
-use Rattle.sheet.specs.Lists.{maybe}
+use Rattle.sheet.specs.Lists.{maybe, overlay}
 use Rattle.sheet.specs.Sheet.{Sheet}
 use Rattle.sheet.specs.Tables.{tablesOf}
 use Rattle.sheet.specs.WellFormed.{WellFormed}
 use Rattle.model.specs.Machine.{Move}
 use Rattle.model.specs.Mutant.{slots, siteOf, step, IsMutant}
 use Rattle.machine.specs.declared.moves.Move.{Move as Moved}
-use Rattle.sheet.specs.Lists.{overlay}
 
 -- which byte of a mutant each pair uses, 255 for none
 unfoldable pub Placed : Sheet → List ℕ → Type 0

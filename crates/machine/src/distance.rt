@@ -2,10 +2,9 @@
 // state * 16 + input, mo and mn the mutant's.
 ghost use mathlib.Core.Path.{_≡_};
 ghost use mathlib.Core.Bool.{false};
-ghost use Prim.Native.Nat.{ℕ, _+_, _-_, _*_, _/_, _≤_, _<_};
+ghost use Prim.Native.Nat.{ℕ, _-_, _*_, _/_, _≤_, _<_};
 ghost use lib.ListN.{length, getD, replicate};
-ghost use Rattle.model.specs.Compare.{least, shortest, comparePair};
-ghost use Rattle.model.specs.Compare.{shows as showsOf};
+ghost use Rattle.model.specs.Compare.{least, shortest, comparePair, shows as showsOf};
 ghost use Rattle.machine.specs.Tables.{tables, Valid, Marks, Exact, near, cellOf};
 ghost use Rattle.sheet.specs.Lists.{overlay};
 ghost use Rattle.machine.specs.Differences.{differenceOf, found};

@@ -1,5 +1,5 @@
 // A mutant's machine as tables: which byte of the mutant each pair uses, what the machine does, and what tells it from the
-// specification. For the crates `mutation` and `judging`, which show what its functions require.
+// specification. For the crates `survivor` and `mutation`, which show what its functions require.
 mod distance;
 mod moves;
 mod sites;

@@ -1,11 +1,10 @@
 // The machine of a mutant, as tables.
-ghost use Prim.Native.Nat.{ℕ, _+_, _*_, _/_, _%_, _<_};
+ghost use Prim.Native.Nat.{ℕ, _*_, _/_, _%_, _<_};
 ghost use mathlib.Core.Path.{_≡_};
 ghost use mathlib.Core.List.{List};
 ghost use lib.ListN.{length, getD, replicate};
 ghost use Rattle.sheet.specs.Sheet.{Sheet, choicesAt};
-ghost use Rattle.model.specs.Mutant.{transitions, idle, step};
-ghost use Rattle.model.specs.Mutant.{initial as initialOf};
+ghost use Rattle.model.specs.Mutant.{transitions, idle, step, initial as initialOf};
 ghost use Rattle.machine.specs.Mutants.{Ruled, Ready, choiceIn, asMove, Moves};
 ghost use Rattle.machine.specs.Fits.{Read, Machined};
 use crate::sites::Fit;
@@ -15,9 +14,9 @@ use sheet::Summary;
 use sheet::Tables;
 
 // An output, and the next state.
-pub struct Move {
-    pub output: u8,
-    pub target: u8,
+struct Move {
+    output: u8,
+    target: u8,
 }
 
 // What a mutant does at each state and input, at state * 16 + input; or why the bytes are no mutant of the sheet.

@@ -81,7 +81,7 @@ fn first_high(sizes: &[u16; 32], mutant: &[u8]) -> usize
 }
 
 // Whether the bytes are as many as the suspects, and each is below its number of choices.
-pub fn fits(sizes: &[u16; 32], count: usize, mutant: &[u8]) -> Fit
+pub(crate) fn fits(sizes: &[u16; 32], count: usize, mutant: &[u8]) -> Fit
     requires { ⌜ (count ≤ 32) × (length (now sizes) ≡ 32) ⌝ }
     ensures { λ r. ⌜ r ≡ fitIn (now (sizes .entry)) count (now (mutant .entry)) ⌝ }
 {

@@ -1,4 +1,5 @@
--- What each operation of 01 comes to, as one function of the bytes and lengths it gets, with its refusals in their order.
+-- What each operation of 01 comes to, as one function of the bytes and lengths it gets, with its refusals in their order: on an
+-- accepted sheet (`..On`), and from the bytes.
 use Prim.Native.Nat.{ℕ, zero, _*_}
 use mathlib.Core.Bool.{Bool, cond, not}
 use mathlib.Core.Option.{Option, none, some}
@@ -43,25 +44,30 @@ unfoldable pub withMutant : {A : Type 0} → Sheet → List ℕ → Result A →
 withMutant sh b r = refuseIf (not (eqb (length b) (length (slots sh)))) 13 0 (refuseAt (firstHigh (slots sh) b) 14 r)
 
 -- Run: 13, 14, then 15 for an input not below k, then 16 for a buffer shorter than the inputs
+unfoldable pub runOn : Sheet → List ℕ → List ℕ → ℕ → Result (List ℕ)
+runOn sh b xs room =
+    withMutant sh b (refuseAt (firstOver (sh .size .inputs) xs) 15 (refuseIf (ltb room (length xs)) 16 0 (accepted (outputs sh b xs))))
+
 unfoldable pub running : List ℕ → List ℕ → List ℕ → ℕ → Result (List ℕ)
-running s b xs room =
-    reads (reading s) (λ sh.
-    withMutant sh b (refuseAt (firstOver (sh .size .inputs) xs) 15 (refuseIf (ltb room (length xs)) 16 0 (accepted (outputs sh b xs)))))
+running s b xs room = reads (reading s) (λ sh. runOn sh b xs room)
 
 -- First failed test: 13, 14
 unfoldable pub failing : List ℕ → List ℕ → Result (Option Place)
 failing s b = reads (reading s) (λ sh. withMutant sh b (accepted (firstFailedOf sh b)))
 
 -- Compare: 13, 14, then 16 for a buffer shorter than n × n
+unfoldable pub compareOn : Sheet → List ℕ → ℕ → Result (Option (List ℕ))
+compareOn sh b room = withMutant sh b (refuseIf (ltb room (sh .size .states * sh .size .states)) 16 0 (accepted (compareOf sh b)))
+
 unfoldable pub comparing : List ℕ → List ℕ → ℕ → Result (Option (List ℕ))
-comparing s b room =
-    reads (reading s) (λ sh.
-    withMutant sh b (refuseIf (ltb room (sh .size .states * sh .size .states)) 16 0 (accepted (compareOf sh b))))
+comparing s b room = reads (reading s) (λ sh. compareOn sh b room)
 
 -- Judge: 16 at place 0 for a board buffer shorter than the number of suspects, then 16 at place 1 for a sequence buffer
 -- shorter than n × n
-unfoldable pub judging : List ℕ → ℕ → ℕ → Result Judgement
-judging s boardRoom sequenceRoom =
-    reads (reading s) (λ sh.
+unfoldable pub judgeOn : Sheet → ℕ → ℕ → Result Judgement
+judgeOn sh boardRoom sequenceRoom =
     refuseIf (ltb boardRoom (length (slots sh))) 16 0
-    (refuseIf (ltb sequenceRoom (sh .size .states * sh .size .states)) 16 1 (accepted (judgeOf sh))))
+    (refuseIf (ltb sequenceRoom (sh .size .states * sh .size .states)) 16 1 (accepted (judgeOf sh)))
+
+unfoldable pub judging : List ℕ → ℕ → ℕ → Result Judgement
+judging s boardRoom sequenceRoom = reads (reading s) (λ sh. judgeOn sh boardRoom sequenceRoom)

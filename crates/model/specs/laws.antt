@@ -9,7 +9,6 @@ pub mod JudgeLaw
 pub mod Quick
 pub mod SuspectLaw
 pub mod TransitionLaw
-pub mod FaultLaw
 pub mod OperationLaw
 pub mod StepLaw
 pub mod SuiteLaw

@@ -2,24 +2,24 @@
 use Prim.Native.Nat.{ℕ, _+_, _-_, _*_, _<_, _≤_}
 use native.Mathlib.Omega.{arith}
 use mathlib.Core.Path.{_≡_, refl, sym, _∙_, ap, subst}
-use mathlib.Core.List.{List, [], _∷_, _++_, append-assoc}
+use mathlib.Core.List.{List, [], _∷_, _++_}
 use borrow.Author.Tests.{lt-ltb, le-ltb}
 use lib.ListN.{length, take, drop, replicate, length-append, length-drop}
-use lib.Seq.{take-all, drop-at, take-at}
-use Rattle.sheet.specs.declared.Row.{Row}
+use lib.Seq.{take-all, take-at}
 use Rattle.sheet.specs.declared.Summary.{Summary}
 use Rattle.sheet.specs.declared.Tables.{Tables}
 use Rattle.sheet.specs.declared.Loaded.{Loaded}
 use Rattle.sheet.specs.declared.Reading.the-variants as read
 use Rattle.sheet.specs.Sheet.{Sheet}
 use Rattle.sheet.specs.Reading.{accepted, refused, Reading, reading, summaryOf}
-use Rattle.sheet.specs.Encode.{rowBytes, sizeBytes, machineBytes, testBytes, body, encode}
+use Rattle.sheet.specs.Encode.{machineBytes, testBytes, body, encode}
 use Rattle.sheet.specs.Tables.{loadedOf}
+use Rattle.sheet.proofs.PlaceLaws.{machine-length, tests-from}
 use Rattle.sheet.specs.WellFormed.{WellFormed}
 use Rattle.sheet.specs.laws.Accepted.{well-formed}
 use Rattle.model.specs.Mutant.{slots}
 use Rattle.model.specs.Suite.{Judgement, complete, survivor, judgeOf}
-use Rattle.model.specs.Operations.{judging}
+use Rattle.model.specs.Operations.{judging, judgeOn}
 use Rattle.model.specs.Verdict.{Complete, JudgedMeans}
 use Rattle.model.specs.laws.OperationLaw.{mutant-length}
 use Rattle.model.specs.laws.Demands.{judged-told, complete-told}
@@ -32,30 +32,13 @@ use Rattle.machine.specs.Mutants.{Placed}
 use Rattle.machine.specs.Sites.{openChoices, Numbered}
 use Rattle.survivor.specs.Search.{NoneFrom, Kept, Shown, Searching}
 use Rattle.mutation.specs.Operate.{ReadFrom}
-use Rattle.mutation.specs.Judging.{judgingOf, Judges, SaysOf, ToldJudged}
+use Rattle.mutation.specs.Judging.{Judges, SaysOf, ToldJudged}
 use Rattle.machine.proofs.FitsLaw.{read-states, read-inputs, read-few, read-sited, read-ruled}
 use Rattle.mutation.proofs.Opened.{closed-by}
 use Rattle.mutation.proofs.PackedLaw.{block-for}
 use Rattle.survivor.proofs.SearchLaw.{prefix-start, none-judged, first-judged}
 
 -- ---- where the tests start
-
-row-length : (b : ℕ) (l : List Row) → length (rowBytes b l) ≡ 5 * length l
-unfolding rowBytes
-row-length b [] = refl
-row-length b (r ∷ l) = omega (arith, row-length b l)
-
-machine-length : (sh : Sheet) → length (machineBytes sh) ≡ 4 + 5 * length (sh .rules) + 5 * length (sh .faults)
-unfolding machineBytes sizeBytes
-machine-length sh =
-    length-append (sizeBytes (sh .size)) (rowBytes 2 (sh .rules) ++ rowBytes 3 (sh .faults))
-    ∙ omega (arith, length-append (rowBytes 2 (sh .rules)) (rowBytes 3 (sh .faults)), row-length 2 (sh .rules), row-length 3 (sh .faults))
-
-tests-from : (sh : Sheet) → drop (4 + 5 * length (sh .rules) + 5 * length (sh .faults)) (encode sh) ≡ suiteBytes (sh .tests)
-unfolding encode body
-tests-from sh =
-    ap (λ (l : List ℕ). drop (4 + 5 * length (sh .rules) + 5 * length (sh .faults)) l) (append-assoc (machineBytes sh) (testBytes (sh .tests)) (6 ∷ []))
-    ∙ drop-at (machineBytes sh) (suiteBytes (sh .tests)) (4 + 5 * length (sh .rules) + 5 * length (sh .faults)) (machine-length sh)
 
 encode-length : (sh : Sheet) → 4 + 5 * length (sh .rules) + 5 * length (sh .faults) ≤ length (encode sh)
 unfolding encode body
@@ -76,7 +59,7 @@ module _ {sh : Sheet} {size : Summary} {tables : Tables} {s : List ℕ} (rd : Re
   suite-from =
       let place = 4 + 5 * size .rules + 5 * size .faults in
       take-all (length s - place) (drop place s) (omega (arith, length-drop place s))
-      ∙ rw (rd .read .summary, ← rd .bytes) (tests-from sh)
+      ∙ rw (rd .read .summary, ← rd .bytes) (rw (machine-length sh) at (tests-from sh))
 
   module _ (n k : ℕ) (en : n ≡ size .states) (ek : k ≡ size .inputs) where
     pub few-open : (n ≤ 16) × (length (openChoices n k (tables .choices) 256) ≤ 32)
@@ -116,16 +99,16 @@ module _ {sh : Sheet} {size : Summary} {tables : Tables} {s : List ℕ} (rd : Re
   module _ (board sequence : List ℕ) where
     -- no room for the mutant
     pub judges-no-board : (count : ℕ) → count ≡ length (slots sh) → length board < count →
-        Judges (judgingOf sh (length board) (length sequence)) (judged.Refused 16 0) board board sequence sequence
-    unfolding judgingOf
+        Judges (judgeOn sh (length board) (length sequence)) (judged.Refused 16 0) board board sequence sequence
+    unfolding judgeOn
     judges-no-board count e l =
         let h = lt-ltb (length board) (length (slots sh)) (omega arith) in
         record { answer = rw h refl; board = rw h refl; sequence = rw h refl }
 
     -- none for the sequence
     pub judges-no-sequence : (count n : ℕ) → count ≡ length (slots sh) → n ≡ size .states → count ≤ length board → length sequence < n * n →
-        Judges (judgingOf sh (length board) (length sequence)) (judged.Refused 16 1) board board sequence sequence
-    unfolding judgingOf
+        Judges (judgeOn sh (length board) (length sequence)) (judged.Refused 16 1) board board sequence sequence
+    unfolding judgeOn
     judges-no-sequence count n e en lb l =
         let es : n ≡ sh .size .states = en ∙ read-states sh size tables (rd .read) in
         let h = le-ltb (length board) (length (slots sh)) (omega arith) in
@@ -134,8 +117,8 @@ module _ {sh : Sheet} {size : Summary} {tables : Tables} {s : List ℕ} (rd : Re
 
     -- room for both
     pub room : (count n : ℕ) → count ≡ length (slots sh) → n ≡ size .states → count ≤ length board → n * n ≤ length sequence →
-        judgingOf sh (length board) (length sequence) ≡ accepted (judgeOf sh)
-    unfolding judgingOf
+        judgeOn sh (length board) (length sequence) ≡ accepted (judgeOf sh)
+    unfolding judgeOn
     room count n e en lb l =
         let es : n ≡ sh .size .states = en ∙ read-states sh size tables (rd .read) in
         let h = le-ltb (length board) (length (slots sh)) (omega arith) in
@@ -168,8 +151,8 @@ module _ (s board sequence : List ℕ) where
         λ sh es. let same : _≡_ {A = Reading} (accepted sh) (refused number place) = sym es ∙ h in absurd (let z : _≡_ {A = ℕ} 0 1 = cc in omega arith),
       )
 
-  judging-is : (sh : Sheet) → reading s ≡ accepted sh → (rb rs : ℕ) → judging s rb rs ≡ judgingOf sh rb rs
-  unfolding judging judgingOf
+  judging-is : (sh : Sheet) → reading s ≡ accepted sh → (rb rs : ℕ) → judging s rb rs ≡ judgeOn sh rb rs
+  unfolding judging judgeOn
   judging-is sh e rb rs = rw e refl
 
   says : (sh : Sheet) → WellFormed sh → (j : Judgement) → JudgedMeans sh j → (judgeOf sh ≡ complete → Complete sh) × (Complete sh → judgeOf sh ≡ complete) → judgeOf sh ≡ j →
@@ -192,15 +175,15 @@ module _ (s board sequence : List ℕ) where
 
   -- an accepted one
   pub judge-accepted : (sh : Sheet) → reading s ≡ accepted sh → (r : Judged) (board′ sequence′ : List ℕ) →
-      Judges (judgingOf sh (length board) (length sequence)) r board board′ sequence sequence′ →
+      Judges (judgeOn sh (length board) (length sequence)) r board board′ sequence sequence′ →
       Judges (judging s (length board) (length sequence)) r board board′ sequence sequence′ × ToldJudged s (length board) (length sequence) r board′ sequence′
-  unfolding ToldJudged judgingOf
+  unfolding ToldJudged judgeOn
   judge-accepted sh e r board′ sequence′ js = (rw (judging-is sh e (length board) (length sequence)) js, told)
     where
       told : (sh′ : Sheet) → reading s ≡ accepted sh′ → length (slots sh′) ≤ length board → sh′ .size .states * sh′ .size .states ≤ length sequence → SaysOf sh′ r board′ sequence′
       told sh′ e′ lb ls =
           let same : sh ≡ sh′ = (let z : _≡_ {A = Reading} (accepted sh) (accepted sh′) = sym e ∙ e′ in cc) in
-          let js′ = subst (λ (t : Sheet). Judges (judgingOf t (length board) (length sequence)) r board board′ sequence sequence′) same js in
+          let js′ = subst (λ (t : Sheet). Judges (judgeOn t (length board) (length sequence)) r board board′ sequence sequence′) same js in
           let h = le-ltb (length board) (length (slots sh′)) lb in
           let g = le-ltb (length sequence) (sh′ .size .states * sh′ .size .states) ls in
           says sh′ (well-formed s sh′ e′) (judgeOf sh′) (judged-told s sh′ e′) (complete-told s sh′ e′) refl r board′ sequence′ (rw (h, g) at js′)

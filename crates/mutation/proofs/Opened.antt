@@ -18,7 +18,7 @@ use Rattle.sheet.specs.Tables.{loadedOf}
 use Rattle.sheet.specs.laws.Accepted.{well-formed}
 use Rattle.sheet.specs.laws.Encoded.{encoded}
 use Rattle.model.specs.Suite.{Place, firstFailedOf, compareOf}
-use Rattle.model.specs.Operations.{refuseIf, withMutant, running, failing, comparing}
+use Rattle.model.specs.Operations.{refuseIf, withMutant, running, failing, comparing, compareOn, runOn}
 use Rattle.model.specs.Verdict.{FailedMeans, ComparedMeans}
 use Rattle.model.specs.laws.OperationLaw.{mutant-goes-on}
 use Rattle.model.specs.laws.SuiteLaw.{failed-means}
@@ -28,7 +28,7 @@ use Rattle.mutation.specs.declared.Compared.{Compared}
 use Rattle.sheet.specs.Lists.{overlay}
 use Rattle.machine.specs.Differences.{found}
 use Rattle.mutation.specs.Answers.{failedOf, failedAnswer, comparedOf, comparedAnswer, comparedWrites}
-use Rattle.mutation.specs.Operate.{ReadFrom, runOn, compareOn, FailedSays, ToldFailed, ComparedSays, ToldCompared}
+use Rattle.mutation.specs.Operate.{ReadFrom, FailedSays, ToldFailed, ComparedSays, ToldCompared}
 
 pub record Opened (s : List ℕ) (size : Summary) (tables : Tables) : Type 0 where
   pub sheet : Sheet
@@ -68,7 +68,7 @@ closed-by s l number place e h = go (reading s) e
 -- the operations on an accepted sheet
 module _ (s : List ℕ) (sh : Sheet) (e : reading s ≡ accepted sh) (b : List ℕ) where
   pub running-on : (xs : List ℕ) (room : ℕ) → running s b xs room ≡ runOn sh b xs room
-  unfolding running runOn
+  unfolding running
   running-on xs room = rw e refl
 
   pub failing-on : failing s b ≡ withMutant sh b (accepted (firstFailedOf sh b))
@@ -76,7 +76,7 @@ module _ (s : List ℕ) (sh : Sheet) (e : reading s ≡ accepted sh) (b : List �
   failing-on = rw e refl
 
   pub comparing-on : (room : ℕ) → comparing s b room ≡ compareOn sh b room
-  unfolding comparing compareOn
+  unfolding comparing
   comparing-on room = rw e refl
 
 -- and on a refused one

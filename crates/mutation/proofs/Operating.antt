@@ -15,7 +15,7 @@ use Rattle.model.specs.Machine.{outputsFrom}
 use Rattle.model.specs.Mutant.{outputs, step, initial, against, IsMutant}
 use Rattle.model.specs.Compare.{comparePair}
 use Rattle.model.specs.Suite.{firstFailedOf, compareOf}
-use Rattle.model.specs.Operations.{refuseIf, refuseAt, firstOver, withMutant}
+use Rattle.model.specs.Operations.{refuseIf, refuseAt, firstOver, withMutant, compareOn, runOn}
 use Rattle.model.specs.laws.Closed.{start-below}
 use Rattle.model.specs.laws.OperationLaw.{mutant-goes-on, over-first, over-none}
 use Rattle.machine.specs.declared.sites.Fit.the-variants as fit
@@ -28,7 +28,6 @@ use Rattle.mutation.specs.declared.Compared.{Compared}
 use Rattle.mutation.specs.Answers.{comparedOf, comparedBy, comparedAnswer}
 use Rattle.machine.specs.Mutants.{Moves}
 use Rattle.machine.specs.Fits.{Read, Machined}
-use Rattle.mutation.specs.Operate.{runOn, compareOn}
 use Rattle.machine.proofs.Against.{moves-step, tables-against, tables-valid, tables-total}
 use Rattle.machine.proofs.FitsLaw.{fit-refused, fit-mutant, read-states, read-inputs, read-ruled}
 

@@ -1,4 +1,4 @@
--- The engine's tables, packed from those of a sheet.
+-- The block, packed from the tables of a sheet.
 use Prim.Native.Nat.{ℕ, _+_, _-_, _/_, _%_, _≤_, _<_}
 use native.Mathlib.Decide.{decLt}
 use native.Mathlib.Omega.{arith}
@@ -7,19 +7,16 @@ use mathlib.Core.Logic.{by-cases}
 use mathlib.Core.List.{List, _++_}
 use lib.ListN.{length, getD, drop, replicate, getD-replicate, List·getD-append, List·getD-eq-default}
 use lib.Seq.{getD-append-add, getD-drop}
-use Rattle.sheet.specs.Lists.{maybe, upTo}
+use Rattle.sheet.specs.Lists.{maybe}
 use Rattle.sheet.specs.Sheet.{Sheet}
-use Rattle.sheet.specs.Tables.{table, tablesOf, firstFault}
+use Rattle.sheet.specs.Tables.{tablesOf, firstFault}
 use Rattle.sheet.specs.WellFormed.{WellFormed}
+use Rattle.sheet.specs.laws.TablesLaw.{table-at}
 use Rattle.model.specs.Mutant.{slots, siteOf}
-use Rattle.model.specs.laws.ListLaw.{getD-map-below, length-upTo, getD-upTo}
 use Rattle.model.specs.laws.SuspectLaw.{slot-count}
 use Rattle.partial.specs.Packing.{Packed}
 use Rattle.survivor.specs.Block.{BlockFor}
 use Rattle.survivor.proofs.BlockLaw.{getD-default, first-less, slot-few, slot-some}
-
-table-at : (f : ℕ → ℕ) (i : ℕ) → i < 256 → getD (table f) i 0 ≡ f i
-table-at f i l = getD-map-below f (upTo 256) i 0 0 (rw (length-upTo 256) l) ∙ ap f (getD-upTo 256 i 0 l)
 
 -- the numbers of choices with 1 past the last
 slots-at : (s : List ℕ) (i : ℕ) → length s ≤ 32 → i < 32 → getD (s ++ drop (length s) (replicate 32 1)) i 0 ≡ getD s i 1

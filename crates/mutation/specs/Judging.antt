@@ -2,14 +2,12 @@
 use Prim.Native.Nat.{ℕ, _*_, _≤_}
 use mathlib.Core.Path.{_≡_}
 use mathlib.Core.List.{List, []}
-use lib.Dec.{ltb}
 use lib.ListN.{length, take}
 use Rattle.sheet.specs.Lists.{overlay}
 use Rattle.sheet.specs.Sheet.{Sheet}
 use Rattle.sheet.specs.Reading.{Result, accepted, refused, reading}
 use Rattle.model.specs.Mutant.{slots}
-use Rattle.model.specs.Suite.{Judgement, complete, survivor, judgeOf}
-use Rattle.model.specs.Operations.{refuseIf}
+use Rattle.model.specs.Suite.{Judgement, complete, survivor}
 use Rattle.model.specs.Implementation.{Guaranteed}
 use Rattle.model.specs.Verdict.{Complete, FirstSurvivor, ShortestOf}
 use Rattle.mutation.specs.declared.verdict.Judged.{Judged}
@@ -40,12 +38,6 @@ boardWrites (refused number place) = []
 abbrev pub sequenceWrites : Result Judgement → List ℕ
 sequenceWrites (accepted j) = sequenceIn j
 sequenceWrites (refused number place) = []
-
--- the judgement of an accepted sheet, with room in both buffers
-unfoldable pub judgingOf : Sheet → ℕ → ℕ → Result Judgement
-judgingOf sh boardRoom sequenceRoom =
-    refuseIf (ltb boardRoom (length (slots sh))) 16 0
-    (refuseIf (ltb sequenceRoom (sh .size .states * sh .size .states)) 16 1 (accepted (judgeOf sh)))
 
 -- an answer, and what it leaves in both buffers
 pub record Judges (result : Result Judgement) (r : Judged) (oldBoard newBoard oldSequence newSequence : List ℕ) : Type 0 where

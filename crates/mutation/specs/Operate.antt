@@ -1,18 +1,15 @@
 -- The operations on an accepted sheet, and what their answers tell.
 use Prim.Native.Nat.{ℕ, _*_, _≤_}
 use mathlib.Core.Path.{_≡_}
-use mathlib.Core.Option.{Option, none, some}
+use mathlib.Core.Option.{none, some}
 use mathlib.Core.List.{List}
-use lib.Dec.{ltb}
-use lib.ListN.{length, take}
+use lib.ListN.{take}
 use Rattle.sheet.specs.declared.Summary.{Summary}
 use Rattle.sheet.specs.declared.Tables.{Tables}
 use Rattle.sheet.specs.Sheet.{Sheet}
 use Rattle.sheet.specs.Encode.{encode}
-use Rattle.sheet.specs.Reading.{Result, accepted, reading}
-use Rattle.model.specs.Mutant.{outputs, IsMutant}
-use Rattle.model.specs.Suite.{compareOf}
-use Rattle.model.specs.Operations.{refuseIf, refuseAt, firstOver, withMutant}
+use Rattle.sheet.specs.Reading.{accepted, reading}
+use Rattle.model.specs.Mutant.{IsMutant}
 use Rattle.model.specs.Verdict.{FailedMeans, ComparedMeans}
 use Rattle.machine.specs.Fits.{Read}
 use Rattle.mutation.specs.declared.Failed.{Failed}
@@ -24,13 +21,6 @@ use Rattle.mutation.specs.declared.Compared.the-variants as compared
 pub record ReadFrom (sh : Sheet) (size : Summary) (tables : Tables) (s : List ℕ) : Type 0 where
   pub read : Read sh size tables
   pub bytes : encode sh ≡ s
-
-unfoldable pub runOn : Sheet → List ℕ → List ℕ → ℕ → Result (List ℕ)
-runOn sh b xs room =
-    withMutant sh b (refuseAt (firstOver (sh .size .inputs) xs) 15 (refuseIf (ltb room (length xs)) 16 0 (accepted (outputs sh b xs))))
-
-unfoldable pub compareOn : Sheet → List ℕ → ℕ → Result (Option (List ℕ))
-compareOn sh b room = withMutant sh b (refuseIf (ltb room (sh .size .states * sh .size .states)) 16 0 (accepted (compareOf sh b)))
 
 -- the answer of first failed test for a mutant: no test fails, or this is the first that does and its first wrong output
 abbrev pub FailedSays : Sheet → List ℕ → Failed → Type 0

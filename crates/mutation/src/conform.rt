@@ -1,12 +1,11 @@
 // Compare, over tables.
 ghost use mathlib.Core.Path.{_≡_};
-ghost use Prim.Native.Nat.{ℕ};
 ghost use lib.ListN.{length};
 ghost use Rattle.sheet.specs.Lists.{overlay};
 ghost use Rattle.sheet.specs.Sheet.{Sheet};
+ghost use Rattle.model.specs.Operations.{compareOn};
 ghost use Rattle.machine.specs.Fits.{Read};
 ghost use Rattle.mutation.specs.Answers.{comparedBy, comparedAnswer, comparedWrites};
-ghost use Rattle.mutation.specs.Operate.{compareOn};
 use crate::Compared;
 use machine::Difference;
 use machine::Fit;

@@ -1,16 +1,15 @@
 // A machine on the tests of a sheet, both the specification and the machine as tables.
-ghost use Prim.Native.Nat.{ℕ, _+_, _*_, _<_};
+ghost use Prim.Native.Nat.{ℕ, _<_};
 ghost use mathlib.Core.Path.{_≡_};
 ghost use mathlib.Core.List.{List};
 ghost use Rattle.sheet.specs.Lists.{indexOr};
-ghost use Rattle.mutation.specs.Answers.{failedOf};
+ghost use Rattle.mutation.specs.Answers.{failedOf, failedAnswer};
 ghost use Rattle.machine.specs.Tables.{tables, Valid};
 ghost use Rattle.mutation.specs.Tests.{wrongFrom, failedFrom, Test, Tests};
 ghost use Rattle.sheet.specs.Sheet.{Sheet};
 ghost use Rattle.sheet.specs.Reading.{accepted};
 ghost use Rattle.model.specs.Suite.{firstFailedOf};
 ghost use Rattle.model.specs.Operations.{withMutant};
-ghost use Rattle.mutation.specs.Answers.{failedAnswer};
 ghost use Rattle.mutation.specs.Operate.{ReadFrom};
 use crate::Failed;
 use machine::Fit;

@@ -8,7 +8,7 @@ use engine::no_values;
 use machine::bound;
 use machine::number;
 use machine::wide;
-use partial::tables::pack;
+use partial::block::pack;
 use sheet::Reading;
 use sheet::Summary;
 use sheet::Tables;
@@ -17,17 +17,16 @@ use sheet::refusal_of;
 use survivor::Searched;
 use survivor::search;
 ghost use mathlib.Core.Path.{_≡_};
-ghost use Prim.Native.Nat.{_+_, _*_, _<_};
 ghost use lib.ListN.{length, replicate};
 ghost use Rattle.sheet.specs.Sheet.{Sheet};
 ghost use Rattle.sheet.specs.Reading.{accepted};
 ghost use Rattle.model.specs.Suite.{judgeOf};
-ghost use Rattle.model.specs.Operations.{judging};
+ghost use Rattle.model.specs.Operations.{judging, judgeOn};
 ghost use Rattle.survivor.specs.declared.survive.Searched.the-variants.{GaveUp};
 ghost use Rattle.sheet.specs.Lists.{overlay};
 ghost use Rattle.mutation.specs.Operate.{ReadFrom};
 ghost use Rattle.survivor.specs.Search.{Searching, Room, Leaves};
-ghost use Rattle.mutation.specs.Judging.{judgedAnswer, boardWrites, sequenceWrites, judgingOf, Judges, Measured, ToldJudged};
+ghost use Rattle.mutation.specs.Judging.{judgedAnswer, boardWrites, sequenceWrites, Judges, Measured, ToldJudged};
 
 // What Judge answers: complete, or the length of the first survivor's shortest distinguishing sequence.
 pub enum Judged {
@@ -43,7 +42,7 @@ fn unsettled() -> [u16; 32]
     [256u16; 32]
 }
 
-// A block for the engine's tables.
+// A block for a sheet's tables.
 fn no_block() -> [u8; 1603]
     ensures { λ r. ⌜ r ≡ replicate 1603 0 ⌝ }
 {
@@ -137,6 +136,7 @@ fn conclude(
     match found {
         Searched::Nothing => Judged::Complete,
         Searched::First(length) => Judged::Survivor(length),
+        // ruled out by what `find` promises
         Searched::GaveUp => Judged::Complete,
     }
 }
@@ -151,7 +151,7 @@ fn judge_read(
     nodes: &mut u32,
 ) -> Judged
     requires { ⌜ ((sh : Sheet) × ReadFrom sh size tables (now sheet)) ⌝ }
-    ensures { λ r. ⌜ ((sh : Sheet) → ReadFrom sh size tables (now (sheet .entry)) → Judges (judgingOf sh (length (now (board .entry))) (length (now (sequence .entry)))) r (now (board .entry)) (now (board .exit)) (now (sequence .entry)) (now (sequence .exit))) ⌝ }
+    ensures { λ r. ⌜ ((sh : Sheet) → ReadFrom sh size tables (now (sheet .entry)) → Judges (judgeOn sh (length (now (board .entry))) (length (now (sequence .entry)))) r (now (board .entry)) (now (board .exit)) (now (sequence .entry)) (now (sequence .exit))) ⌝ }
     ensures { λ r. ⌜ Measured r (now (nodes .entry)) (now (nodes .exit)) ⌝ }
 {
     let n = wide(size.states);

@@ -10,7 +10,7 @@ use borrow.Author.Tests.{eq-eqb, ne-eqb, lt-ltb, le-ltb}
 use lib.ListN.{getD}
 use Rattle.model.specs.Machine.{Move}
 use Rattle.partial.specs.Machine.{Wf, pair, ruleOutput, ruleTarget, siteAt, firstFault, mutated, diverted, choicesOf, statesOf, inputsOf, choicesAt, choiceOf, chosen, ruleOf, stepOf}
-use Rattle.partial.specs.declared.tables.Step.{Step}
+use Rattle.partial.specs.declared.block.Step.{Step}
 use Rattle.partial.specs.Answers.{StepIs}
 
 choice-unruled : (m : List ℕ) (k c : ℕ) → ruleTarget m k ≡ 255 → choiceOf m k c ≡ record { output = c / statesOf m; target = c % statesOf m }
@@ -34,11 +34,11 @@ pub choices-some : (m : List ℕ) (k : ℕ) → (siteAt m k ≡ 255 → ⊥) →
 unfolding choicesAt
 choices-some m k n = rw (ne-eqb _ _ n)
 
-chosen-none : (m b : List ℕ) (k : ℕ) → siteAt m k ≡ 255 → chosen m b k ≡ 0
+pub chosen-none : (m b : List ℕ) (k : ℕ) → siteAt m k ≡ 255 → chosen m b k ≡ 0
 unfolding chosen
 chosen-none m b k e = rw (eq-eqb _ _ e)
 
-chosen-some : (m b : List ℕ) (k : ℕ) → (siteAt m k ≡ 255 → ⊥) → chosen m b k ≡ getD b (siteAt m k) 0
+pub chosen-some : (m b : List ℕ) (k : ℕ) → (siteAt m k ≡ 255 → ⊥) → chosen m b k ≡ getD b (siteAt m k) 0
 unfolding chosen
 chosen-some m b k n = rw (ne-eqb _ _ n)
 

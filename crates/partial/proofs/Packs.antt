@@ -1,4 +1,4 @@
--- Filling the block of tables, and when the tables are what the engine asks.
+-- Filling the block of tables.
 use mathlib.Core.Path.{_≡_, refl, sym, ap, _∙_, subst}
 use mathlib.Core.List.{List}
 use mathlib.Core.Logic.{_⊎_, inl, inr}

@@ -1,18 +1,15 @@
 -- The pairs of states reached in step: what is covered, and that a closed list makes conforming.
-use mathlib.Core.Path.{_≡_, refl, sym, ap, ap₂, _∙_, subst, subst₂}
+use mathlib.Core.Path.{_≡_, sym, ap, ap₂, _∙_, subst, subst₂}
 use mathlib.Core.Option.{some}
 use mathlib.Core.List.{List, [], _∷_}
-use mathlib.Core.Logic.{_⊎_, inl, inr}
 use Prim.Native.Nat.{ℕ, _+_, _/_, _%_, _<_, _≤_}
 use native.Mathlib.Omega.{arith}
-use native.Mathlib.Decide.{ℕ-discrete}
 use borrow.Author.Count.{below-more}
-use lib.ListN.{getD, length, set, length-set}
-use lib.Seq.{getD-set-same, getD-set-other}
+use lib.ListN.{getD}
 use Rattle.model.specs.Machine.{Move, outputsFrom, specifiedFrom, ConformingFrom}
 use Rattle.partial.specs.Sets.{Has, HasAll}
-use Rattle.partial.specs.Machine.{Ranged, Partial, Wf, Settled, Agree, pair, ruleOutput, ruleTarget, statesOf, inputsOf, choicesOf, choicesAt, choiceOf, ruleOf, stepOf, startOf}
-use Rattle.partial.specs.declared.tables.Step.{Step}
+use Rattle.partial.specs.Machine.{Ranged, Wf, Settled, Agree, pair, ruleOutput, ruleTarget, statesOf, inputsOf, choicesOf, choicesAt, choiceOf, ruleOf, stepOf, startOf}
+use Rattle.partial.specs.declared.block.Step.{Step}
 use Rattle.partial.specs.Answers.{Steps, StepIs, Blocked}
 use Rattle.partial.specs.Product.{Listed, Covered, Fined, FinedAll, Conforms}
 use Rattle.partial.proofs.ChoiceLaws.{choice-at, choice-low, step-open}

@@ -8,7 +8,7 @@ use lib.ListN.{getD}
 use Rattle.model.specs.Machine.{Move}
 use Rattle.partial.specs.Sets.{Has, HasAll, With}
 use Rattle.partial.specs.Machine.{Wf, Partial, Settled, Agree, pair, siteAt, statesOf, inputsOf, choicesAt, choiceOf, stepOf}
-use Rattle.partial.specs.declared.tables.Step.{Step}
+use Rattle.partial.specs.declared.block.Step.{Step}
 use Rattle.partial.specs.Answers.{Steps, StepIs, Blocked}
 use Rattle.partial.proofs.ChoiceLaws.{choice-low, choice-lone, choice-at, step-closed, step-open}
 

@@ -9,7 +9,7 @@ use Rattle.sheet.specs.Encode.{pressBytes}
 use Rattle.model.specs.Machine.{outputsFrom, specifiedFrom}
 use Rattle.partial.specs.Sets.{HasAll}
 use Rattle.partial.specs.Machine.{Wf, Agree, Settled, pair, siteAt, statesOf, choicesAt, choiceOf, ruleOf, stepOf, PassesAll, AllSpecified, suiteBytes, testsOf}
-use Rattle.partial.specs.declared.tables.Step.{Step}
+use Rattle.partial.specs.declared.block.Step.{Step}
 use Rattle.partial.specs.declared.walk.Taken.{Taken}
 use Rattle.partial.specs.declared.walk.Taken.the-variants.{Took, Met}
 use Rattle.partial.specs.declared.walk.Cursor.{Cursor}

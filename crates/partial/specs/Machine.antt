@@ -12,9 +12,10 @@ use Rattle.model.specs.Machine.{Move, Pair, outputsFrom, specifiedFrom, Conform
 use Rattle.model.specs.Mutant.{idle}
 use Rattle.partial.specs.Sets.{Has}
 
--- The tables are one list of bytes. By pair k = state * 16 + input: the rule's output at k and next state at 256 + k (255: no
+-- The tables are one block of bytes. By pair k = state * 16 + input: the rule's output at k and next state at 256 + k (255: no
 -- rule), which suspect the pair is at 512 + k (255: none), the index of its first fault at 768 + k. By fault f: its output at
--- 1024 + f, its next state at 1280 + f. By suspect i: its last choice at 1536 + i. Then the numbers of states and inputs.
+-- 1024 + f, its next state at 1280 + f. By suspect i: its last choice at 1536 + i. Then the numbers of states and inputs,
+-- and from 1570 on the pair of each suspect, of which nothing is promised.
 abbrev pub pair : ℕ → ℕ → ℕ
 pair s x = s * 16 + x
 
@@ -135,7 +136,7 @@ pub record Partial (m p : List ℕ) : Type 0 where
 pub record Settled (p : List ℕ) (u : ℕ) : Type 0 where
   pub at : (j : ℕ) → Has u j → getD p j 0 ≡ 256 → ⊥
 
--- what the engine asks of the tables
+-- what the functions ask of the block
 pub record Wf (m : List ℕ) : Type 0 where
   pub some-states : 1 ≤ statesOf m
   pub few-states : statesOf m ≤ 16

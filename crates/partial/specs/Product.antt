@@ -1,12 +1,11 @@
 -- What the scan of the pairs of states promises.
 use mathlib.Core.Path.{_≡_}
 use mathlib.Core.List.{List}
-use mathlib.Core.Logic.{_⊎_}
 use Prim.Native.Nat.{ℕ, _<_}
-use lib.ListN.{getD, length}
+use lib.ListN.{getD}
 use Rattle.model.specs.Machine.{ConformingFrom}
 use Rattle.partial.specs.Sets.{HasAll}
-use Rattle.partial.specs.Machine.{Ranged, Partial, Agree, Settled, pair, ruleOutput, ruleTarget, statesOf, inputsOf, stepOf, startOf, pairOf}
+use Rattle.partial.specs.Machine.{Ranged, Agree, Settled, pair, ruleOutput, ruleTarget, statesOf, inputsOf, stepOf, startOf, pairOf}
 use Rattle.partial.specs.declared.product.Seen.{Seen}
 use Rattle.partial.specs.declared.product.Seen.the-variants.{Fine, Unclear}
 

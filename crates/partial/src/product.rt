@@ -1,21 +1,20 @@
 // The pairs of states that the specification and a settled part reach in step, an unsettled suspect taking any of its choices.
+use crate::block::choices;
+use crate::block::inputs;
+use crate::block::place;
+use crate::block::rule_output;
+use crate::block::rule_target;
+use crate::block::site;
+use crate::block::some_place;
+use crate::block::states;
+use crate::block::transition;
+use crate::block::wide;
 use crate::sets::empty;
-use crate::tables::choices;
-use crate::tables::inputs;
-use crate::tables::place;
-use crate::tables::rule_output;
-use crate::tables::rule_target;
-use crate::tables::site;
-use crate::tables::some_place;
-use crate::tables::states;
-use crate::tables::transition;
-use crate::tables::wide;
 use crate::walk::Taken;
 use crate::walk::take;
 ghost use mathlib.Core.Path.{_≡_};
 ghost use mathlib.Core.Bool.{true};
-ghost use Prim.Native.Nat.{_+_, _*_, _<_, _≤_, _/_, _%_};
-ghost use lib.ListN.{length};
+ghost use Prim.Native.Nat.{_<_, _≤_, _/_, _%_};
 ghost use Rattle.partial.specs.Machine.{Wf, Partial, Settled, pair, ruleTarget, statesOf, inputsOf};
 ghost use Rattle.partial.specs.Answers.{Blocked};
 ghost use Rattle.partial.specs.Product.{Listed, CellOk, RowOk, SeenOk};
@@ -27,7 +26,7 @@ pub enum Seen {
 }
 
 // Whether a pair of states is one of the first n in the list; `index` says where it should stand.
-pub fn listed(list: &[u8; 256], index: &[u8; 256], n: usize, z: usize) -> bool
+fn listed(list: &[u8; 256], index: &[u8; 256], n: usize, z: usize) -> bool
     requires { ⌜ z < 256 ⌝ }
     ensures { λ r. ⌜ (r ≡ true → Listed (now (list .entry)) n z) ⌝ }
 {
@@ -39,8 +38,8 @@ pub fn listed(list: &[u8; 256], index: &[u8; 256], n: usize, z: usize) -> bool
 }
 
 // Every choice of a suspect that is not settled, on one input at a pair of states.
-pub fn any(
-    tables: &[u8; 1603],
+fn any(
+    block: &[u8; 1603],
     p: &[u16; 32],
     list: &[u8; 256],
     index: &[u8; 256],
@@ -51,17 +50,17 @@ pub fn any(
     x: u8,
     i: u8,
 ) -> Seen
-    requires { ⌜ Wf (now tables) × Blocked (now tables) (now p) q x i × (s < 16) × (q < statesOf (now tables)) × (x < inputsOf (now tables)) × Settled (now p) used × (ruleTarget (now tables) (pair s x) ≡ 255 → ⊥) ⌝ }
-    ensures { λ r. ⌜ CellOk (now (tables .entry)) (now (p .entry)) (now (list .entry)) n used s q x r ⌝ }
+    requires { ⌜ Wf (now block) × Blocked (now block) (now p) q x i × (s < 16) × (q < statesOf (now block)) × (x < inputsOf (now block)) × Settled (now p) used × (ruleTarget (now block) (pair s x) ≡ 255 → ⊥) ⌝ }
+    ensures { λ r. ⌜ CellOk (now (block .entry)) (now (p .entry)) (now (list .entry)) n used s q x r ⌝ }
 {
     let k = place(s, x);
-    let wants = rule_output(tables, k);
-    let next = rule_target(tables, k);
+    let wants = rule_output(block, k);
+    let next = rule_target(block, k);
     let at = place(q, x);
-    let count = choices(tables, i);
+    let count = choices(block, i);
     let mut c: u16 = 0;
     while c < count {
-        let step = transition(tables, at, c);
+        let step = transition(block, at, c);
         if step.output != wants {
             return Seen::Unclear;
         }
@@ -74,8 +73,8 @@ pub fn any(
 }
 
 // One input at a pair of states.
-pub fn cell(
-    tables: &[u8; 1603],
+fn cell(
+    block: &[u8; 1603],
     p: &[u16; 32],
     list: &[u8; 256],
     index: &[u8; 256],
@@ -85,18 +84,18 @@ pub fn cell(
     q: u8,
     x: u8,
 ) -> Seen
-    requires { ⌜ Wf (now tables) × Partial (now tables) (now p) × (s < 16) × (q < statesOf (now tables)) × (x < inputsOf (now tables)) × Settled (now p) used ⌝ }
-    ensures { λ r. ⌜ CellOk (now (tables .entry)) (now (p .entry)) (now (list .entry)) n used s q x r ⌝ }
+    requires { ⌜ Wf (now block) × Partial (now block) (now p) × (s < 16) × (q < statesOf (now block)) × (x < inputsOf (now block)) × Settled (now p) used ⌝ }
+    ensures { λ r. ⌜ CellOk (now (block .entry)) (now (p .entry)) (now (list .entry)) n used s q x r ⌝ }
 {
     let k = place(s, x);
-    let next = rule_target(tables, k);
+    let next = rule_target(block, k);
     if next == 255 {
         return Seen::Fine(used);
     }
-    match take(tables, p, used, q, x) {
-        Taken::Met(i) => any(tables, p, list, index, n, used, s, q, x, i),
+    match take(block, p, used, q, x) {
+        Taken::Met(i) => any(block, p, list, index, n, used, s, q, x, i),
         Taken::Took(output, target, more) => {
-            if output != rule_output(tables, k) {
+            if output != rule_output(block, k) {
                 return Seen::Unclear;
             }
             if !listed(list, index, n, place(next, target)) {
@@ -108,8 +107,8 @@ pub fn cell(
 }
 
 // Every input at a pair of states.
-pub fn row(
-    tables: &[u8; 1603],
+fn row(
+    block: &[u8; 1603],
     p: &[u16; 32],
     list: &[u8; 256],
     index: &[u8; 256],
@@ -118,14 +117,14 @@ pub fn row(
     s: u8,
     q: u8,
 ) -> Seen
-    requires { ⌜ Wf (now tables) × Partial (now tables) (now p) × (s < 16) × (q < statesOf (now tables)) × Settled (now p) used ⌝ }
-    ensures { λ r. ⌜ RowOk (now (tables .entry)) (now (p .entry)) (now (list .entry)) n used s q r ⌝ }
+    requires { ⌜ Wf (now block) × Partial (now block) (now p) × (s < 16) × (q < statesOf (now block)) × Settled (now p) used ⌝ }
+    ensures { λ r. ⌜ RowOk (now (block .entry)) (now (p .entry)) (now (list .entry)) n used s q r ⌝ }
 {
-    let end = inputs(tables);
+    let end = inputs(block);
     let mut all = used;
     let mut x: u8 = 0;
     while x < end {
-        let Seen::Fine(more) = cell(tables, p, list, index, n, all, s, q, x) else {
+        let Seen::Fine(more) = cell(block, p, list, index, n, all, s, q, x) else {
             return Seen::Unclear;
         };
         all = more;
@@ -134,14 +133,14 @@ pub fn row(
     Seen::Fine(all)
 }
 
-pub fn upper(k: usize) -> u8
+fn upper(k: usize) -> u8
     requires { ⌜ k < 256 ⌝ }
     ensures { λ r. ⌜ (r ≡ k / 16) × (r < 16) ⌝ }
 {
     (k / 16) as u8
 }
 
-pub fn lower(k: usize) -> u8
+fn lower(k: usize) -> u8
     requires { ⌜ k < 256 ⌝ }
     ensures { λ r. ⌜ r ≡ k % 16 ⌝ }
 {
@@ -149,15 +148,9 @@ pub fn lower(k: usize) -> u8
 }
 
 // Every pair of states in the list: is the list closed, with no wrong output?
-pub fn scan(
-    tables: &[u8; 1603],
-    p: &[u16; 32],
-    list: &[u8; 256],
-    index: &[u8; 256],
-    n: usize,
-) -> Seen
-    requires { ⌜ Wf (now tables) × Partial (now tables) (now p) × (n ≤ 256) ⌝ }
-    ensures { λ r. ⌜ SeenOk (now (tables .entry)) (now (p .entry)) r ⌝ }
+fn scan(block: &[u8; 1603], p: &[u16; 32], list: &[u8; 256], index: &[u8; 256], n: usize) -> Seen
+    requires { ⌜ Wf (now block) × Partial (now block) (now p) × (n ≤ 256) ⌝ }
+    ensures { λ r. ⌜ SeenOk (now (block .entry)) (now (p .entry)) r ⌝ }
 {
     if !listed(list, index, n, 0) {
         return Seen::Unclear;
@@ -167,10 +160,10 @@ pub fn scan(
     while h < n {
         let z = wide(list[h]);
         let q = lower(z);
-        if q >= states(tables) {
+        if q >= states(block) {
             return Seen::Unclear;
         }
-        let Seen::Fine(more) = row(tables, p, list, index, n, all, upper(z), q) else {
+        let Seen::Fine(more) = row(block, p, list, index, n, all, upper(z), q) else {
             return Seen::Unclear;
         };
         all = more;
@@ -180,7 +173,7 @@ pub fn scan(
 }
 
 // Lists a pair of states, if it is not listed: how many are listed then.
-pub fn visit(list: &mut [u8; 256], index: &mut [u8; 256], n: usize, z: usize) -> usize
+fn visit(list: &mut [u8; 256], index: &mut [u8; 256], n: usize, z: usize) -> usize
     requires { ⌜ z < 256 ⌝ }
 {
     if listed(list, index, n, z) {
@@ -195,8 +188,8 @@ pub fn visit(list: &mut [u8; 256], index: &mut [u8; 256], n: usize, z: usize) ->
 }
 
 // Lists what the choices from `low` up to `high` lead to: how many are listed, or 999 at a wrong output.
-pub fn mark_some(
-    tables: &[u8; 1603],
+fn mark_some(
+    block: &[u8; 1603],
     list: &mut [u8; 256],
     index: &mut [u8; 256],
     at: usize,
@@ -211,7 +204,7 @@ pub fn mark_some(
     let mut end = n;
     let mut c = low;
     while c < high {
-        let step = transition(tables, at, c);
+        let step = transition(block, at, c);
         if step.output != wants {
             return 999;
         }
@@ -222,8 +215,8 @@ pub fn mark_some(
 }
 
 // One input: an unsettled suspect takes any choice, or is passed over.
-pub fn mark_cell(
-    tables: &[u8; 1603],
+fn mark_cell(
+    block: &[u8; 1603],
     p: &[u16; 32],
     list: &mut [u8; 256],
     index: &mut [u8; 256],
@@ -234,38 +227,28 @@ pub fn mark_cell(
     n: usize,
 ) -> usize {
     let k = some_place(s, x);
-    let next = rule_target(tables, k);
+    let next = rule_target(block, k);
     if next == 255 {
         return n;
     }
-    let wants = rule_output(tables, k);
+    let wants = rule_output(block, k);
     let at = some_place(q, x);
-    let i = site(tables, at);
+    let i = site(block, at);
     if i >= 32 {
-        return mark_some(tables, list, index, at, 0, 1, wants, next, n);
+        return mark_some(block, list, index, at, 0, 1, wants, next, n);
     }
     let c = p[wide(i)];
     if c < 256 {
-        return mark_some(tables, list, index, at, c, c + 1, wants, next, n);
+        return mark_some(block, list, index, at, c, c + 1, wants, next, n);
     }
     if !all {
         return n;
     }
-    mark_some(
-        tables,
-        list,
-        index,
-        at,
-        0,
-        choices(tables, i),
-        wants,
-        next,
-        n,
-    )
+    mark_some(block, list, index, at, 0, choices(block, i), wants, next, n)
 }
 
-pub fn mark_row(
-    tables: &[u8; 1603],
+fn mark_row(
+    block: &[u8; 1603],
     p: &[u16; 32],
     list: &mut [u8; 256],
     index: &mut [u8; 256],
@@ -274,11 +257,11 @@ pub fn mark_row(
     q: u8,
     n: usize,
 ) -> usize {
-    let last = inputs(tables);
+    let last = inputs(block);
     let mut end = n;
     let mut x: u8 = 0;
     while x < last {
-        end = mark_cell(tables, p, list, index, all, s, q, x, end);
+        end = mark_cell(block, p, list, index, all, s, q, x, end);
         if end > 256 {
             return end;
         }
@@ -288,8 +271,8 @@ pub fn mark_row(
 }
 
 // The pairs of states, listed nearest first: their number, or 999 at a wrong output.
-pub fn mark(
-    tables: &[u8; 1603],
+fn mark(
+    block: &[u8; 1603],
     p: &[u16; 32],
     list: &mut [u8; 256],
     index: &mut [u8; 256],
@@ -304,7 +287,7 @@ pub fn mark(
             return end;
         }
         let z = list[h];
-        end = mark_row(tables, p, list, index, all, z / 16, z % 16, end);
+        end = mark_row(block, p, list, index, all, z / 16, z % 16, end);
         if end > 256 {
             return end;
         }
@@ -314,12 +297,12 @@ pub fn mark(
 }
 
 // An unsettled suspect on a specified input at a pair of states, or 255.
-pub fn open_at(tables: &[u8; 1603], p: &[u16; 32], s: u8, q: u8) -> u8 {
-    let end = inputs(tables);
+fn open_at(block: &[u8; 1603], p: &[u16; 32], s: u8, q: u8) -> u8 {
+    let end = inputs(block);
     let mut x: u8 = 0;
     while x < end {
-        if rule_target(tables, some_place(s, x)) != 255 {
-            let i = site(tables, some_place(q, x));
+        if rule_target(block, some_place(s, x)) != 255 {
+            let i = site(block, some_place(q, x));
             if i < 32 {
                 if p[wide(i)] == 256 {
                     return i;
@@ -332,17 +315,17 @@ pub fn open_at(tables: &[u8; 1603], p: &[u16; 32], s: u8, q: u8) -> u8 {
 }
 
 // The unsettled suspect met first on the settled walk; 255 if there is none, or at a wrong output.
-pub fn meet(tables: &[u8; 1603], p: &[u16; 32]) -> u8 {
+pub fn meet(block: &[u8; 1603], p: &[u16; 32]) -> u8 {
     let mut list = [0u8; 256];
     let mut index = [0u8; 256];
-    let end = mark(tables, p, &mut list, &mut index, false);
+    let end = mark(block, p, &mut list, &mut index, false);
     if end > 256 {
         return 255;
     }
     let mut h: usize = 0;
     while h < end {
         let z = list[h];
-        let i = open_at(tables, p, z / 16, z % 16);
+        let i = open_at(block, p, z / 16, z % 16);
         if i < 32 {
             return i;
         }
@@ -352,15 +335,15 @@ pub fn meet(tables: &[u8; 1603], p: &[u16; 32]) -> u8 {
 }
 
 // The reachable pairs of states: listed however, and then scanned.
-pub fn over(tables: &[u8; 1603], p: &[u16; 32]) -> Seen
-    requires { ⌜ Wf (now tables) × Partial (now tables) (now p) ⌝ }
-    ensures { λ r. ⌜ SeenOk (now (tables .entry)) (now (p .entry)) r ⌝ }
+pub fn over(block: &[u8; 1603], p: &[u16; 32]) -> Seen
+    requires { ⌜ Wf (now block) × Partial (now block) (now p) ⌝ }
+    ensures { λ r. ⌜ SeenOk (now (block .entry)) (now (p .entry)) r ⌝ }
 {
     let mut list = [0u8; 256];
     let mut index = [0u8; 256];
-    let n = mark(tables, p, &mut list, &mut index, true);
+    let n = mark(block, p, &mut list, &mut index, true);
     if n > 256 {
         return Seen::Unclear;
     }
-    scan(tables, p, &list, &index, n)
+    scan(block, p, &list, &index, n)
 }

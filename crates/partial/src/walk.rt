@@ -1,12 +1,12 @@
 // The test suite under a partly settled mutant.
+use crate::block::place;
+use crate::block::rule_output;
+use crate::block::rule_target;
+use crate::block::site;
+use crate::block::transition;
+use crate::block::wide;
 use crate::sets::empty;
 use crate::sets::with;
-use crate::tables::place;
-use crate::tables::rule_output;
-use crate::tables::rule_target;
-use crate::tables::site;
-use crate::tables::transition;
-use crate::tables::wide;
 ghost use mathlib.Core.Path.{_≡_};
 ghost use mathlib.Core.List.{List};
 ghost use Prim.Native.Nat.{ℕ, _+_, _*_, _<_, _≤_};
@@ -16,26 +16,26 @@ ghost use Rattle.partial.specs.Answers.{TakenOk, CursorOk, MovedOk, RanO
 
 // What the settled part of a mutant does at a state on an input: an output, a next state and the suspects used so far, with
 // this one; or the unsettled suspect met.
-pub enum Taken {
+pub(crate) enum Taken {
     Took(u8, u8, u32),
     Met(u8),
 }
 
-pub fn take(tables: &[u8; 1603], p: &[u16; 32], used: u32, q: u8, x: u8) -> Taken
-    requires { ⌜ Wf (now tables) × Partial (now tables) (now p) × (q < statesOf (now tables)) × (x < inputsOf (now tables)) × Settled (now p) used ⌝ }
-    ensures { λ r. ⌜ TakenOk (now (tables .entry)) (now (p .entry)) used q x r ⌝ }
+pub(crate) fn take(block: &[u8; 1603], p: &[u16; 32], used: u32, q: u8, x: u8) -> Taken
+    requires { ⌜ Wf (now block) × Partial (now block) (now p) × (q < statesOf (now block)) × (x < inputsOf (now block)) × Settled (now p) used ⌝ }
+    ensures { λ r. ⌜ TakenOk (now (block .entry)) (now (p .entry)) used q x r ⌝ }
 {
     let k = place(q, x);
-    let i = site(tables, k);
+    let i = site(block, k);
     if i == 255 {
-        let lone = transition(tables, k, 0);
+        let lone = transition(block, k, 0);
         return Taken::Took(lone.output, lone.target, used);
     }
     let c = p[wide(i)];
     if c == 256 {
         return Taken::Met(i);
     }
-    let step = transition(tables, k, c);
+    let step = transition(block, k, c);
     Taken::Took(step.output, step.target, with(used, i))
 }
 
@@ -70,9 +70,9 @@ pub enum Moved {
 }
 
 // One command.
-pub fn advance(tables: &[u8; 1603], bytes: &[u8], p: &[u16; 32], here: Cursor) -> Moved
-    requires { ⌜ Wf (now tables) × Partial (now tables) (now p) × CursorOk (now tables) (now bytes) (now p) here ⌝ }
-    ensures { λ r. ⌜ MovedOk (now (tables .entry)) (now (bytes .entry)) (now (p .entry)) here r ⌝ }
+pub fn advance(block: &[u8; 1603], bytes: &[u8], p: &[u16; 32], here: Cursor) -> Moved
+    requires { ⌜ Wf (now block) × Partial (now block) (now p) × CursorOk (now block) (now bytes) (now p) here ⌝ }
+    ensures { λ r. ⌜ MovedOk (now (block .entry)) (now (bytes .entry)) (now (p .entry)) here r ⌝ }
 {
     let at = here.at;
     let command = bytes[at];
@@ -90,8 +90,8 @@ pub fn advance(tables: &[u8; 1603], bytes: &[u8], p: &[u16; 32], here: Cursor) -
     }
     let x = bytes[at + 1];
     let k = place(here.spec, x);
-    let wants = rule_output(tables, k);
-    match take(tables, p, here.used, here.state, x) {
+    let wants = rule_output(block, k);
+    match take(block, p, here.used, here.state, x) {
         Taken::Met(i) => Moved::Stuck(i, wants),
         Taken::Took(output, state, used) => {
             if output != wants {
@@ -99,7 +99,7 @@ pub fn advance(tables: &[u8; 1603], bytes: &[u8], p: &[u16; 32], here: Cursor) -
             }
             Moved::On(Cursor {
                 at: at + 2,
-                spec: rule_target(tables, k),
+                spec: rule_target(block, k),
                 state,
                 used,
                 waits: here.waits,
@@ -109,9 +109,9 @@ pub fn advance(tables: &[u8; 1603], bytes: &[u8], p: &[u16; 32], here: Cursor) -
 }
 
 // The command after the rest of a test that waits.
-pub fn skip(tables: &[u8; 1603], bytes: &[u8], p: &[u16; 32], from: usize, waits: u32) -> Cursor
-    requires { ⌜ Wf (now tables) × Behind (now tables) (now bytes) from × (from ≤ length (now bytes)) ⌝ }
-    ensures { λ r. ⌜ CursorOk (now (tables .entry)) (now (bytes .entry)) (now (p .entry)) r × (from ≤ r .at) × (r .at ≤ length (now (bytes .entry))) ⌝ }
+fn skip(block: &[u8; 1603], bytes: &[u8], p: &[u16; 32], from: usize, waits: u32) -> Cursor
+    requires { ⌜ Wf (now block) × Behind (now block) (now bytes) from × (from ≤ length (now bytes)) ⌝ }
+    ensures { λ r. ⌜ CursorOk (now (block .entry)) (now (bytes .entry)) (now (p .entry)) r × (from ≤ r .at) × (r .at ≤ length (now (bytes .entry))) ⌝ }
 {
     let mut at = from;
     while bytes[at] == 5 {
@@ -143,7 +143,7 @@ pub fn better(set: u32, old: u32) -> bool {
 }
 
 // Keeps a set, if it is smaller.
-pub fn note(wanted: &mut [u32; 512], i: u8, o: u8, set: u32)
+fn note(wanted: &mut [u32; 512], i: u8, o: u8, set: u32)
     requires { ⌜ i < 32 ⌝ }
     ensures { λ r. ⌜ Noted (now (wanted .entry)) (now (wanted .exit)) i o set ⌝ }
 {
@@ -157,29 +157,29 @@ pub fn note(wanted: &mut [u32; 512], i: u8, o: u8, set: u32)
     wanted[k] = set;
 }
 
-pub enum Strode {
+enum Strode {
     Fell(u32),
     To(Cursor),
     Over,
 }
 
 // One command, or the rest of a test that waits for a suspect.
-pub fn stride(
-    tables: &[u8; 1603],
+fn stride(
+    block: &[u8; 1603],
     bytes: &[u8],
     p: &[u16; 32],
     wanted: &mut [u32; 512],
     here: Cursor,
 ) -> Strode
-    requires { ⌜ Wf (now tables) × Partial (now tables) (now p) × CursorOk (now tables) (now bytes) (now p) here × WantsOk (now tables) (now bytes) (now p) (now wanted) ⌝ }
-    ensures { λ r. ⌜ StrodeOk (now (tables .entry)) (now (bytes .entry)) (now (p .entry)) here r × WantsOk (now (tables .entry)) (now (bytes .entry)) (now (p .entry)) (now (wanted .exit)) ⌝ }
+    requires { ⌜ Wf (now block) × Partial (now block) (now p) × CursorOk (now block) (now bytes) (now p) here × WantsOk (now block) (now bytes) (now p) (now wanted) ⌝ }
+    ensures { λ r. ⌜ StrodeOk (now (block .entry)) (now (bytes .entry)) (now (p .entry)) here r × WantsOk (now (block .entry)) (now (bytes .entry)) (now (p .entry)) (now (wanted .exit)) ⌝ }
 {
-    match advance(tables, bytes, p, here) {
+    match advance(block, bytes, p, here) {
         Moved::Wrong(used) => Strode::Fell(used),
         Moved::Stuck(i, o) => {
             note(wanted, i, o, here.used);
             let at = here.at;
-            Strode::To(skip(tables, bytes, p, at + 2, with(here.waits, i)))
+            Strode::To(skip(block, bytes, p, at + 2, with(here.waits, i)))
         }
         Moved::On(next) => Strode::To(next),
         Moved::End => Strode::Over,
@@ -193,13 +193,13 @@ pub enum Ran {
 }
 
 // Every test from its start, until a wrong output.
-pub fn run(tables: &[u8; 1603], bytes: &[u8], p: &[u16; 32], wanted: &mut [u32; 512]) -> Ran
-    requires { ⌜ Wf (now tables) × Partial (now tables) (now p) × SuiteOk (now tables) (now bytes) × WantsOk (now tables) (now bytes) (now p) (now wanted) ⌝ }
-    ensures { λ r. ⌜ RanOk (now (tables .entry)) (now (bytes .entry)) (now (p .entry)) r × WantsOk (now (tables .entry)) (now (bytes .entry)) (now (p .entry)) (now (wanted .exit)) ⌝ }
+pub fn run(block: &[u8; 1603], bytes: &[u8], p: &[u16; 32], wanted: &mut [u32; 512]) -> Ran
+    requires { ⌜ Wf (now block) × Partial (now block) (now p) × SuiteOk (now block) (now bytes) × WantsOk (now block) (now bytes) (now p) (now wanted) ⌝ }
+    ensures { λ r. ⌜ RanOk (now (block .entry)) (now (bytes .entry)) (now (p .entry)) r × WantsOk (now (block .entry)) (now (bytes .entry)) (now (p .entry)) (now (wanted .exit)) ⌝ }
 {
     let mut here = start();
     loop {
-        match stride(tables, bytes, p, wanted, here) {
+        match stride(block, bytes, p, wanted, here) {
             Strode::Fell(used) => {
                 return Ran::Failed(used);
             }

@@ -15,13 +15,13 @@ use Rattle.sheet.specs.laws.Basics.{never}
 use Rattle.sheet.specs.laws.Accepted.{well-formed}
 use Rattle.model.specs.Mutant.{slots}
 use Rattle.model.specs.Suite.{Judgement, complete, survivor, judgeOf}
-use Rattle.model.specs.Operations.{reads, refuseIf, judging}
+use Rattle.model.specs.Operations.{reads, refuseIf, judging, judgeOn}
 use Rattle.model.specs.laws.JudgeLaw.{judged-survivor}
 use Rattle.model.specs.laws.OperationLaw.{mutant-length}
 use Rattle.model.specs.laws.SuspectLaw.{slot-count}
 use Rattle.mutation.specs.declared.verdict.Judged.the-variants as judged
 use Rattle.sheet.specs.Lists.{overlay}
-use Rattle.mutation.specs.Judging.{judgedAnswer, boardWrites, sequenceWrites, judgingOf}
+use Rattle.mutation.specs.Judging.{judgedAnswer, boardWrites, sequenceWrites}
 use Rattle.report.specs.Text.{Appended, completeText, survivorLines, refusedLine, textOf, textIn, suspectsIn}
 use Rattle.report.proofs.TextLaws.{appended-none}
 
@@ -54,7 +54,7 @@ refused-text (refused number place) n p e =
 -- a survivor has as many choices as Read counts suspects
 survivor-choices : (s b xs : List ℕ) (room room′ : ℕ) → judging s room room′ ≡ accepted (survivor b xs) →
     length b ≡ suspectsIn (readAnswer (reading s))
-unfolding judging judgingOf summaryOf
+unfolding judging judgeOn summaryOf
 survivor-choices s b xs room room′ = of-reading (reading s) refl
   where
     counted : (sh : Sheet) → reading s ≡ accepted sh → (p q : Bool) →
@@ -66,7 +66,7 @@ survivor-choices s b xs room room′ = of-reading (reading s) refl
     counted sh e true q h = never (cc)
 
     of-reading : (r : Reading) → reading s ≡ r →
-        reads r (λ sh. judgingOf sh room room′) ≡ accepted (survivor b xs) → length b ≡ suspectsIn (readAnswer r)
+        reads r (λ sh. judgeOn sh room room′) ≡ accepted (survivor b xs) → length b ≡ suspectsIn (readAnswer r)
     of-reading (accepted sh) e h = counted sh e (ltb room (length (slots sh))) (ltb room′ (sh .size .states * sh .size .states)) h
     of-reading (refused number place) e h = never (cc)
 

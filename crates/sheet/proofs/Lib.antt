@@ -1,13 +1,13 @@
-pub mod Laws
-pub mod RuleLaws
-pub mod FaultLaws
-pub mod PressLaws
-pub mod StateLaws
-pub mod EndLaws
-pub mod StepLaws
-pub mod FetchLaws
-pub mod ScanLaws
+mod Laws
+mod RuleLaws
+mod FaultLaws
+mod PressLaws
+mod StateLaws
+mod EndLaws
+mod StepLaws
+mod FetchLaws
+mod ScanLaws
 pub mod PlaceLaws
-pub mod PartLaws
-pub mod FillLaws
-pub mod LoadLaws
+mod PartLaws
+mod FillLaws
+mod LoadLaws

@@ -1,4 +1,4 @@
--- The engine's machine is the sheet's: the same specification, the same mutants, the same survivors.
+-- The block's machine is the sheet's: the same specification, the same mutants, the same survivors.
 use Prim.Native.Nat.{ℕ, zero, suc, _+_, _-_, _*_, _/_, _%_, _<_, _≤_}
 use native.Mathlib.Decide.{decLt, ℕ-discrete}
 use native.Mathlib.Omega.{arith}
@@ -12,9 +12,9 @@ use lib.Dec.{eqb, ltb}
 use lib.ListN.{length, getD, List·getD-eq-default}
 use Rattle.sheet.specs.declared.Row.{Row}
 use Rattle.sheet.specs.Lists.{maybe, isNone, first}
-use Rattle.sheet.specs.Sheet.{Sheet, rowsAt, ruleAt, unruledChoices}
-use Rattle.sheet.specs.Sheet.{choicesAt as choicesIn}
+use Rattle.sheet.specs.Sheet.{Sheet, rowsAt, ruleAt, unruledChoices, choicesAt as choicesIn}
 use Rattle.sheet.specs.Tables.{firstAt, firstFault, noRow}
+use Rattle.sheet.specs.laws.TablesLaw.{fault-at, fault-below}
 use Rattle.sheet.specs.WellFormed.{RowIn, WellFormed}
 use Rattle.model.specs.Machine.{Move}
 use Rattle.model.specs.Mutant.{moveOf, rule, transitions, Suspect, suspects, slots, siteOf, IsMutant, idle, step, initial, outputs, specified, against}
@@ -25,14 +25,10 @@ use Rattle.model.specs.laws.Closed.{rule-row, rule-in}
 use Rattle.model.specs.laws.JudgeLaw.{some-nonconforming}
 use Rattle.model.specs.laws.SuspectLaw.{slot-count, site-is, site-one}
 use Rattle.model.specs.laws.TransitionLaw.{rule-choice, fault-choice, unruled-choice, choices-some, choices-few}
-use Rattle.model.specs.laws.FaultLaw.{fault-at}
 use Rattle.model.specs.laws.OperationLaw.{mutant-length, in-range-at}
-use Rattle.model.specs.laws.StepLaw.{step-at, step-outside, choice-below}
-use Rattle.model.specs.laws.StepLaw.{choiceOf as choiceAt}
-use Rattle.model.specs.laws.SuiteLaw.{test-specified, passes-right}
-use Rattle.model.specs.laws.SuiteLaw.{Specified as SpecifiedIn}
-use Rattle.partial.specs.Machine.{pair, ruleOutput, ruleTarget, siteAt, mutated, diverted, choicesOf, statesOf, choicesAt, choiceOf, chosen, ruleOf, stepOf, startOf, pairOf, Survivor, Specified, suiteBytes, testsOf, SuiteOk, Ranged, Wf}
-use Rattle.partial.specs.Machine.{firstFault as firstIndex}
+use Rattle.model.specs.laws.StepLaw.{step-at, step-outside, choice-below, choiceOf as choiceAt}
+use Rattle.model.specs.laws.SuiteLaw.{test-specified, passes-right, Specified as SpecifiedIn}
+use Rattle.partial.specs.Machine.{pair, ruleOutput, ruleTarget, siteAt, mutated, diverted, choicesOf, statesOf, choicesAt, choiceOf, chosen, ruleOf, stepOf, startOf, pairOf, Survivor, Specified, suiteBytes, testsOf, SuiteOk, Ranged, Wf, firstFault as firstIndex}
 use Rattle.partial.proofs.Suites.{tests-same}
 use Rattle.survivor.specs.Block.{BlockFor}
 
@@ -52,13 +48,12 @@ module _ (sh : Sheet) (wf : WellFormed sh) where
       go : (rs : List Row) → rowsAt (sh .faults) s x ≡ rs → cond (isNone (first rs)) 0 (firstAt (sh .faults) s x) < 256
       go [] e = omega arith
       go (r ∷ rs) e =
-          let at = fault-at sh wf s x 0 (rw e (omega arith)) in
-          let l : firstAt (sh .faults) s x + 0 < length (sh .faults) = rw e at (at .is) in
+          let l : firstAt (sh .faults) s x + 0 < length (sh .faults) = rw e at (fault-below s x wf 0 (rw e (omega arith))) in
           omega (arith, wf .few-faults)
 
   fault-few : (s x c : ℕ) → c < suc (length (rowsAt (sh .faults) s x)) → firstFault (sh .faults) s x + c ≤ 256
   fault-few s x zero l = omega (arith, first-less s x)
-  fault-few s x (suc c) l = omega (arith, fault-at sh wf s x c (omega arith) .is, wf .few-faults)
+  fault-few s x (suc c) l = omega (arith, fault-below s x wf c (omega arith), wf .few-faults)
 
   -- a byte of a mutant has at most 256 choices, and one at least
   pub slot-few : (i : ℕ) → getD (slots sh) i 1 ≤ 256
@@ -125,7 +120,7 @@ module _ (sh : Sheet) (m : List ℕ) (wf : WellFormed sh) (bl : BlockFor sh m) w
       go true ec false ed = sym (rule-none s x (λ ls lx. let z : _≡_ {A = ℕ} 0 1 = cc (lt-ltb x (sh .size .inputs) lx) in omega arith))
       go false ec d ed = sym (rule-none s x (λ ls lx. let z : _≡_ {A = ℕ} 0 1 = cc (lt-ltb s (sh .size .states) ls) in omega arith))
 
-  -- the engine's rules are the sheet's
+  -- the block's rules are the sheet's
   pub rule-same : ruleOf m ≡ rule sh
   rule-same = fun-ext (λ s. fun-ext (λ x. rule-at s x))
 
@@ -153,7 +148,7 @@ module _ (sh : Sheet) (m : List ℕ) (wf : WellFormed sh) (bl : BlockFor sh m) w
   first-at : (s x : ℕ) → Here s x → firstIndex m (pair s x) ≡ firstFault (sh .faults) s x
   first-at s x h = bl .firsts (pair s x) (h .low) ∙ rw (h .state, h .input) refl
 
-  -- fault f of the sheet, where the engine has it
+  -- fault f of the sheet, where the block has it
   fault-move : (f : ℕ) → f < 256 → record { output = mutated m f; target = diverted m f } ≡ moveOf (getD (sh .faults) f noRow)
   fault-move f l = rw (bl .fault-outputs f l, bl .fault-targets f l) refl
 
@@ -166,11 +161,11 @@ module _ (sh : Sheet) (m : List ℕ) (wf : WellFormed sh) (bl : BlockFor sh m) w
           ≡ getD (transitions sh s x) d idle
       ruled r e zero k = rw (output-at s x h, e) (sym (rule-choice sh s x r e))
       ruled r e (suc d) k =
-          let at = fault-at sh wf s x d (omega arith) in
+          let h′ : d < length (rowsAt (sh .faults) s x) = omega arith in
           let f : firstIndex m (pair s x) + suc d - 1 ≡ firstFault (sh .faults) s x + d = omega (arith, first-at s x h) in
           rw (f, ne-eqb (suc d) 0 (λ z. omega arith))
-          (fault-move (firstFault (sh .faults) s x + d) (omega (arith, at .is, wf .few-faults))
-          ∙ ap moveOf (at .row) ∙ sym (fault-choice sh s x d r e))
+          (fault-move (firstFault (sh .faults) s x + d) (omega (arith, fault-below s x wf d h′, wf .few-faults))
+          ∙ ap moveOf (sym (fault-at s x wf d h′)) ∙ sym (fault-choice sh s x d r e))
 
       go : (o : Option Row) → ruleAt (sh .rules) s x ≡ o →
           c < maybe o (sh .size .outputs * sh .size .states) (λ r. suc (length (rowsAt (sh .faults) s x))) →
@@ -199,7 +194,7 @@ module _ (sh : Sheet) (m : List ℕ) (wf : WellFormed sh) (bl : BlockFor sh m) w
         go true ec false ed = sym (step-outside sh b s x (λ ls lx. let z : _≡_ {A = ℕ} 0 1 = cc (lt-ltb x (sh .size .inputs) lx) in omega arith))
         go false ec d ed = sym (step-outside sh b s x (λ ls lx. let z : _≡_ {A = ℕ} 0 1 = cc (lt-ltb s (sh .size .states) ls) in omega arith))
 
-    -- the engine's mutants do what the sheet's do
+    -- the block's mutants do what the sheet's do
     pub step-same : stepOf m b ≡ step sh b
     step-same = fun-ext (λ s. fun-ext (λ x. step-here s x))
 
@@ -207,11 +202,11 @@ module _ (sh : Sheet) (m : List ℕ) (wf : WellFormed sh) (bl : BlockFor sh m) w
     unfolding startOf initial
     start-same = refl
 
-    -- the engine compares the same two machines
+    -- the same two machines are compared
     pub pair-same : pairOf m b ≡ against sh b
     pair-same = λ i. record { states = bl .states i; inputs = bl .inputs i; start = start-same i; rule = rule-same i; move = step-same i }
 
-    -- a mutant's choices are in the engine's range
+    -- a mutant's choices are in the block's range
     pub ranged : Ranged m b
     unfolding IsMutant
     ranged =
@@ -224,7 +219,7 @@ module _ (sh : Sheet) (m : List ℕ) (wf : WellFormed sh) (bl : BlockFor sh m) w
         past : (i : ℕ) → length (slots sh) ≤ i → length b ≤ i → getD b i 0 < getD (slots sh) i 1
         past i h k = rw (List·getD-eq-default b 0 k, List·getD-eq-default (slots sh) 1 h) (omega arith)
 
-    -- a mutant that passes the suite, and that compare tells from the specification, is a survivor to the engine
+    -- a mutant that passes the suite, and that compare tells from the specification, is a survivor by the block
     pub survivor-same : (xs : List ℕ) → Passes sh b → compareOf sh b ≡ some xs → Survivor m (sh .tests) b
     unfolding Survivor specified outputs
     survivor-same xs p e = (
@@ -234,7 +229,7 @@ module _ (sh : Sheet) (m : List ℕ) (wf : WellFormed sh) (bl : BlockFor sh m) w
 
   -- ---- what the engine asks
 
-  -- the commands from the first TEST to END are a suite to the engine, and say the sheet's tests
+  -- the commands from the first TEST to END are a suite by the block, and say the sheet's tests
   pub suite-ok : (bytes : List ℕ) → bytes ≡ suiteBytes (sh .tests) → SuiteOk m bytes × (testsOf bytes ≡ sh .tests)
   unfolding specified
   suite-ok bytes e =
@@ -252,7 +247,7 @@ module _ (sh : Sheet) (m : List ℕ) (wf : WellFormed sh) (bl : BlockFor sh m) w
       go none e = absurd (ne (bl .sites k l ∙ rw e refl))
       go (some i) e = ap (λ j. some j) (sym (bl .sites k l ∙ rw e refl))
 
-  -- the tables are what the engine asks
+  -- the block is what the engine asks
   pub well-formed : Wf m
   unfolding choicesAt choicesIn
   well-formed =

@@ -10,8 +10,9 @@ use mathlib.Core.List.{List, [], _∷_}
 use borrow.Author.Count.{below-more}
 use lib.ListN.{length, getD, take, set, length-set, replicate, length-replicate, getD-replicate, List·getD-eq-default}
 use lib.Seq.{getD-set-same, getD-set-other, getD-take, length-take-le, ext-getD}
-use Rattle.sheet.specs.Lists.{Before}
+use Rattle.sheet.specs.Lists.{Before, overlay}
 use Rattle.sheet.specs.Sheet.{Sheet}
+use Rattle.sheet.specs.laws.Rows.{before-irreflexive}
 use Rattle.sheet.specs.WellFormed.{WellFormed}
 use Rattle.model.specs.Mutant.{slots, IsMutant}
 use Rattle.model.specs.Suite.{Passes, compareOf, complete, survivor, judgeOf}
@@ -20,7 +21,6 @@ use Rattle.model.specs.laws.SuspectLaw.{slot-count}
 use Rattle.model.specs.laws.OperationLaw.{mutant-length, in-range-at, in-range}
 use Rattle.partial.specs.Machine.{choicesOf, suiteBytes, testsOf, Ranged, Partial, SuiteOk, Survivor, Wf}
 use Rattle.engine.specs.Refute.{NoneIf}
-use Rattle.sheet.specs.Lists.{overlay}
 use Rattle.survivor.specs.declared.survive.Searched.the-variants.{Nothing, First, GaveUp}
 use Rattle.survivor.specs.Block.{BlockFor}
 use Rattle.survivor.specs.Search.{Begins, Prefix, NoneFrom, FirstFrom, Tried, Kept, Shown, Searching, Room}
@@ -47,10 +47,6 @@ earlier (x ∷ b) (y ∷ a) (inr (e, h)) = go (earlier b a h)
         below : (j : ℕ) → j < suc (w .place) → getD (x ∷ b) j 0 ≡ getD (y ∷ a) j 0
         below zero l = e
         below (suc j) l = w .same j (omega arith)
-
--- no list stands before itself
-before-other : (b a : List ℕ) → Before b a → b ≡ a → ⊥
-before-other b a h e = let w = earlier b a h in omega (arith, w .less, ap (λ (l : List ℕ). getD l (w .place) 0) e)
 
 -- an answer is not another
 pub nothing : {A : Type 0} → Nothing ≡ GaveUp → A
@@ -103,7 +99,7 @@ module _ (sh : Sheet) where
           begins = record { at = λ j k. getD-take n p j 0 k };
           passes = ps;
           shows = e;
-          first = λ b is be before. absurd (before-other b (take n p) before (whole b is be));
+          first = λ b is be before. absurd (before-irreflexive (take n p) (rw (whole b is be) at before));
         }
 
   -- ---- one choice more
@@ -215,7 +211,7 @@ module _ (sh : Sheet) where
   -- ---- the engine's answer
 
   module _ (m : List ℕ) (wf : WellFormed sh) (bl : BlockFor sh m) (p : List ℕ) (i : ℕ) (re : Prefix sh p i) where
-    -- the settled choices are in the engine's range
+    -- the settled choices are in the block's range
     pub partial : Partial m p
     partial = record { at = λ j l ne. by-cases (decLt j i) (λ h. low j l h) (λ h. absurd (ne (re .rest j l (omega arith)))) }
       where

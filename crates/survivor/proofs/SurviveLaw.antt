@@ -13,7 +13,7 @@ use lib.Dec.{eqb, ltb}
 use lib.ListN.{length, getD, take, drop, set, length-append, length-drop}
 use lib.Seq.{take-suc, drop-cons, append-snoc, set-at, length-take-le, getD-take, getD-set-same, getD-set-other}
 use Rattle.sheet.specs.declared.Row.{Row}
-use Rattle.sheet.specs.Lists.{maybe, All}
+use Rattle.sheet.specs.Lists.{maybe, All, overlay}
 use Rattle.sheet.specs.Sheet.{Sheet, ruleAt}
 use Rattle.sheet.specs.Encode.{pressBytes, testBytes}
 use Rattle.sheet.specs.WellFormed.{WellFormed}
@@ -29,11 +29,11 @@ use Rattle.model.specs.laws.StepLaw.{step-outside}
 use Rattle.model.specs.laws.SuiteLaw.{Following, Specified, test-specified, specified-uncons, passes-right, right-passes}
 use Rattle.partial.specs.Machine.{pair, ruleOutput, ruleTarget, siteAt, choicesOf, statesOf, inputsOf, choicesAt, choiceOf, chosen, stepOf, suiteBytes, Wf}
 use Rattle.partial.specs.Answers.{StepIs}
-use Rattle.partial.specs.declared.tables.Step.{Step}
+use Rattle.partial.specs.declared.block.Step.{Step}
 use Rattle.machine.specs.declared.distance.Difference.{Difference}
 use Rattle.machine.specs.declared.distance.Difference.the-variants as difference
+use Rattle.partial.proofs.ChoiceLaws.{chosen-none, chosen-some}
 use Rattle.survivor.specs.declared.survive.Searched.the-variants.{Nothing, First}
-use Rattle.sheet.specs.Lists.{overlay}
 use Rattle.machine.specs.Differences.{differenceOf, found}
 use Rattle.machine.specs.Tables.{ruleIn, moveIn, movesIn, tables, Valid}
 use Rattle.survivor.specs.Search.{Leaves, Searching}
@@ -68,18 +68,8 @@ choices-written p old board n j lp l h e =
 
 -- ---- the choice at a pair
 
--- a pair that is no suspect
-pub chosen-none : (m p : List ℕ) (k : ℕ) → siteAt m k ≡ 255 → 0 ≡ chosen m p k
-unfolding chosen
-chosen-none m p k e = rw (eq-eqb (siteAt m k) 255 e) refl
-
--- a suspect
-pub chosen-some : (m p : List ℕ) (k : ℕ) → (siteAt m k ≡ 255 → ⊥) → getD p (siteAt m k) 0 ≡ chosen m p k
-unfolding chosen
-chosen-some m p k ne = rw (ne-eqb (siteAt m k) 255 ne) refl
-
 pub chosen-at : (m p : List ℕ) (k i : ℕ) → (siteAt m k ≡ 255 → ⊥) → i ≡ siteAt m k → getD p i 0 ≡ chosen m p k
-chosen-at m p k i ne e = ap (λ (j : ℕ). getD p j 0) e ∙ chosen-some m p k ne
+chosen-at m p k i ne e = ap (λ (j : ℕ). getD p j 0) e ∙ sym (chosen-some m p k ne)
 
 -- ---- what the mutant does at an index
 
@@ -295,10 +285,10 @@ module _ {sh : Sheet} {m bytes p : List ℕ} {n : ℕ} (w : Searching sh m bytes
   unfolding b
   chosen-same k l =
       by-cases (ℕ-discrete (siteAt m k) 255)
-      (λ e. sym (chosen-none m p k e) ∙ chosen-none m (take n p) k e)
+      (λ e. chosen-none m p k e ∙ sym (chosen-none m (take n p) k e))
       (λ ne.
       let low = site-is sh (k / 16) (k % 16) (siteAt m k) (site-some sh m (w .formed) (w .block) k l ne) .0 in
-      sym (chosen-some m p k ne) ∙ sym (getD-take n p (siteAt m k) 0 (omega (arith, w .count))) ∙ chosen-some m (take n p) k ne)
+      chosen-some m p k ne ∙ sym (getD-take n p (siteAt m k) 0 (omega (arith, w .count))) ∙ sym (chosen-some m (take n p) k ne))
 
   -- each choice is one of its pair's
   pub chosen-ok : Chosen m p
@@ -306,14 +296,14 @@ module _ {sh : Sheet} {m bytes p : List ℕ} {n : ℕ} (w : Searching sh m bytes
   chosen-ok = record { at = λ k l. rw (chosen-same k l) (by-cases (ℕ-discrete (siteAt m k) 255) (λ e. lone k e) (λ ne. several k l ne)) }
     where
       lone : (k : ℕ) → siteAt m k ≡ 255 → chosen m b k < cond (eqb (siteAt m k) 255) 1 (choicesOf m (siteAt m k))
-      lone k e = rw (eq-eqb (siteAt m k) 255 e, ← chosen-none m b k e) (omega arith)
+      lone k e = rw (eq-eqb (siteAt m k) 255 e, chosen-none m b k e) (omega arith)
 
       several : (k : ℕ) → k < 256 → (siteAt m k ≡ 255 → ⊥) → chosen m b k < cond (eqb (siteAt m k) 255) 1 (choicesOf m (siteAt m k))
       several k l ne =
           let low = site-low sh m (w .formed) (w .block) (k / 16) (k % 16) (siteAt m k) (site-some sh m (w .formed) (w .block) k l ne) in
-          rw (ne-eqb (siteAt m k) 255 ne, ← chosen-some m b k ne) (ranged sh m (w .formed) (w .block) b is .at (siteAt m k) low)
+          rw (ne-eqb (siteAt m k) 255 ne, chosen-some m b k ne) (ranged sh m (w .formed) (w .block) b is .at (siteAt m k) low)
 
-  -- the tables are what the engine asks
+  -- the block is what the engine asks
   pub formed-tables : Wf m
   formed-tables = well-formed sh m (w .formed) (w .block)
 

@@ -1,4 +1,4 @@
--- The engine's tables, in one list of bytes, of a sheet.
+-- The tables of a sheet, in one block of bytes.
 use Prim.Native.Nat.{ℕ, _/_, _%_, _<_}
 use mathlib.Core.Path.{_≡_}
 use mathlib.Core.List.{List}
@@ -7,8 +7,7 @@ use Rattle.sheet.specs.Lists.{maybe}
 use Rattle.sheet.specs.Sheet.{Sheet, ruleAt}
 use Rattle.sheet.specs.Tables.{firstFault, noRow}
 use Rattle.model.specs.Mutant.{slots, siteOf}
-use Rattle.partial.specs.Machine.{ruleOutput, ruleTarget, siteAt, mutated, diverted, choicesOf, statesOf, inputsOf}
-use Rattle.partial.specs.Machine.{firstFault as firstIndex}
+use Rattle.partial.specs.Machine.{ruleOutput, ruleTarget, siteAt, mutated, diverted, choicesOf, statesOf, inputsOf, firstFault as firstIndex}
 
 -- the bytes hold the sheet's rules (255 for none), which byte of a mutant each pair uses (255 for none), its faults, and how
 -- many choices each byte of a mutant has (1 past the last)

@@ -4,7 +4,7 @@ use mathlib.Core.Path.{_≡_}
 use mathlib.Core.Option.{none, some}
 use mathlib.Core.List.{List}
 use lib.ListN.{length, getD}
-use Rattle.sheet.specs.Lists.{Before}
+use Rattle.sheet.specs.Lists.{Before, overlay}
 use Rattle.sheet.specs.Sheet.{Sheet}
 use Rattle.sheet.specs.WellFormed.{WellFormed}
 use Rattle.model.specs.Mutant.{slots, IsMutant}
@@ -12,7 +12,6 @@ use Rattle.model.specs.Suite.{Passes, compareOf}
 use Rattle.partial.specs.Machine.{statesOf, suiteBytes}
 use Rattle.survivor.specs.declared.survive.Searched.{Searched}
 use Rattle.survivor.specs.declared.survive.Searched.the-variants.{Nothing, First, GaveUp}
-use Rattle.sheet.specs.Lists.{overlay}
 use Rattle.survivor.specs.Block.{BlockFor}
 
 -- b and p have the same first i choices

@@ -6,7 +6,7 @@ use mathlib.Core.List.{List, [], _∷_}
 use lib.Dec.{eqb}
 use lib.ListN.{getD}
 use Rattle.partial.specs.Machine.{ruleOutput, ruleTarget, choicesAt, chosen, stepOf}
-use Rattle.partial.specs.declared.tables.Step.{Step}
+use Rattle.partial.specs.declared.block.Step.{Step}
 
 -- the place of a state and an input in a table
 abbrev pub slot : ℕ → ℕ → ℕ

@@ -1,4 +1,4 @@
-// The first survivor in dictionary order. For the crate `judging` alone, which shows what its function requires.
+// The first survivor in dictionary order. For the crate `mutation` alone, which shows what its function requires.
 mod settle;
 mod survive;
 

@@ -17,7 +17,7 @@ use Rattle.model.specs.Machine.{outputsFrom, specifiedFrom}
 use Rattle.model.specs.Mutant.{rule, unruled, transitions, Suspect, suspects, slots, siteIn, siteOf, choiceLists, mutants, step, initial, outputs, specified}
 use Rattle.model.specs.Compare.{least, shows, within, best, shortest, distance, compareFrom, comparePair}
 use Rattle.model.specs.Suite.{Place, Judgement, complete, survivor, firstWrong, wrongIn, firstFailedIn, firstFailedOf, compareOf, survivorAmong, judgeOf}
-use Rattle.model.specs.Operations.{reads, firstHigh, firstOver, withMutant, running, failing, comparing, judging}
+use Rattle.model.specs.Operations.{reads, firstHigh, firstOver, withMutant, running, failing, comparing, judging, runOn, compareOn, judgeOn}
 use Rattle.model.specs.laws.Quick.{tabulate, cellAt, rounds, compareQuick, firstQuick, judgeQuick, quick}
 use Rattle.worked.specs.Sheets.{p1machine, p1, p2, p3, emptyTest, p4machine, p4, p5, p6, p9machine, bababa, p9, p10, stuck, chain, open32, open33, manyTests}
 
@@ -112,9 +112,11 @@ further =
     ∷ run p1 (1 ∷ []) (0 ∷ 2 ∷ 9 ∷ []) 0 (refused 15 1)
     ∷ run p1 (1 ∷ []) (0 ∷ []) 0 (refused 16 0)
     ∷ run p4 (3 ∷ 1 ∷ []) (1 ∷ 1 ∷ 0 ∷ []) 9 (accepted (1 ∷ 1 ∷ 0 ∷ []))
+    ∷ failed [] [] (refused 2 0)
     ∷ failed p1 [] (refused 13 0)
     ∷ failed p4 (3 ∷ 2 ∷ []) (refused 14 1)
     ∷ failed p1 (1 ∷ []) (accepted none)
+    ∷ compared [] [] 0 (refused 2 0)
     ∷ compared p1 (0 ∷ 0 ∷ []) 0 (refused 13 0)
     ∷ compared p1 (2 ∷ []) 0 (refused 14 0)
     ∷ compared p1 (1 ∷ []) 3 (refused 16 0)
@@ -128,189 +130,33 @@ further =
 unfoldable pub rows : List Row
 rows = listed ++ (judged p10 4 16 (accepted complete) ∷ further)
 
+-- the definitions that the rows compute with, by one name: to unfold it is to unfold them
+computing : Unit {0}
+unfolding p1machine p1 p2 p3 emptyTest p4machine p4 p5 p6 p9machine bababa p9 p10 stuck chain open32 open33 manyTests last precedes count any all upTo joined rowsAt ruleAt after leads reachedWithin allReached unruledChoices choicesAt isOpen openBelow openPairs firstBroken ascends lastTest ruleAfter refusal addPress advance finishing doing oneCommand from blank reading summaryOf rowBytes pressBytes testBytes sizeBytes machineBytes spanOf parting outputsFrom specifiedFrom rule unruled transitions suspects slots siteIn siteOf choiceLists mutants step initial outputs specified least shows within best shortest distance compareFrom comparePair firstWrong wrongIn firstFailedIn firstFailedOf compareOf survivorAmong judgeOf firstHigh firstOver withMutant runOn running failing compareOn comparing judgeOn judging
+computing = tt
+
 -- P10's eight conforming mutants that pass are compared over all sequences of 16 inputs: a quicker judgement, proved to be
 -- the same, computes it
 sheet10 : Sheet
-unfolding p1machine p1 p2 p3 emptyTest p4machine p4 p5 p6 p9machine bababa p9 p10 stuck chain open32 open33 manyTests last precedes count any all upTo joined rowsAt ruleAt after leads reachedWithin allReached unruledChoices choicesAt isOpen openBelow openPairs firstBroken ascends lastTest ruleAfter refusal addPress advance finishing doing oneCommand from blank reading summaryOf rowBytes pressBytes testBytes sizeBytes machineBytes spanOf parting outputsFrom specifiedFrom rule unruled transitions suspects slots siteIn siteOf choiceLists mutants step initial outputs specified least shows within best shortest distance compareFrom comparePair firstWrong wrongIn firstFailedIn firstFailedOf compareOf survivorAmong judgeOf firstHigh firstOver withMutant running failing comparing judging
+unfolding computing
 sheet10 = sheetOf (reading p10)
 
 p10-read : reading p10 ≡ accepted sheet10
-unfolding sheet10 p1machine p1 p2 p3 emptyTest p4machine p4 p5 p6 p9machine bababa p9 p10 stuck chain open32 open33 manyTests last precedes count any all upTo joined rowsAt ruleAt after leads reachedWithin allReached unruledChoices choicesAt isOpen openBelow openPairs firstBroken ascends lastTest ruleAfter refusal addPress advance finishing doing oneCommand from blank reading summaryOf rowBytes pressBytes testBytes sizeBytes machineBytes spanOf parting outputsFrom specifiedFrom rule unruled transitions suspects slots siteIn siteOf choiceLists mutants step initial outputs specified least shows within best shortest distance compareFrom comparePair firstWrong wrongIn firstFailedIn firstFailedOf compareOf survivorAmong judgeOf firstHigh firstOver withMutant running failing comparing judging
+unfolding computing sheet10
 p10-read = refl
 
 p10-judged : judgeOf sheet10 ≡ complete
-unfolding sheet10 p1machine p1 p2 p3 emptyTest p4machine p4 p5 p6 p9machine bababa p9 p10 stuck chain open32 open33 manyTests last precedes count any all upTo joined rowsAt ruleAt after leads reachedWithin allReached unruledChoices choicesAt isOpen openBelow openPairs firstBroken ascends lastTest ruleAfter refusal addPress advance finishing doing oneCommand from blank reading summaryOf rowBytes pressBytes testBytes sizeBytes machineBytes spanOf parting outputsFrom specifiedFrom rule unruled transitions suspects slots siteIn siteOf choiceLists mutants step initial outputs specified least shows within best shortest distance compareFrom comparePair firstWrong wrongIn firstFailedIn firstFailedOf compareOf survivorAmong judgeOf firstHigh firstOver withMutant running failing comparing judging tabulate cellAt rounds compareQuick firstQuick judgeQuick
+unfolding computing sheet10 tabulate cellAt rounds compareQuick firstQuick judgeQuick
 p10-judged = quick sheet10 (well-formed p10 sheet10 p10-read)
 
 p10-holds : judging p10 4 16 ≡ accepted complete
-unfolding sheet10 p1machine p1 p2 p3 emptyTest p4machine p4 p5 p6 p9machine bababa p9 p10 stuck chain open32 open33 manyTests last precedes count any all upTo joined rowsAt ruleAt after leads reachedWithin allReached unruledChoices choicesAt isOpen openBelow openPairs firstBroken ascends lastTest ruleAfter refusal addPress advance finishing doing oneCommand from blank reading summaryOf rowBytes pressBytes testBytes sizeBytes machineBytes spanOf parting outputsFrom specifiedFrom rule unruled transitions suspects slots siteIn siteOf choiceLists mutants step initial outputs specified least shows within best shortest distance compareFrom comparePair firstWrong wrongIn firstFailedIn firstFailedOf compareOf survivorAmong judgeOf firstHigh firstOver withMutant running failing comparing judging
+unfolding computing sheet10
 p10-holds = ap accepted p10-judged
 
+infixr 5 _&_
+_&_ : {A B : Type 0} → A → B → A × B
+a & b = (a, b)
+
 pub rows-hold : AllHold rows
-unfolding rows listed further Holds AllHold p1machine p1 p2 p3 emptyTest p4machine p4 p5 p6 p9machine bababa p9 p10 stuck chain open32 open33 manyTests last precedes count any all upTo joined rowsAt ruleAt after leads reachedWithin allReached unruledChoices choicesAt isOpen openBelow openPairs firstBroken ascends lastTest ruleAfter refusal addPress advance finishing doing oneCommand from blank reading summaryOf rowBytes pressBytes testBytes sizeBytes machineBytes spanOf parting outputsFrom specifiedFrom rule unruled transitions suspects slots siteIn siteOf choiceLists mutants step initial outputs specified least shows within best shortest distance compareFrom comparePair firstWrong wrongIn firstFailedIn firstFailedOf compareOf survivorAmong judgeOf firstHigh firstOver withMutant running failing comparing judging
-rows-hold = (
-  refl,
-  (
-    refl,
-    (
-      refl,
-      (
-        refl,
-        (
-          refl,
-          (
-            refl,
-            (
-              refl,
-              (
-                refl,
-                (
-                  refl,
-                  (
-                    refl,
-                    (
-                      refl,
-                      (
-                        refl,
-                        (
-                          refl,
-                          (
-                            refl,
-                            (
-                              refl,
-                              (
-                                refl,
-                                (
-                                  refl,
-                                  (
-                                    refl,
-                                    (
-                                      refl,
-                                      (
-                                        refl,
-                                        (
-                                          refl,
-                                          (
-                                            refl,
-                                            (
-                                              refl,
-                                              (
-                                                p10-holds,
-                                                (
-                                                  refl,
-                                                  (
-                                                    refl,
-                                                    (
-                                                      refl,
-                                                      (
-                                                        refl,
-                                                        (
-                                                          refl,
-                                                          (
-                                                            refl,
-                                                            (
-                                                              refl,
-                                                              (
-                                                                refl,
-                                                                (
-                                                                  refl,
-                                                                  (
-                                                                    refl,
-                                                                    (
-                                                                      refl,
-                                                                      (
-                                                                        refl,
-                                                                        (
-                                                                          refl,
-                                                                          (
-                                                                            refl,
-                                                                            (
-                                                                              refl,
-                                                                              (
-                                                                                refl,
-                                                                                (
-                                                                                  refl,
-                                                                                  (
-                                                                                    refl,
-                                                                                    (
-                                                                                      refl,
-                                                                                      (
-                                                                                        refl,
-                                                                                        (
-                                                                                          refl,
-                                                                                          (
-                                                                                            refl,
-                                                                                            (
-                                                                                              refl,
-                                                                                              (
-                                                                                                refl,
-                                                                                                (
-                                                                                                  refl,
-                                                                                                  (
-                                                                                                    refl,
-                                                                                                    (
-                                                                                                      refl,
-                                                                                                      (
-                                                                                                        refl,
-                                                                                                        (
-                                                                                                          refl,
-                                                                                                          (
-                                                                                                            refl,
-                                                                                                            (
-                                                                                                              refl,
-                                                                                                              tt,
-                                                                                                            ),
-                                                                                                          ),
-                                                                                                        ),
-                                                                                                      ),
-                                                                                                    ),
-                                                                                                  ),
-                                                                                                ),
-                                                                                              ),
-                                                                                            ),
-                                                                                          ),
-                                                                                        ),
-                                                                                      ),
-                                                                                    ),
-                                                                                  ),
-                                                                                ),
-                                                                              ),
-                                                                            ),
-                                                                          ),
-                                                                        ),
-                                                                      ),
-                                                                    ),
-                                                                  ),
-                                                                ),
-                                                              ),
-                                                            ),
-                                                          ),
-                                                        ),
-                                                      ),
-                                                    ),
-                                                  ),
-                                                ),
-                                              ),
-                                            ),
-                                          ),
-                                        ),
-                                      ),
-                                    ),
-                                  ),
-                                ),
-                              ),
-                            ),
-                          ),
-                        ),
-                      ),
-                    ),
-                  ),
-                ),
-              ),
-            ),
-          ),
-        ),
-      ),
-    ),
-  ),
-)
+unfolding computing rows listed further Holds AllHold
+rows-hold = refl & refl & refl & refl & refl & refl & refl & refl & refl & refl & refl & refl & refl & refl & refl & refl & refl & refl & refl & refl & refl & refl & refl & p10-holds & refl & refl & refl & refl & refl & refl & refl & refl & refl & refl & refl & refl & refl & refl & refl & refl & refl & refl & refl & refl & refl & refl & refl & refl & refl & refl & refl & refl & refl & refl & refl & refl & refl & tt

@@ -14,7 +14,7 @@ pub struct Guarded<T> {
 }
 
 impl<T: Copy + PartialEq + Debug> Guarded<T> {
-    fn new(content: &[T], guard: T) -> Self {
+    pub fn new(content: &[T], guard: T) -> Self {
         let margin = [guard; MARGIN];
         let cells = [&margin[..], content, &margin[..]].concat();
         Guarded {

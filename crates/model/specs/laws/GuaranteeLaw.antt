@@ -10,7 +10,7 @@ use Rattle.sheet.specs.Lists.{maybe, All}
 use Rattle.sheet.specs.Sheet.{Sheet, ruleAt, after}
 use Rattle.sheet.specs.WellFormed.{TestIn, WellFormed}
 use Rattle.model.specs.Machine.{Move, Pair, outputsFrom, specifiedFrom, ConformingFrom}
-use Rattle.model.specs.Mutant.{rule, initial, outputs, specified, against, IsMutant, Conforming}
+use Rattle.model.specs.Mutant.{initial, outputs, specified, against, IsMutant, Conforming}
 use Rattle.model.specs.Suite.{Passes}
 use Rattle.model.specs.Implementation.{Event, reset, input, InputsBelow, ResetFirst, Proper, respondFrom, respond, moveFrom, outputOf, targetOf, requiredFrom, required, Gives, Implementation, BehavesAs, GivesAll, suiteEvents, PassesSuite, Guaranteed}
 use Rattle.model.specs.Verdict.{RightOn, Complete}

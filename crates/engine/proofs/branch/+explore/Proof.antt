@@ -21,8 +21,8 @@ use Rattle.partial.proofs.sets.has.Reads as has-reads
 use Rattle.partial.proofs.sets.join.Reads as join-reads
 use Rattle.partial.proofs.sets.without.Reads as without-reads
 use Rattle.engine.proofs.store.learn.Reads as learn-reads
-use Rattle.partial.proofs.tables.choices.Reads as choices-reads
-use Rattle.partial.proofs.tables.choose.Reads as choose-reads
+use Rattle.partial.proofs.block.choices.Reads as choices-reads
+use Rattle.partial.proofs.block.choose.Reads as choose-reads
 use Rattle.engine.proofs.branch.+explore.{statement}
 use Rattle.engine.proofs.branch.+explore.Tie.{close}
 
@@ -39,11 +39,11 @@ abbrev cs : ℕ → explore-lts.Claims
 cs t = (look-reads.Asked, look-reads.Learnt, choices-reads.Asked, choices-reads.Learnt, empty-reads.Asked, empty-reads.Learnt, kill-reads.Asked, kill-reads.Learnt, choose-reads.Asked, choose-reads.Learnt, explore-below t, explore.Post, has-reads.Asked, has-reads.Learnt, join-reads.Asked, join-reads.Learnt, without-reads.Asked, without-reads.Learnt, learn-reads.Asked, learn-reads.Learnt)
 
 abbrev explore-Inv-loop : explore-lts.InvT-loop
-explore-Inv-loop tables bytes sets₀ values₀ notes₀ p left wanted i k n all₀ c₀ sets values notes all c =
-    Trying tables bytes p i n all c × SplitOk tables p i k × (0 < left) × StoreOk tables bytes sets values × (length sets ≡ length sets₀) × (length values ≡ length values₀)
+explore-Inv-loop block bytes sets₀ values₀ notes₀ p left wanted i k n all₀ c₀ sets values notes all c =
+    Trying block bytes p i n all c × SplitOk block p i k × (0 < left) × StoreOk block bytes sets values × (length sets ≡ length sets₀) × (length values ≡ length values₀)
 
 abbrev explore-μ-loop : explore-lts.MeasureT-loop
-explore-μ-loop tables bytes sets₀ values₀ notes₀ p left wanted i k n all₀ c₀ sets values notes all c = n - c
+explore-μ-loop block bytes sets₀ values₀ notes₀ p left wanted i k n all₀ c₀ sets values notes all c = n - c
 
 explore-enum-known-dead : (t : ℕ) → explore-lts.Need-enum-known-dead (cs t) (explore-at t) explore.Post explore-Inv-loop explore-μ-loop
 explore-enum-known-dead t c = search needs

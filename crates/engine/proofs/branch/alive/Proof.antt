@@ -4,10 +4,10 @@ use Rattle.engine.proofs.branch.alive.Statement.{statement}
 use Rattle.engine.proofs.branch.alive.Tie as tie
 
 abbrev Inv-loop : tie.InvT-loop
-Inv-loop tables i want k count sum₀ c₀ sum c = c ≤ count
+Inv-loop block i want k count sum₀ c₀ sum c = c ≤ count
 
 abbrev μ-loop : tie.MeasureT-loop
-μ-loop tables i want k count sum₀ c₀ sum c = count - c
+μ-loop block i want k count sum₀ c₀ sum c = count - c
 
 returns : tie.Need-returns Inv-loop μ-loop
 returns c = search needs

@@ -4,10 +4,10 @@ use Rattle.engine.proofs.branch.fewest.Statement.{statement}
 use Rattle.engine.proofs.branch.fewest.Tie as tie
 
 abbrev Inv-loop : tie.InvT-loop
-Inv-loop tables wanted waits best₀ least₀ i₀ best least i = i ≤ 32
+Inv-loop block wanted waits best₀ least₀ i₀ best least i = i ≤ 32
 
 abbrev μ-loop : tie.MeasureT-loop
-μ-loop tables wanted waits best₀ least₀ i₀ best least i = 32 - i
+μ-loop block wanted waits best₀ least₀ i₀ best least i = 32 - i
 
 loop-holds : tie.Need-loop-holds Inv-loop μ-loop
 loop-holds c = search needs

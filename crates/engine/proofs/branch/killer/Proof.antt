@@ -1,7 +1,7 @@
 use borrow.Author.Needs.{needs}
 use Prim.Native.Nat.{_-_, _≤_}
 use native.Mathlib.Omega.{arith}
-use mathlib.Core.Logic.{_⊎_, ⊎-elim}
+use mathlib.Core.Logic.{⊎-elim}
 use Rattle.engine.specs.Refute.{KillerOk}
 use Rattle.engine.proofs.branch.killer.Statement.{statement}
 use Rattle.engine.proofs.branch.killer.Tie as tie

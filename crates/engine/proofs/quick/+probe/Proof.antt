@@ -20,8 +20,8 @@ use Rattle.partial.proofs.sets.empty.Reads as empty-reads
 use Rattle.partial.proofs.sets.has.Reads as has-reads
 use Rattle.partial.proofs.sets.join.Reads as join-reads
 use Rattle.partial.proofs.sets.without.Reads as without-reads
-use Rattle.partial.proofs.tables.choices.Reads as choices-reads
-use Rattle.partial.proofs.tables.wide.Reads as wide-reads
+use Rattle.partial.proofs.block.choices.Reads as choices-reads
+use Rattle.partial.proofs.block.wide.Reads as wide-reads
 use Rattle.engine.proofs.quick.+probe.{statement}
 use Rattle.engine.proofs.quick.+probe.Tie.{close}
 
@@ -38,10 +38,10 @@ abbrev cs : ℕ → probe-lts.Claims
 cs t = (spent-reads.Asked, spent-reads.Learnt, tick-reads.Asked, tick-reads.Learnt, glance-reads.Asked, glance-reads.Learnt, keep-reads.Asked, keep-reads.Learnt, wide-reads.Asked, wide-reads.Learnt, choices-reads.Asked, choices-reads.Learnt, empty-reads.Asked, empty-reads.Learnt, probe-below t, probe.Post, has-reads.Asked, has-reads.Learnt, join-reads.Asked, join-reads.Learnt, without-reads.Asked, without-reads.Learnt)
 
 abbrev probe-Inv-loop : probe-lts.InvT-loop
-probe-Inv-loop tables bytes notes₀ p left i here j n all₀ q₀ c₀ notes all q c = Trying tables bytes p i n all c × ((v : ℕ) → set q i v ≡ set p i v)
+probe-Inv-loop block bytes notes₀ p left i here j n all₀ q₀ c₀ notes all q c = Trying block bytes p i n all c × ((v : ℕ) → set q i v ≡ set p i v)
 
 abbrev probe-μ-loop : probe-lts.MeasureT-loop
-probe-μ-loop tables bytes notes₀ p left i here j n all₀ q₀ c₀ notes all q c = n - c
+probe-μ-loop block bytes notes₀ p left i here j n all₀ q₀ c₀ notes all q c = n - c
 
 probe-spent-requires : (t : ℕ) → probe-lts.Need-spent-requires (cs t) (probe-at t) probe.Post probe-Inv-loop probe-μ-loop
 probe-spent-requires t c κs = search needs

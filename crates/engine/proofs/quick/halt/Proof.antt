@@ -7,10 +7,10 @@ use Rattle.engine.proofs.quick.halt.Statement.{statement}
 use Rattle.engine.proofs.quick.halt.Tie as tie
 
 abbrev Inv-loop : tie.InvT-loop
-Inv-loop tables bytes p here₀ here = CursorOk tables bytes p here
+Inv-loop block bytes p here₀ here = CursorOk block bytes p here
 
 abbrev μ-loop : tie.MeasureT-loop
-μ-loop tables bytes p here₀ here = length bytes - here .at
+μ-loop block bytes p here₀ here = length bytes - here .at
 
 loop-holds : tie.Need-loop-holds Inv-loop μ-loop
 loop-holds c = c .before .pre .2

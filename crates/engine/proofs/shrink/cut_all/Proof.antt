@@ -5,10 +5,10 @@ use Rattle.engine.proofs.shrink.cut_all.Statement.{statement}
 use Rattle.engine.proofs.shrink.cut_all.Tie as tie
 
 abbrev Inv-loop : tie.InvT-loop
-Inv-loop tables base rest₀ j₀ rest j = (j ≤ 32) × KeptOk tables base (rest .p) (rest .used)
+Inv-loop block base rest₀ j₀ rest j = (j ≤ 32) × KeptOk block base (rest .p) (rest .used)
 
 abbrev μ-loop : tie.MeasureT-loop
-μ-loop tables base rest₀ j₀ rest j = 32 - j
+μ-loop block base rest₀ j₀ rest j = 32 - j
 
 loop-holds : tie.Need-loop-holds Inv-loop μ-loop
 loop-holds c = search needs

@@ -6,10 +6,10 @@ use Rattle.engine.proofs.shrink.shrink.Statement.{statement}
 use Rattle.engine.proofs.shrink.shrink.Tie as tie
 
 abbrev Inv-loop : tie.InvT-loop
-Inv-loop tables base notes left used kept₀ d₀ kept d = (d ≤ 32) × KeptOk tables base (kept .p) (kept .used)
+Inv-loop block base notes left used kept₀ d₀ kept d = (d ≤ 32) × KeptOk block base (kept .p) (kept .used)
 
 abbrev μ-loop : tie.MeasureT-loop
-μ-loop tables base notes left used kept₀ d₀ kept d = 32 - d
+μ-loop block base notes left used kept₀ d₀ kept d = 32 - d
 
 cut-all-requires : tie.Need-cut-all-requires Inv-loop μ-loop
 cut-all-requires c κs = kept-none (c .before .pre .1) (c .before .pre .2) (c .before .pre .3)

@@ -8,10 +8,10 @@ use Rattle.engine.proofs.store.hit.Statement.{statement}
 use Rattle.engine.proofs.store.hit.Tie as tie
 
 abbrev Inv-loop : tie.InvT-loop
-Inv-loop tables bytes sets values notes p settled n e₀ e = e ≤ length sets
+Inv-loop block bytes sets values notes p settled n e₀ e = e ≤ length sets
 
 abbrev μ-loop : tie.MeasureT-loop
-μ-loop tables bytes sets values notes p settled n e₀ e = length sets - e
+μ-loop block bytes sets values notes p settled n e₀ e = length sets - e
 
 settled-set-requires : tie.Need-settled-set-requires Inv-loop μ-loop
 settled-set-requires c κs = search needs

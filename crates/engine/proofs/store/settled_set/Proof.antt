@@ -1,5 +1,5 @@
 use borrow.Author.Needs.{needs}
-use Prim.Native.Nat.{_-_, _≤_}
+use Prim.Native.Nat.{_≤_}
 use Rattle.engine.proofs.store.settled_set.Statement.{statement}
 use Rattle.engine.proofs.store.settled_set.Tie as tie
 

@@ -1,14 +1,11 @@
 -- `follow`: what `Following` says holds at each turn.
 use Prim.Native.Nat.{ℕ, suc, _<_, _-_}
-use mathlib.Core.Path.{_≡_, sym, _∙_, ap}
+use mathlib.Core.Path.{_≡_, sym, _∙_, ap, subst}
 use native.Mathlib.Omega.{arith}
-use Rattle.machine.specs.Tables.{tables}
+use Rattle.machine.specs.Tables.{tables, moveIn}
 use Rattle.machine.proofs.FollowLaw.{Following, follow-start, follow-more, follow-end, Turn, turn}
 use Rattle.machine.proofs.TablesLaw.{rule-target, the-move}
-use mathlib.Core.Path.{subst}
 use Rattle.model.specs.Machine.{Move}
-use Rattle.model.specs.Compare.{target}
-use Rattle.machine.specs.Tables.{moveIn}
 use Rattle.machine.proofs.distance.follow.Statement.{statement}
 use Rattle.machine.proofs.distance.follow.Tie as tie
 

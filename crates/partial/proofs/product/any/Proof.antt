@@ -7,10 +7,10 @@ use Rattle.partial.proofs.product.any.Statement.{statement}
 use Rattle.partial.proofs.product.any.Tie as tie
 
 abbrev Inv-loop : tie.InvT-loop
-Inv-loop tables p list index n used s q x i k wants next at count c₀ c = AnyTo tables list n s q x i c
+Inv-loop block p list index n used s q x i k wants next at count c₀ c = AnyTo block list n s q x i c
 
 abbrev μ-loop : tie.MeasureT-loop
-μ-loop tables p list index n used s q x i k wants next at count c₀ c = count - c
+μ-loop block p list index n used s q x i k wants next at count c₀ c = count - c
 
 place-requires : tie.Need-place-requires Inv-loop μ-loop
 place-requires c κs = (c .pre .2, omega (arith, c .pre .4, c .pre .0 .few-inputs))

@@ -2,7 +2,7 @@ use borrow.Author.Needs.{needs}
 use native.Mathlib.Omega.{arith}
 use mathlib.Core.Path.{_≡_, sym, _∙_}
 use borrow.Author.Tests.{eqb-true}
-use Prim.Native.Nat.{ℕ, _-_}
+use Prim.Native.Nat.{ℕ}
 use Rattle.partial.proofs.Pairs.{listed-at}
 use Rattle.partial.proofs.product.listed.Statement.{statement}
 use Rattle.partial.proofs.product.listed.Tie as tie

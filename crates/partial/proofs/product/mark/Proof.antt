@@ -4,10 +4,10 @@ use Rattle.partial.proofs.product.mark.Statement.{statement}
 use Rattle.partial.proofs.product.mark.Tie as tie
 
 abbrev Inv-loop : tie.InvT-loop
-Inv-loop tables p list₀ index₀ all end₀ h₀ list index end h = h ≤ 256
+Inv-loop block p list₀ index₀ all end₀ h₀ list index end h = h ≤ 256
 
 abbrev μ-loop : tie.MeasureT-loop
-μ-loop tables p list₀ index₀ all end₀ h₀ list index end h = 256 - h
+μ-loop block p list₀ index₀ all end₀ h₀ list index end h = 256 - h
 
 element-write-list : tie.Need-element-write-list Inv-loop μ-loop
 element-write-list c = search needs

@@ -4,10 +4,10 @@ use Rattle.partial.proofs.product.mark_row.Statement.{statement}
 use Rattle.partial.proofs.product.mark_row.Tie as tie
 
 abbrev Inv-loop : tie.InvT-loop
-Inv-loop tables p list₀ index₀ all s q n last end₀ x₀ list index end x = x ≤ last
+Inv-loop block p list₀ index₀ all s q n last end₀ x₀ list index end x = x ≤ last
 
 abbrev μ-loop : tie.MeasureT-loop
-μ-loop tables p list₀ index₀ all s q n last end₀ x₀ list index end x = last - x
+μ-loop block p list₀ index₀ all s q n last end₀ x₀ list index end x = last - x
 
 inputs-requires : tie.Need-inputs-requires Inv-loop μ-loop
 inputs-requires c κs = search needs

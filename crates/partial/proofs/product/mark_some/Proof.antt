@@ -4,10 +4,10 @@ use Rattle.partial.proofs.product.mark_some.Statement.{statement}
 use Rattle.partial.proofs.product.mark_some.Tie as tie
 
 abbrev Inv-loop : tie.InvT-loop
-Inv-loop tables list₀ index₀ at low high wants next n end₀ c₀ list index end c = at < 256
+Inv-loop block list₀ index₀ at low high wants next n end₀ c₀ list index end c = at < 256
 
 abbrev μ-loop : tie.MeasureT-loop
-μ-loop tables list₀ index₀ at low high wants next n end₀ c₀ list index end c = high - c
+μ-loop block list₀ index₀ at low high wants next n end₀ c₀ list index end c = high - c
 
 loop-holds : tie.Need-loop-holds Inv-loop μ-loop
 loop-holds c = search needs

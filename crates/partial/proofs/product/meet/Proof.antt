@@ -4,10 +4,10 @@ use Rattle.partial.proofs.product.meet.Statement.{statement}
 use Rattle.partial.proofs.product.meet.Tie as tie
 
 abbrev Inv-loop : tie.InvT-loop
-Inv-loop tables p list end h₀ h = (h ≤ 256) × (end ≤ 256)
+Inv-loop block p list end h₀ h = (h ≤ 256) × (end ≤ 256)
 
 abbrev μ-loop : tie.MeasureT-loop
-μ-loop tables p list end h₀ h = 256 - h
+μ-loop block p list end h₀ h = 256 - h
 
 mark-requires : tie.Need-mark-requires Inv-loop μ-loop
 mark-requires c κs = search needs

@@ -4,10 +4,10 @@ use Rattle.partial.proofs.product.open_at.Statement.{statement}
 use Rattle.partial.proofs.product.open_at.Tie as tie
 
 abbrev Inv-loop : tie.InvT-loop
-Inv-loop tables p s q end x₀ x = x ≤ end
+Inv-loop block p s q end x₀ x = x ≤ end
 
 abbrev μ-loop : tie.MeasureT-loop
-μ-loop tables p s q end x₀ x = end - x
+μ-loop block p s q end x₀ x = end - x
 
 inputs-requires : tie.Need-inputs-requires Inv-loop μ-loop
 inputs-requires c κs = search needs

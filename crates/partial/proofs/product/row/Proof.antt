@@ -5,10 +5,10 @@ use Rattle.partial.proofs.product.row.Statement.{statement}
 use Rattle.partial.proofs.product.row.Tie as tie
 
 abbrev Inv-loop : tie.InvT-loop
-Inv-loop tables p list index n used s q end all₀ x₀ all x = RowTo tables p list n used all s q x
+Inv-loop block p list index n used s q end all₀ x₀ all x = RowTo block p list n used all s q x
 
 abbrev μ-loop : tie.MeasureT-loop
-μ-loop tables p list index n used s q end all₀ x₀ all x = end - x
+μ-loop block p list index n used s q end all₀ x₀ all x = end - x
 
 inputs-requires : tie.Need-inputs-requires Inv-loop μ-loop
 inputs-requires c κs = search needs

@@ -7,10 +7,10 @@ use Rattle.partial.proofs.product.scan.Statement.{statement}
 use Rattle.partial.proofs.product.scan.Tie as tie
 
 abbrev Inv-loop : tie.InvT-loop
-Inv-loop tables p list index n all₀ h₀ all h = ScanTo tables p list n all h
+Inv-loop block p list index n all₀ h₀ all h = ScanTo block p list n all h
 
 abbrev μ-loop : tie.MeasureT-loop
-μ-loop tables p list index n all₀ h₀ all h = n - h
+μ-loop block p list index n all₀ h₀ all h = n - h
 
 listed-requires : tie.Need-listed-requires Inv-loop μ-loop
 listed-requires c κs = search needs

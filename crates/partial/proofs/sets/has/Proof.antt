@@ -4,11 +4,9 @@ use Rattle.partial.specs.Sets.{Has}
 use Rattle.partial.proofs.sets.has.Statement.{statement}
 use Rattle.partial.proofs.sets.has.Tie as tie
 
--- src/sets.rt:18:6
 shr-result : tie.Need-shr-result
 shr-result c = search needs
 
--- src/sets.rt:14:1
 returns : tie.Need-returns
 unfolding Has
 returns c = (λ e. eqb-true _ _ e, λ e. eqb-false _ _ e)

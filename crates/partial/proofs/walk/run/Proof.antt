@@ -7,10 +7,10 @@ use Rattle.partial.proofs.walk.run.Statement.{statement}
 use Rattle.partial.proofs.walk.run.Tie as tie
 
 abbrev Inv-loop : tie.InvT-loop
-Inv-loop tables bytes p wanted₀ here₀ wanted here = CursorOk tables bytes p here × WantsOk tables bytes p wanted
+Inv-loop block bytes p wanted₀ here₀ wanted here = CursorOk block bytes p here × WantsOk block bytes p wanted
 
 abbrev μ-loop : tie.MeasureT-loop
-μ-loop tables bytes p wanted₀ here₀ wanted here = length bytes - here .at
+μ-loop block bytes p wanted₀ here₀ wanted here = length bytes - here .at
 
 start-requires : tie.Need-start-requires Inv-loop μ-loop
 start-requires c κs = search needs

@@ -8,10 +8,10 @@ use Rattle.partial.proofs.walk.skip.Statement.{statement}
 use Rattle.partial.proofs.walk.skip.Tie as tie
 
 abbrev Inv-loop : tie.InvT-loop
-Inv-loop tables bytes p from waits at₀ at = Behind tables bytes at × (from ≤ at)
+Inv-loop block bytes p from waits at₀ at = Behind block bytes at × (from ≤ at)
 
 abbrev μ-loop : tie.MeasureT-loop
-μ-loop tables bytes p from waits at₀ at = length bytes - at
+μ-loop block bytes p from waits at₀ at = length bytes - at
 
 loop-holds : tie.Need-loop-holds Inv-loop μ-loop
 loop-holds c = (c .before .pre .1, omega arith)

@@ -9,14 +9,13 @@ use borrow.Fn.Kinds.{In}
 use borrow.Fn.PlainCycle.{Measures, is, falls, and}
 use Rattle.sheet.specs.Sheet.{Sheet}
 use Rattle.engine.specs.Store.{StoreOk}
-use Rattle.survivor.specs.declared.survive.Searched.the-variants.{GaveUp}
 use Rattle.survivor.specs.Search.{Searching, Tried, Kept}
 use Rattle.survivor.proofs.SearchLaw.{nothing, first, asked, refuted, settled-prefix, next-low, searching-set, none-tried, one-tried, all-tried, one-found, kept, kept-more, kept-room}
 use Rattle.survivor.proofs.settle.search.Reads as search′
 use Rattle.survivor.proofs.settle.search.Kinds as search-kinds
 use Rattle.survivor.proofs.settle.+search.Lts-search as search-lts
 use Rattle.engine.proofs.no_survivor.Reads as no-survivor-reads
-use Rattle.partial.proofs.tables.choices.Reads as choices-reads
+use Rattle.partial.proofs.block.choices.Reads as choices-reads
 use Rattle.engine.proofs.spent.Reads as spent-reads
 use Rattle.survivor.proofs.survive.show.Reads as show-reads
 use Rattle.survivor.proofs.settle.+search.{statement}

@@ -1,7 +1,8 @@
 use borrow.Author.Needs.{needs}
-use mathlib.Core.Path.{_∙_}
+use mathlib.Core.Path.{sym, _∙_}
 use native.Mathlib.Omega.{arith}
-use Rattle.survivor.proofs.SurviveLaw.{chosen-none, chosen-at}
+use Rattle.partial.proofs.ChoiceLaws.{chosen-none}
+use Rattle.survivor.proofs.SurviveLaw.{chosen-at}
 use Rattle.survivor.proofs.survive.choice_at.Statement.{statement}
 use Rattle.survivor.proofs.survive.choice_at.Tie as tie
 
@@ -9,7 +10,7 @@ site-requires : tie.Need-site-requires
 site-requires c κs = search needs
 
 returns : tie.Need-returns
-returns c = chosen-none _ _ _ (rw (c .before .site .ensures) at (c .if1 .taken))
+returns c = sym (chosen-none _ _ _ (rw (c .before .site .ensures) at (c .if1 .taken)))
 
 wide-requires : tie.Need-wide-requires
 wide-requires c κs = search needs

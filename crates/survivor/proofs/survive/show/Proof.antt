@@ -3,7 +3,7 @@ use borrow.Author.Needs.{needs}
 use Prim.Native.Nat.{ℕ}
 use mathlib.Core.Path.{_∙_}
 use borrow.Author.Tests.{not-true, not-false}
-use lib.ListN.{length, length-replicate}
+use lib.ListN.{length-replicate}
 use Rattle.survivor.proofs.SearchLaw.{nothing, first}
 use Rattle.survivor.proofs.SurviveLaw.{formed-tables, chosen-ok, choice-bytes, fails-shown, valid, start-in, differs, conforms}
 use Rattle.survivor.proofs.survive.show.Statement.{statement}

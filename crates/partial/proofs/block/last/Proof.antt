@@ -1,7 +1,7 @@
 use borrow.Author.Needs.{needs}
 use native.Mathlib.Omega.{arith}
-use Rattle.partial.proofs.tables.last.Statement.{statement}
-use Rattle.partial.proofs.tables.last.Tie as tie
+use Rattle.partial.proofs.block.last.Statement.{statement}
+use Rattle.partial.proofs.block.last.Tie as tie
 
 returns : tie.Need-returns
 returns c = search needs

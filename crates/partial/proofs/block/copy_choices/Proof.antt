@@ -3,14 +3,14 @@ use Prim.Native.Nat.{_-_}
 use native.Mathlib.Omega.{arith}
 use Rattle.partial.proofs.Packs.{fill-none, fill-more, fill-all}
 use Rattle.partial.specs.Packing.{ChoicesCopied}
-use Rattle.partial.proofs.tables.copy_choices.Statement.{statement}
-use Rattle.partial.proofs.tables.copy_choices.Tie as tie
+use Rattle.partial.proofs.block.copy_choices.Statement.{statement}
+use Rattle.partial.proofs.block.copy_choices.Tie as tie
 
 abbrev Inv-loop : tie.InvT-loop
-Inv-loop tables₀ choices i₀ tables i = ChoicesCopied tables₀ tables choices i
+Inv-loop tables₀ choices i₀ block i = ChoicesCopied tables₀ block choices i
 
 abbrev μ-loop : tie.MeasureT-loop
-μ-loop tables₀ choices i₀ tables i = 32 - i
+μ-loop tables₀ choices i₀ block i = 32 - i
 
 loop-holds : tie.Need-loop-holds Inv-loop μ-loop
 loop-holds c = fill-none 1536 32 _ (c .pre)
@@ -24,11 +24,11 @@ element-copy-out-last c = search needs
 last-requires : tie.Need-last-requires Inv-loop μ-loop
 last-requires c κs = search needs
 
-add-tables : tie.Need-add-tables Inv-loop μ-loop
-add-tables c = search needs
+add-block : tie.Need-add-block Inv-loop μ-loop
+add-block c = search needs
 
-element-write-tables : tie.Need-element-write-tables Inv-loop μ-loop
-element-write-tables c = search needs
+element-write-block : tie.Need-element-write-block Inv-loop μ-loop
+element-write-block c = search needs
 
 add-i : tie.Need-add-i Inv-loop μ-loop
 add-i c = search needs
@@ -52,8 +52,8 @@ copy-choices-spec =
     mul-last
     element-copy-out-last
     last-requires
-    add-tables
-    element-write-tables
+    add-block
+    element-write-block
     add-i
     loop-less
     loop-again

@@ -1,9 +1,8 @@
 use borrow.Author.Needs.{needs}
-use native.Mathlib.Nat.{div-le-self}
-use native.Mathlib.Omega.{arith}
 use native.Mathlib.Nat.{div-le-self, mod-le}
-use Rattle.partial.proofs.tables.unruled.Statement.{statement}
-use Rattle.partial.proofs.tables.unruled.Tie as tie
+use native.Mathlib.Omega.{arith}
+use Rattle.partial.proofs.block.unruled.Statement.{statement}
+use Rattle.partial.proofs.block.unruled.Tie as tie
 
 returns : tie.Need-returns
 returns c = search needs

@@ -1,6 +1,6 @@
 use borrow.Author.Needs.{needs}
-use Rattle.partial.proofs.tables.choose.Statement.{statement}
-use Rattle.partial.proofs.tables.choose.Tie as tie
+use Rattle.partial.proofs.block.choose.Statement.{statement}
+use Rattle.partial.proofs.block.choose.Tie as tie
 
 wide-requires : tie.Need-wide-requires
 wide-requires c κs = search needs

@@ -1,6 +1,6 @@
 use borrow.Author.Needs.{needs}
-use Rattle.partial.proofs.tables.choices.Statement.{statement}
-use Rattle.partial.proofs.tables.choices.Tie as tie
+use Rattle.partial.proofs.block.choices.Statement.{statement}
+use Rattle.partial.proofs.block.choices.Tie as tie
 
 wide-requires : tie.Need-wide-requires
 wide-requires c κs = search needs

@@ -3,14 +3,14 @@ use Prim.Native.Nat.{_-_, _≤_}
 use native.Mathlib.Omega.{arith}
 use Rattle.partial.proofs.Packs.{located-none, located-more}
 use Rattle.partial.specs.Packing.{Located}
-use Rattle.partial.proofs.tables.locate.Statement.{statement}
-use Rattle.partial.proofs.tables.locate.Tie as tie
+use Rattle.partial.proofs.block.locate.Statement.{statement}
+use Rattle.partial.proofs.block.locate.Tie as tie
 
 abbrev Inv-loop : tie.InvT-loop
-Inv-loop tables₀ site k₀ tables k = Located tables₀ tables × (k ≤ 256)
+Inv-loop tables₀ site k₀ block k = Located tables₀ block × (k ≤ 256)
 
 abbrev μ-loop : tie.MeasureT-loop
-μ-loop tables₀ site k₀ tables k = 256 - k
+μ-loop tables₀ site k₀ block k = 256 - k
 
 loop-holds : tie.Need-loop-holds Inv-loop μ-loop
 loop-holds c = (located-none (c .pre), omega arith)
@@ -24,11 +24,11 @@ wide-requires c κs = search needs
 pair-at-requires : tie.Need-pair-at-requires Inv-loop μ-loop
 pair-at-requires c κs = search needs
 
-cast-tables : tie.Need-cast-tables Inv-loop μ-loop
-cast-tables c = search needs
+cast-block : tie.Need-cast-block Inv-loop μ-loop
+cast-block c = search needs
 
-element-write-tables : tie.Need-element-write-tables Inv-loop μ-loop
-element-write-tables c = search needs
+element-write-block : tie.Need-element-write-block Inv-loop μ-loop
+element-write-block c = search needs
 
 add-k : tie.Need-add-k Inv-loop μ-loop
 add-k c = search needs
@@ -52,8 +52,8 @@ locate-spec =
     element-copy-out-wide
     wide-requires
     pair-at-requires
-    cast-tables
-    element-write-tables
+    cast-block
+    element-write-block
     add-k
     loop-less
     loop-again

@@ -1,6 +1,6 @@
 // The tables of a machine and its mutants, in one block of bytes (their places: specs/Machine.antt), and what is read from it.
 ghost use mathlib.Core.Path.{_≡_};
-ghost use Prim.Native.Nat.{_+_, _*_, _/_, _%_, _<_, _≤_};
+ghost use Prim.Native.Nat.{_+_, _/_, _%_, _<_, _≤_};
 ghost use lib.ListN.{length, set};
 ghost use Rattle.partial.specs.Machine.{pair, ruleOutput, ruleTarget, siteAt, choicesOf, statesOf, inputsOf};
 ghost use Rattle.partial.specs.Answers.{StepIs};
@@ -12,7 +12,7 @@ pub fn wide(x: u8) -> usize
     x as usize
 }
 
-pub fn wide16(x: u16) -> usize
+fn wide16(x: u16) -> usize
     ensures { λ r. ⌜ (r ≡ x) × (r < 65536) ⌝ }
 {
     x as usize
@@ -25,7 +25,7 @@ pub fn wide32(x: u32) -> usize
 }
 
 // The place of a state and an input, or of two states.
-pub fn place(s: u8, x: u8) -> usize
+pub(crate) fn place(s: u8, x: u8) -> usize
     requires { ⌜ (s < 16) × (x < 16) ⌝ }
     ensures { λ r. ⌜ (r ≡ pair s x) × (r < 256) ⌝ }
 {
@@ -33,47 +33,47 @@ pub fn place(s: u8, x: u8) -> usize
 }
 
 // The same, whatever the numbers are.
-pub fn some_place(s: u8, x: u8) -> usize
+pub(crate) fn some_place(s: u8, x: u8) -> usize
     ensures { λ r. ⌜ r < 256 ⌝ }
 {
     ((s % 16) as usize) * 16 + ((x % 16) as usize)
 }
 
-pub fn rule_output(tables: &[u8; 1603], k: usize) -> u8
+pub fn rule_output(block: &[u8; 1603], k: usize) -> u8
     requires { ⌜ k < 256 ⌝ }
-    ensures { λ r. ⌜ r ≡ ruleOutput (now (tables .entry)) k ⌝ }
+    ensures { λ r. ⌜ r ≡ ruleOutput (now (block .entry)) k ⌝ }
 {
-    tables[k]
+    block[k]
 }
 
 // The rule's next state, 255 where there is no rule.
-pub fn rule_target(tables: &[u8; 1603], k: usize) -> u8
+pub fn rule_target(block: &[u8; 1603], k: usize) -> u8
     requires { ⌜ k < 256 ⌝ }
-    ensures { λ r. ⌜ r ≡ ruleTarget (now (tables .entry)) k ⌝ }
+    ensures { λ r. ⌜ r ≡ ruleTarget (now (block .entry)) k ⌝ }
 {
-    tables[256 + k]
+    block[256 + k]
 }
 
 // Which suspect a pair is, 255 for none.
-pub fn site(tables: &[u8; 1603], k: usize) -> u8
+pub fn site(block: &[u8; 1603], k: usize) -> u8
     requires { ⌜ k < 256 ⌝ }
-    ensures { λ r. ⌜ r ≡ siteAt (now (tables .entry)) k ⌝ }
+    ensures { λ r. ⌜ r ≡ siteAt (now (block .entry)) k ⌝ }
 {
-    tables[512 + k]
+    block[512 + k]
 }
 
-pub fn more(x: u8) -> u16
+fn more(x: u8) -> u16
     ensures { λ r. ⌜ r ≡ x + 1 ⌝ }
 {
     (x as u16) + 1
 }
 
 // How many choices a suspect has.
-pub fn choices(tables: &[u8; 1603], i: u8) -> u16
+pub fn choices(block: &[u8; 1603], i: u8) -> u16
     requires { ⌜ i < 32 ⌝ }
-    ensures { λ r. ⌜ r ≡ choicesOf (now (tables .entry)) i ⌝ }
+    ensures { λ r. ⌜ r ≡ choicesOf (now (block .entry)) i ⌝ }
 {
-    more(tables[1536 + wide(i)])
+    more(block[1536 + wide(i)])
 }
 
 // The choices with one more settled.
@@ -86,24 +86,24 @@ pub fn choose(p: &[u16; 32], i: u8, c: u16) -> [u16; 32]
     q
 }
 
-pub fn states(tables: &[u8; 1603]) -> u8
-    ensures { λ r. ⌜ r ≡ statesOf (now (tables .entry)) ⌝ }
+pub fn states(block: &[u8; 1603]) -> u8
+    ensures { λ r. ⌜ r ≡ statesOf (now (block .entry)) ⌝ }
 {
-    tables[1568]
+    block[1568]
 }
 
-pub fn inputs(tables: &[u8; 1603]) -> u8
-    ensures { λ r. ⌜ r ≡ inputsOf (now (tables .entry)) ⌝ }
+pub fn inputs(block: &[u8; 1603]) -> u8
+    ensures { λ r. ⌜ r ≡ inputsOf (now (block .entry)) ⌝ }
 {
-    tables[1569]
+    block[1569]
 }
 
-// The pair of a suspect. It promises nothing: who relies on it asks `site`.
-pub fn pair_of(tables: &[u8; 1603], i: u8) -> usize
+// The pair of a suspect. That it is the right one is not promised: who relies on it asks `site`.
+pub fn pair_of(block: &[u8; 1603], i: u8) -> usize
     requires { ⌜ i < 32 ⌝ }
     ensures { λ r. ⌜ r < 256 ⌝ }
 {
-    wide(tables[1570 + wide(i)])
+    wide(block[1570 + wide(i)])
 }
 
 pub struct Step {
@@ -112,7 +112,7 @@ pub struct Step {
 }
 
 // Choice c of a pair without a rule.
-pub fn unruled(states: u8, c: u16) -> Step
+fn unruled(states: u8, c: u16) -> Step
     ensures { λ r. ⌜ (1 ≤ states → c < 256 → (r .output ≡ c / states) × (r .target ≡ c % states)) ⌝ }
 {
     if states == 0 {
@@ -135,21 +135,21 @@ pub fn unruled(states: u8, c: u16) -> Step
 }
 
 // The transition of choice c at the pair k. Any number c is taken, as guesses may name one that there is not.
-pub fn transition(tables: &[u8; 1603], k: usize, c: u16) -> Step
+pub fn transition(block: &[u8; 1603], k: usize, c: u16) -> Step
     requires { ⌜ k < 256 ⌝ }
-    ensures { λ r. ⌜ StepIs (now (tables .entry)) k c r ⌝ }
+    ensures { λ r. ⌜ StepIs (now (block .entry)) k c r ⌝ }
 {
-    let target = rule_target(tables, k);
+    let target = rule_target(block, k);
     if target == 255 {
-        return unruled(states(tables), c);
+        return unruled(states(block), c);
     }
     if c == 0 {
         return Step {
-            output: rule_output(tables, k),
+            output: rule_output(block, k),
             target,
         };
     }
-    let f = wide(tables[768 + k]) + wide16(c) - 1;
+    let f = wide(block[768 + k]) + wide16(c) - 1;
     if f >= 256 {
         return Step {
             output: 0,
@@ -157,13 +157,13 @@ pub fn transition(tables: &[u8; 1603], k: usize, c: u16) -> Step
         };
     }
     Step {
-        output: tables[1024 + f],
-        target: tables[1280 + f],
+        output: block[1024 + f],
+        target: block[1280 + f],
     }
 }
 
 // The low byte, where the number is one.
-pub fn narrow(x: u16) -> u8
+fn narrow(x: u16) -> u8
     ensures { λ r. ⌜ (x < 256 → r ≡ x) ⌝ }
 {
     if x < 256 {
@@ -173,7 +173,7 @@ pub fn narrow(x: u16) -> u8
 }
 
 // The last of a number of choices.
-pub fn last(x: u16) -> u8
+fn last(x: u16) -> u8
     ensures { λ r. ⌜ (1 ≤ x → x ≤ 256 → r + 1 ≡ x) ⌝ }
 {
     if x == 0 {
@@ -182,44 +182,44 @@ pub fn last(x: u16) -> u8
     narrow(x - 1)
 }
 
-pub fn copy(tables: &mut [u8; 1603], base: usize, from: &[u8; 256])
-    requires { ⌜ (length (now tables) ≡ 1603) × (base ≤ 1280) ⌝ }
-    ensures { λ r. ⌜ Copied (now (tables .entry)) (now (tables .exit)) base (now (from .entry)) 256 ⌝ }
+fn copy(block: &mut [u8; 1603], base: usize, from: &[u8; 256])
+    requires { ⌜ (length (now block) ≡ 1603) × (base ≤ 1280) ⌝ }
+    ensures { λ r. ⌜ Copied (now (block .entry)) (now (block .exit)) base (now (from .entry)) 256 ⌝ }
 {
     let mut k: usize = 0;
     while k < 256 {
         let x = from[k];
-        tables[base + k] = x;
+        block[base + k] = x;
         k += 1;
     }
 }
 
-pub fn copy_first(tables: &mut [u8; 1603], first: &[u16; 256])
-    requires { ⌜ length (now tables) ≡ 1603 ⌝ }
-    ensures { λ r. ⌜ FirstCopied (now (tables .entry)) (now (tables .exit)) (now (first .entry)) 256 ⌝ }
+fn copy_first(block: &mut [u8; 1603], first: &[u16; 256])
+    requires { ⌜ length (now block) ≡ 1603 ⌝ }
+    ensures { λ r. ⌜ FirstCopied (now (block .entry)) (now (block .exit)) (now (first .entry)) 256 ⌝ }
 {
     let mut k: usize = 0;
     while k < 256 {
         let x = narrow(first[k]);
-        tables[768 + k] = x;
+        block[768 + k] = x;
         k += 1;
     }
 }
 
-pub fn copy_choices(tables: &mut [u8; 1603], choices: &[u16; 32])
-    requires { ⌜ length (now tables) ≡ 1603 ⌝ }
-    ensures { λ r. ⌜ ChoicesCopied (now (tables .entry)) (now (tables .exit)) (now (choices .entry)) 32 ⌝ }
+fn copy_choices(block: &mut [u8; 1603], choices: &[u16; 32])
+    requires { ⌜ length (now block) ≡ 1603 ⌝ }
+    ensures { λ r. ⌜ ChoicesCopied (now (block .entry)) (now (block .exit)) (now (choices .entry)) 32 ⌝ }
 {
     let mut i: usize = 0;
     while i < 32 {
         let x = last(choices[i]);
-        tables[1536 + i] = x;
+        block[1536 + i] = x;
         i += 1;
     }
 }
 
 // Where the pair of a suspect is kept; any other number has one place past them.
-pub fn pair_at(i: usize) -> usize
+fn pair_at(i: usize) -> usize
     ensures { λ r. ⌜ (1570 ≤ r) × (r < 1603) ⌝ }
 {
     if i < 32 {
@@ -229,14 +229,14 @@ pub fn pair_at(i: usize) -> usize
 }
 
 // The pair of each suspect.
-pub fn locate(tables: &mut [u8; 1603], site: &[u8; 256])
-    requires { ⌜ length (now tables) ≡ 1603 ⌝ }
-    ensures { λ r. ⌜ Located (now (tables .entry)) (now (tables .exit)) ⌝ }
+fn locate(block: &mut [u8; 1603], site: &[u8; 256])
+    requires { ⌜ length (now block) ≡ 1603 ⌝ }
+    ensures { λ r. ⌜ Located (now (block .entry)) (now (block .exit)) ⌝ }
 {
     let mut k: usize = 0;
     while k < 256 {
         let at = pair_at(wide(site[k]));
-        tables[at] = k as u8;
+        block[at] = k as u8;
         k += 1;
     }
 }
@@ -253,19 +253,19 @@ pub fn pack<'a, 'b>(
     choices: &'b [u16; 32],
     states: u8,
     inputs: u8,
-    tables: &mut [u8; 1603],
+    block: &mut [u8; 1603],
 )
-    requires { ⌜ length (now tables) ≡ 1603 ⌝ }
-    ensures { λ r. ⌜ Packed (now (tables .exit)) (now (output .entry)) (now (target .entry)) (now (site .entry)) (now (first .entry)) (now (mutated .entry)) (now (diverted .entry)) (now (choices .entry)) states inputs ⌝ }
+    requires { ⌜ length (now block) ≡ 1603 ⌝ }
+    ensures { λ r. ⌜ Packed (now (block .exit)) (now (output .entry)) (now (target .entry)) (now (site .entry)) (now (first .entry)) (now (mutated .entry)) (now (diverted .entry)) (now (choices .entry)) states inputs ⌝ }
 {
-    copy(tables, 0, output);
-    copy(tables, 256, target);
-    copy(tables, 512, site);
-    copy_first(tables, first);
-    copy(tables, 1024, mutated);
-    copy(tables, 1280, diverted);
-    copy_choices(tables, choices);
-    locate(tables, site);
-    tables[1568] = states;
-    tables[1569] = inputs;
+    copy(block, 0, output);
+    copy(block, 256, target);
+    copy(block, 512, site);
+    copy_first(block, first);
+    copy(block, 1024, mutated);
+    copy(block, 1280, diverted);
+    copy_choices(block, choices);
+    locate(block, site);
+    block[1568] = states;
+    block[1569] = inputs;
 }

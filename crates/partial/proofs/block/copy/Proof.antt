@@ -4,14 +4,14 @@ use native.Mathlib.Omega.{arith}
 use mathlib.Core.Path.{refl}
 use Rattle.partial.proofs.Packs.{fill-none, fill-more, fill-all}
 use Rattle.partial.specs.Packing.{Copied}
-use Rattle.partial.proofs.tables.copy.Statement.{statement}
-use Rattle.partial.proofs.tables.copy.Tie as tie
+use Rattle.partial.proofs.block.copy.Statement.{statement}
+use Rattle.partial.proofs.block.copy.Tie as tie
 
 abbrev Inv-loop : tie.InvT-loop
-Inv-loop tables₀ base from k₀ tables k = Copied tables₀ tables base from k × (base ≤ 1280)
+Inv-loop tables₀ base from k₀ block k = Copied tables₀ block base from k × (base ≤ 1280)
 
 abbrev μ-loop : tie.MeasureT-loop
-μ-loop tables₀ base from k₀ tables k = 256 - k
+μ-loop tables₀ base from k₀ block k = 256 - k
 
 loop-holds : tie.Need-loop-holds Inv-loop μ-loop
 loop-holds c = (fill-none (c .args .base) 256 _ (c .pre .0), c .pre .1)
@@ -19,11 +19,11 @@ loop-holds c = (fill-none (c .args .base) 256 _ (c .pre .0), c .pre .1)
 element-copy-out-x : tie.Need-element-copy-out-x Inv-loop μ-loop
 element-copy-out-x c = search needs
 
-add-tables : tie.Need-add-tables Inv-loop μ-loop
-add-tables c = search needs
+add-block : tie.Need-add-block Inv-loop μ-loop
+add-block c = search needs
 
-element-write-tables : tie.Need-element-write-tables Inv-loop μ-loop
-element-write-tables c = search needs
+element-write-block : tie.Need-element-write-block Inv-loop μ-loop
+element-write-block c = search needs
 
 add-k : tie.Need-add-k Inv-loop μ-loop
 add-k c = search needs
@@ -45,8 +45,8 @@ copy-spec =
     μ-loop
     loop-holds
     element-copy-out-x
-    add-tables
-    element-write-tables
+    add-block
+    element-write-block
     add-k
     loop-less
     loop-again

@@ -1,8 +1,8 @@
 use borrow.Author.Needs.{needs}
 use native.Mathlib.Omega.{arith}
 use Rattle.partial.proofs.Packs.{packed}
-use Rattle.partial.proofs.tables.pack.Statement.{statement}
-use Rattle.partial.proofs.tables.pack.Tie as tie
+use Rattle.partial.proofs.block.pack.Statement.{statement}
+use Rattle.partial.proofs.block.pack.Tie as tie
 
 copy-requires : tie.Need-copy-requires
 copy-requires c κs = (c .before .pre, omega arith)
@@ -28,11 +28,11 @@ copy-choices-requires c κs = c .before .copy5 .ensures .long
 locate-requires : tie.Need-locate-requires
 locate-requires c κs = c .before .copy-choices .ensures .long
 
-element-write-tables : tie.Need-element-write-tables
-element-write-tables c = search needs
+element-write-block : tie.Need-element-write-block
+element-write-block c = search needs
 
-element-write-tables-2 : tie.Need-element-write-tables-2
-element-write-tables-2 c = search needs
+element-write-block-2 : tie.Need-element-write-block-2
+element-write-block-2 c = search needs
 
 returns : tie.Need-returns
 returns c =
@@ -56,6 +56,6 @@ pack-spec =
     copy-requires-5
     copy-choices-requires
     locate-requires
-    element-write-tables
-    element-write-tables-2
+    element-write-block
+    element-write-block-2
     returns)

@@ -1,8 +1,8 @@
 use borrow.Author.Needs.{needs}
 use mathlib.Core.Path.{refl}
 use Rattle.partial.proofs.ChoiceLaws.{is-unruled, is-rule, is-fault, is-none}
-use Rattle.partial.proofs.tables.transition.Statement.{statement}
-use Rattle.partial.proofs.tables.transition.Tie as tie
+use Rattle.partial.proofs.block.transition.Statement.{statement}
+use Rattle.partial.proofs.block.transition.Tie as tie
 
 rule-target-requires : tie.Need-rule-target-requires
 rule-target-requires c κs = search needs

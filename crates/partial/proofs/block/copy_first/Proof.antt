@@ -3,14 +3,14 @@ use Prim.Native.Nat.{_-_}
 use native.Mathlib.Omega.{arith}
 use Rattle.partial.proofs.Packs.{fill-none, fill-more, fill-all}
 use Rattle.partial.specs.Packing.{FirstCopied}
-use Rattle.partial.proofs.tables.copy_first.Statement.{statement}
-use Rattle.partial.proofs.tables.copy_first.Tie as tie
+use Rattle.partial.proofs.block.copy_first.Statement.{statement}
+use Rattle.partial.proofs.block.copy_first.Tie as tie
 
 abbrev Inv-loop : tie.InvT-loop
-Inv-loop tables₀ first k₀ tables k = FirstCopied tables₀ tables first k
+Inv-loop tables₀ first k₀ block k = FirstCopied tables₀ block first k
 
 abbrev μ-loop : tie.MeasureT-loop
-μ-loop tables₀ first k₀ tables k = 256 - k
+μ-loop tables₀ first k₀ block k = 256 - k
 
 loop-holds : tie.Need-loop-holds Inv-loop μ-loop
 loop-holds c = fill-none 768 256 _ (c .pre)
@@ -24,11 +24,11 @@ element-copy-out-narrow c = search needs
 narrow-requires : tie.Need-narrow-requires Inv-loop μ-loop
 narrow-requires c κs = search needs
 
-add-tables : tie.Need-add-tables Inv-loop μ-loop
-add-tables c = search needs
+add-block : tie.Need-add-block Inv-loop μ-loop
+add-block c = search needs
 
-element-write-tables : tie.Need-element-write-tables Inv-loop μ-loop
-element-write-tables c = search needs
+element-write-block : tie.Need-element-write-block Inv-loop μ-loop
+element-write-block c = search needs
 
 add-k : tie.Need-add-k Inv-loop μ-loop
 add-k c = search needs
@@ -52,8 +52,8 @@ copy-first-spec =
     mul-narrow
     element-copy-out-narrow
     narrow-requires
-    add-tables
-    element-write-tables
+    add-block
+    element-write-block
     add-k
     loop-less
     loop-again
