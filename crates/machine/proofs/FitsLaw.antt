@@ -23,6 +23,7 @@ use Rattle.machine.specs.declared.sites.Fit.the-variants as fit
 use Rattle.machine.specs.declared.sites.Sites.{Sites}
 use Rattle.machine.specs.declared.moves.Machine.{Machine}
 use Rattle.sheet.specs.Lists.{indexOr}
+use Rattle.sheet.specs.laws.Basics.{never}
 use Rattle.machine.specs.Sites.{openChoices, Numbered}
 use Rattle.machine.specs.Mutants.{Sited, Ruled, Ready, Moves}
 use Rattle.machine.specs.Fits.{Read, fitAt, fitIn, fitAnswer, fitOf, Machined}
@@ -69,7 +70,7 @@ module _ (sh : Sheet) (b : List ℕ) where
     where
       go : (t : Bool) (o : Option ℕ) → fitAnswer (refuseIf (not t) 13 0 (refuseAt o 14 (accepted tt))) ≡ fit.Refused number place →
           refuseIf {A = A} (not t) 13 0 (refuseAt o 14 r) ≡ refused number place
-      go true none h = let z : _≡_ {A = ℕ} 0 1 = cc in absurd (omega arith)
+      go true none h = never (cc)
       go true (some i) h =
           let en : 14 ≡ number = cc in
           let ep : i ≡ place = cc in
@@ -86,15 +87,15 @@ module _ (sh : Sheet) (b : List ℕ) where
       go : (t : Bool) → eqb (length b) (length (slots sh)) ≡ t → (o : Option ℕ) → firstHigh (slots sh) b ≡ o →
           fitAnswer (refuseIf (not t) 13 0 (refuseAt o 14 (accepted tt))) ≡ fit.Mutant → IsMutant sh b
       go true et none eo h = is-mutant sh b (eqb-true (length b) (length (slots sh)) et) eo
-      go true et (some i) eo h = let z : _≡_ {A = ℕ} 0 1 = cc in absurd (omega arith)
-      go false et o eo h = let z : _≡_ {A = ℕ} 0 1 = cc in absurd (omega arith)
+      go true et (some i) eo h = never (cc)
+      go false et o eo h = never (cc)
 
   mutant-fits : IsMutant sh b → fitOf sh b ≡ fit.Mutant
   unfolding fitOf
   mutant-fits m = ap fitAnswer (mutant-goes-on sh b (accepted tt) m)
 
   not-mutant : (number place : ℕ) → fitOf sh b ≡ fit.Refused number place → IsMutant sh b → ⊥
-  not-mutant number place e m = let e′ = mutant-fits m in let z : _≡_ {A = ℕ} 0 1 = cc in omega arith
+  not-mutant number place e m = let e′ = mutant-fits m in never (cc)
 
   pub machined-refused : (r : Machine) (number place : ℕ) → r .fit ≡ fitOf sh b → r .fit ≡ fit.Refused number place → Machined sh b r
   machined-refused r number place e f = record { fits = e; moves = λ m. absurd (not-mutant number place (sym e ∙ f) m) }

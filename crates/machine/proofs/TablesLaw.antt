@@ -1,6 +1,5 @@
 -- `shows` on tables, as the code computes it.
 use Prim.Native.Nat.{ℕ, _+_, _*_, _<_}
-use native.Mathlib.Omega.{arith}
 use mathlib.Core.Path.{_≡_, refl}
 use mathlib.Core.Bool.{Bool, true, false, cond, _&&_}
 use mathlib.Core.Option.{none, some}
@@ -10,6 +9,7 @@ use lib.Dec.{eqb, ltb}
 use lib.ListN.{getD}
 use Rattle.model.specs.Machine.{Move}
 use Rattle.model.specs.Compare.{target, shows}
+use Rattle.sheet.specs.laws.Basics.{never}
 use Rattle.machine.specs.Tables.{ruleIn, moveIn, movesIn, tables, Valid}
 
 -- the machine at a state and an input in range
@@ -64,6 +64,6 @@ rule-target n k start so sn mo mn p x r e = go (ltb p n && ltb x k) (eqb (getD s
   where
     go : (a b : Bool) → cond a (cond b none (some (record { output = getD so (p * 16 + x) 0; target = getD sn (p * 16 + x) 0 }))) none ≡ some r →
         getD sn (p * 16 + x) 0 ≡ target (cond a (cond b none (some (record { output = getD so (p * 16 + x) 0; target = getD sn (p * 16 + x) 0 }))) none)
-    go true true h = let z : _≡_ {A = ℕ} 0 1 = cc in absurd (omega arith)
+    go true true h = never (cc)
     go true false h = refl
-    go false b h = let z : _≡_ {A = ℕ} 0 1 = cc in absurd (omega arith)
+    go false b h = never (cc)

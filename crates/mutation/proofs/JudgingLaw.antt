@@ -37,6 +37,7 @@ use Rattle.machine.proofs.FitsLaw.{read-states, read-inputs, read-few, read-sit
 use Rattle.mutation.proofs.Opened.{closed-by}
 use Rattle.mutation.proofs.PackedLaw.{block-for}
 use Rattle.survivor.proofs.SearchLaw.{prefix-start, none-judged, first-judged}
+use Rattle.sheet.specs.laws.Basics.{never}
 
 -- ---- where the tests start
 
@@ -148,7 +149,7 @@ module _ (s board sequence : List ℕ) where
   judge-refused l number place r e er ea =
       let h = closed-by s l number place e er in (
         record { answer = rw h ea; board = rw h refl; sequence = rw h refl },
-        λ sh es. let same : _≡_ {A = Reading} (accepted sh) (refused number place) = sym es ∙ h in absurd (let z : _≡_ {A = ℕ} 0 1 = cc in omega arith),
+        λ sh es. let same : _≡_ {A = Reading} (accepted sh) (refused number place) = sym es ∙ h in never (cc),
       )
 
   judging-is : (sh : Sheet) → reading s ≡ accepted sh → (rb rs : ℕ) → judging s rb rs ≡ judgeOn sh rb rs
@@ -169,8 +170,8 @@ module _ (s board sequence : List ℕ) where
       let es : take (length xs) sequence′ ≡ xs = rw (js .sequence) (take-at xs (drop (length xs) sequence) (length xs) refl) in
       record {
         means = rw (js .answer) (rw (eb, es) means);
-        only = λ h. let same : judged.Survivor (length xs) ≡ judged.Complete = sym (js .answer) ∙ h in absurd (let z : _≡_ {A = ℕ} 0 1 = cc in omega arith);
-        every = λ h. let same = sym ej ∙ only-every .1 h in absurd (let z : _≡_ {A = ℕ} 0 1 = cc in omega arith);
+        only = λ h. let same : judged.Survivor (length xs) ≡ judged.Complete = sym (js .answer) ∙ h in never (cc);
+        every = λ h. let same = sym ej ∙ only-every .1 h in never (cc);
       }
 
   -- an accepted one

@@ -1,6 +1,5 @@
 -- A sheet that is read: what an operation takes from an accepted one, and how a refused one ends it.
 use Prim.Native.Nat.{ℕ, _*_}
-use native.Mathlib.Omega.{arith}
 use mathlib.Core.Path.{_≡_, refl, sym, _∙_, ap, ap₂}
 use mathlib.Core.Option.{Option, none, some}
 use mathlib.Core.List.{List}
@@ -27,6 +26,7 @@ use Rattle.mutation.specs.declared.Failed.{Failed}
 use Rattle.mutation.specs.declared.Compared.{Compared}
 use Rattle.sheet.specs.Lists.{overlay}
 use Rattle.machine.specs.Differences.{found}
+use Rattle.sheet.specs.laws.Basics.{never}
 use Rattle.mutation.specs.Answers.{failedOf, failedAnswer, comparedOf, comparedAnswer, comparedWrites}
 use Rattle.mutation.specs.Operate.{ReadFrom, FailedSays, ToldFailed, ComparedSays, ToldCompared}
 
@@ -49,7 +49,7 @@ opened s l size e h = go (reading s) refl e
         }
     go (refused number place) er el =
         let a : read.Accepted size ≡ read.Refused number place = sym h ∙ ap (λ (x : Loaded). x .reading) el in
-        let z : _≡_ {A = ℕ} 0 1 = cc in absurd (omega arith)
+        never (cc)
 
 pub closed-by : (s : List ℕ) (l : Loaded) (number place : ℕ) → l ≡ loadedOf (reading s) → l .reading ≡ read.Refused number place →
     reading s ≡ refused number place
@@ -58,7 +58,7 @@ closed-by s l number place e h = go (reading s) e
     go : (r : Reading) → l ≡ loadedOf r → r ≡ refused number place
     go (accepted sh) el =
         let a : read.Refused number place ≡ read.Accepted (summaryOf sh) = sym h ∙ ap (λ (x : Loaded). x .reading) el in
-        let z : _≡_ {A = ℕ} 0 1 = cc in absurd (omega arith)
+        never (cc)
     go (refused m p) el =
         let a : read.Refused number place ≡ read.Refused m p = sym h ∙ ap (λ (x : Loaded). x .reading) el in
         let em : m ≡ number = cc in

@@ -19,6 +19,7 @@ use Rattle.sheet.specs.Lists.{indexOr}
 use Rattle.machine.specs.Tables.{ruleIn, moveIn, tables, Valid}
 use Rattle.mutation.specs.Tests.{wrongFrom, failedFrom, Test}
 use Rattle.machine.proofs.TablesLaw.{the-move, move-next-below}
+use Rattle.sheet.specs.laws.Basics.{never}
 
 -- i positions later
 abbrev pub laterBy : ℕ → Option ℕ → Option ℕ
@@ -110,9 +111,9 @@ module _ (n k start : ℕ) (so sn mo mn : List ℕ) (v : Valid n k so sn mo mn) 
       ∙ ap (λ (t : ℕ). moveIn so sn (p * 16 + t)) (sym ex)
     where
       go : (a b : Bool) → cond a (cond b none (some (moveIn so sn (p * 16 + getD xs i 0)))) none ≡ some (here .move) → here .move ≡ moveIn so sn (p * 16 + getD xs i 0)
-      go true true h = let z : _≡_ {A = ℕ} 0 1 = cc in absurd (omega arith)
+      go true true h = never (cc)
       go true false h = cc
-      go false b h = let z : _≡_ {A = ℕ} 0 1 = cc in absurd (omega arith)
+      go false b h = never (cc)
 
   moves : m .move q (getD xs i 0) ≡ moveIn mo mn (q * 16 + x)
   unfolding m
@@ -180,12 +181,12 @@ index-there count i (some j) e l = ap (λ (t : ℕ). some t) (sym e)
 
 first-wrong-below : (rs os : List ℕ) (j : ℕ) → firstWrong rs os ≡ some j → j < length rs
 unfolding firstWrong
-first-wrong-below [] os j e = let z : _≡_ {A = ℕ} 0 1 = cc in absurd (omega arith)
+first-wrong-below [] os j e = never (cc)
 first-wrong-below (r ∷ rs) [] j e = let z : zero ≡ j = cc in omega arith
 first-wrong-below (r ∷ rs) (o ∷ os) j e = go (eqb r o) (firstWrong rs os) (first-wrong-below rs os) e
   where
     go : (b : Bool) (f : Option ℕ) → ((i : ℕ) → f ≡ some i → i < length rs) → cond b (later f) (some zero) ≡ some j → j < suc (length rs)
-    go true none h e′ = let z : _≡_ {A = ℕ} 0 1 = cc in absurd (omega arith)
+    go true none h e′ = never (cc)
     go true (some i) h e′ = let z : suc i ≡ j = cc in omega (arith, h i refl)
     go false f h e′ = let z : zero ≡ j = cc in omega arith
 

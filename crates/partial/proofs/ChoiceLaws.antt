@@ -9,6 +9,7 @@ use native.Mathlib.Decide.{ℕ-discrete, decLt}
 use borrow.Author.Tests.{eq-eqb, ne-eqb, lt-ltb, le-ltb}
 use lib.ListN.{getD}
 use Rattle.model.specs.Machine.{Move}
+use Rattle.sheet.specs.laws.Basics.{never}
 use Rattle.partial.specs.Machine.{Wf, pair, ruleOutput, ruleTarget, siteAt, firstFault, mutated, diverted, choicesOf, statesOf, inputsOf, choicesAt, choiceOf, chosen, ruleOf, stepOf}
 use Rattle.partial.specs.declared.block.Step.{Step}
 use Rattle.partial.specs.Answers.{StepIs}
@@ -108,9 +109,9 @@ unfolding ruleOf
 rule-at m s x r e = go (decLt s (statesOf m)) (decLt x (inputsOf m)) (ℕ-discrete (ruleTarget m (pair s x)) 255)
   where
     go : Dec (s < statesOf m) → Dec (x < inputsOf m) → Dec (ruleTarget m (pair s x) ≡ 255) → RuleAt m s x r
-    go (no n) lx z = let f = rw (le-ltb s (statesOf m) (omega (arith, n))) at e in absurd (let w : _≡_ {A = ℕ} 0 1 = cc in omega arith)
-    go (yes l) (no n) z = let f = rw (lt-ltb _ _ l, le-ltb x (inputsOf m) (omega (arith, n))) at e in absurd (let w : _≡_ {A = ℕ} 0 1 = cc in omega arith)
-    go (yes l) (yes lx) (yes z) = let f = rw (lt-ltb _ _ l, lt-ltb _ _ lx, eq-eqb _ _ z) at e in absurd (let w : _≡_ {A = ℕ} 0 1 = cc in omega arith)
+    go (no n) lx z = let f = rw (le-ltb s (statesOf m) (omega (arith, n))) at e in never (cc)
+    go (yes l) (no n) z = let f = rw (lt-ltb _ _ l, le-ltb x (inputsOf m) (omega (arith, n))) at e in never (cc)
+    go (yes l) (yes lx) (yes z) = let f = rw (lt-ltb _ _ l, lt-ltb _ _ lx, eq-eqb _ _ z) at e in never (cc)
     go (yes l) (yes lx) (no z) =
         let f = rw (lt-ltb _ _ l, lt-ltb _ _ lx, ne-eqb _ _ z) at e in
         let g : _≡_ {A = Move} r (record { output = ruleOutput m (pair s x); target = ruleTarget m (pair s x) }) = cc in

@@ -10,6 +10,7 @@ use lib.Seq.{drop-cons}
 use Rattle.sheet.specs.Lists.{maybe}
 use Rattle.sheet.specs.Encode.{pressBytes, testBytes}
 use Rattle.model.specs.Machine.{Move, outputsFrom, specifiedFrom, prepend}
+use Rattle.sheet.specs.laws.Basics.{never}
 use Rattle.partial.specs.Sets.{Has}
 use Rattle.partial.specs.Machine.{Wf, Agree, SuiteOk, PassesAll, AllSpecified, pair, ruleOutput, ruleTarget, statesOf, inputsOf, choiceOf, ruleOf, stepOf, startOf, suiteBytes, testsOf}
 use Rattle.partial.specs.Answers.{Steps, Fails, CursorOk, Further, Behind, Blocked, StuckOk}
@@ -84,7 +85,7 @@ unfolding specifiedFrom
 press-specified m s x xs os e = go (ruleOf m s x) refl e
   where
     more : (r : Move) → RuleAt m s x r → (q : Option (List ℕ)) → specifiedFrom (ruleOf m) (r .target) xs ≡ q → prepend (r .output) q ≡ some os → PressSpec m s x xs os
-    more r at none eq e = absurd (let w : _≡_ {A = ℕ} 0 1 = cc in omega arith)
+    more r at none eq e = never (cc)
     more r at (some rest) eq e = record {
       low = at .low;
       input = at .input;
@@ -95,7 +96,7 @@ press-specified m s x xs os e = go (ruleOf m s x) refl e
     }
 
     go : (o : Option Move) → ruleOf m s x ≡ o → maybe o none (λ r. prepend (r .output) (specifiedFrom (ruleOf m) (r .target) xs)) ≡ some os → PressSpec m s x xs os
-    go none eo e = absurd (let w : _≡_ {A = ℕ} 0 1 = cc in omega arith)
+    go none eo e = never (cc)
     go (some r) eo e = more r (rule-at m s x r eo) (specifiedFrom (ruleOf m) (r .target) xs) refl e
 
 -- ---- at a TEST the next test begins

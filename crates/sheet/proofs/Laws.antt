@@ -14,7 +14,7 @@ use Rattle.sheet.specs.declared.Row.{Row}
 use Rattle.sheet.specs.Lists.{maybe, first, last, All, precedes}
 use Rattle.sheet.specs.Sheet.{pairOf, rowOf, isAt, rowsAt, ruleAt}
 use Rattle.sheet.specs.Reading.{ascends}
-use Rattle.sheet.specs.laws.Basics.{both}
+use Rattle.sheet.specs.laws.Basics.{both, never}
 use Rattle.sheet.specs.Held.{Digits, placeOf, pairKey, rowKey, nextKey, ByPair}
 
 pub length-snoc {ℓ} : {A : Type ℓ} (l : List A) (a : A) → length (l ++ a ∷ []) ≡ length l + 1
@@ -103,7 +103,7 @@ apart r s x hs hx hs' hx' e q =
     let es : r .source ≡ s = omega arith in
     let ex : r .input ≡ x = omega arith in
     let same : isAt r s x ≡ true = rw (← es, ← ex) (at-same r) in
-    let z : _≡_ {A = ℕ} 0 1 = cc in omega arith
+    never (cc)
 
 -- a table after a store at a pair: it holds what agrees at the pair with what is stored, and elsewhere with what it held
 pub table-set : {t : List ℕ} {g g' : ℕ → ℕ → ℕ} {v : ℕ} → ByPair t g → (r : Row) → r .source < 16 → r .input < 16

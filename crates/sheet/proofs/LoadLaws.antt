@@ -8,6 +8,7 @@ use lib.Dec.{ltb}
 use lib.ListN.{length, getD, drop, length-append, List·getD-eq-default}
 use lib.Seq.{drop-at}
 use borrow.Author.Tests.{ltb-false}
+use Rattle.sheet.specs.laws.Basics.{never}
 use Rattle.sheet.specs.declared.Row.{Row}
 use Rattle.sheet.specs.declared.Size.{Size}
 use Rattle.sheet.specs.declared.Span.{Span}
@@ -130,7 +131,7 @@ module _ (s : List ℕ) (m : Summary) (os ts : List ℕ) (sh : Sheet) (h : Filla
 -- what reading leaves is what filling starts from
 held-of : (d : Reading) (sh : Sheet) (r : Done) {os ts ms : List ℕ} → d ≡ accepted sh → Scanned d r os ts ms → HeldOf (r .state) os ts ms sh
 held-of (accepted sh') sh r {os} {ts} {ms} e h = let same : sh' ≡ sh = cc in subst (λ (x : Sheet). HeldOf (r .state) os ts ms x) same (h .state)
-held-of (refused n p) sh r e h = let z : _≡_ {A = ℕ} 0 1 = cc in absurd (omega arith)
+held-of (refused n p) sh r e h = never (cc)
 
 outputs-of : (os : List ℕ) (p sh : Sheet) → p ≡ sh → ByPair os (λ s x. ruleOutput (ruleAt (p .rules) s x)) → ByPair os (λ s x. ruleOutput (ruleAt (sh .rules) s x))
 outputs-of os p sh e h = subst (λ (q : Sheet). ByPair os (λ s x. ruleOutput (ruleAt (q .rules) s x))) e h
@@ -140,7 +141,7 @@ module _ (s : List ℕ) (r : ReadAnswer) (er : r ≡ readAnswer (reading s)) whe
   load-refused t number place e et = go (reading s) er
     where
       go : (d : Reading) → r ≡ readAnswer d → _≡_ {A = Loaded} (record { reading = r; tables = t }) (loadedOf d)
-      go (accepted sh) k = let z : _≡_ {A = ℕ} 0 1 = cc in absurd (omega arith)
+      go (accepted sh) k = never (cc)
       go (refused n p) k = λ i. record { reading = k i; tables = et i }
 
   module _ (m : Summary) (em : r ≡ read.Accepted m) where

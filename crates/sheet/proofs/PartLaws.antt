@@ -7,6 +7,7 @@ use native.Mathlib.Omega.{arith}
 use lib.Dec.{leb}
 use lib.ListN.{length, getD, take, drop, length-append, length-drop}
 use borrow.Author.Tests.{le-leb, lt-leb, leb-false}
+use Rattle.sheet.specs.laws.Basics.{never}
 use Rattle.sheet.specs.declared.Summary.{Summary}
 use Rattle.sheet.specs.declared.Span.{Span}
 use Rattle.sheet.specs.declared.Reading.{Reading as ReadAnswer}
@@ -35,7 +36,7 @@ pub record Placed (s : List ℕ) (summary : Summary) (sheet : Sheet) : Type 0 wh
 
 accepted-as : (d : Reading) (summary : Summary) → read.Accepted summary ≡ readAnswer d → (sh : Sheet) × (d ≡ accepted sh) × (summary ≡ summaryOf sh)
 accepted-as (accepted sh) summary e = (sh, refl, cc)
-accepted-as (refused n p) summary e = let z : _≡_ {A = ℕ} 0 1 = cc in absurd (omega arith)
+accepted-as (refused n p) summary e = never (cc)
 
 pub located : (s : List ℕ) (summary : Summary) (sh : Sheet) → reading s ≡ accepted sh → summary ≡ summaryOf sh → Placed s summary sh
 unfolding summaryOf
@@ -59,7 +60,7 @@ unfolding parting
 span-refused s i r number place e a = go (reading s) e
   where
     go : (d : Reading) → r ≡ readAnswer d → part.Refused number place ≡ partAnswer (spanIn d i)
-    go (accepted sh) k = let z : _≡_ {A = ℕ} 0 1 = cc in absurd (omega arith)
+    go (accepted sh) k = never (cc)
     go (refused n p) k =
         let en : number ≡ n = cc in
         let ep : place ≡ p = cc in
@@ -100,12 +101,12 @@ unfolding parting
 spanned s i span e = go (reading s) refl e
   where
     below : (sh : Sheet) → reading s ≡ accepted sh → (b : Bool) → leb (length (sh .tests)) i ≡ b → cond b (refused 17 0) (accepted (spanOf sh i)) ≡ accepted span → Spanned s i span
-    below sh d true h k = let z : _≡_ {A = ℕ} 0 1 = cc in absurd (omega arith)
+    below sh d true h k = never (cc)
     below sh d false h k = let same : span ≡ spanOf sh i = cc in record { sheet = sh; is = d; below = leb-false (length (sh .tests)) i h; same = same }
 
     go : (d : Reading) → reading s ≡ d → spanIn d i ≡ accepted span → Spanned s i span
     go (accepted sh) d k = below sh d (leb (length (sh .tests)) i) refl k
-    go (refused n p) d k = let z : _≡_ {A = ℕ} 0 1 = cc in absurd (omega arith)
+    go (refused n p) d k = never (cc)
 
 span-room : (s : List ℕ) (i : ℕ) (span : Span) → Spanned s i span → span .start + span .length ≤ length s
 unfolding spanOf encode body
@@ -120,14 +121,14 @@ span-room s i span h =
 
 at-span : (d : Result Span) (span : Span) → part.At span ≡ partAnswer d → d ≡ accepted span
 at-span (accepted x) span e = let same : x ≡ span = cc in ap (λ (y : Span). accepted y) same
-at-span (refused n p) span e = let z : _≡_ {A = ℕ} 0 1 = cc in absurd (omega arith)
+at-span (refused n p) span e = never (cc)
 
 module _ (s : List ℕ) (i : ℕ) (r : PartAnswer) where
   pub part-refused : (number place : ℕ) → r ≡ partAnswer (parting s i) → r ≡ part.Refused number place → [] ≡ partOf s (parting s i)
   part-refused number place e a = go (parting s i) e
     where
       go : (d : Result Span) → r ≡ partAnswer d → [] ≡ partOf s d
-      go (accepted span) k = let z : _≡_ {A = ℕ} 0 1 = cc in absurd (omega arith)
+      go (accepted span) k = never (cc)
       go (refused n p) k = refl
 
   pub lies-anywhere : (sheet at : ℕ × ℕ) (number place : ℕ) → r ≡ partAnswer (parting s i) → r ≡ part.Refused number place →
@@ -135,7 +136,7 @@ module _ (s : List ℕ) (i : ℕ) (r : PartAnswer) where
   lies-anywhere sheet at number place e a = go (parting s i) e
     where
       go : (d : Result Span) → r ≡ partAnswer d → LiesIn d sheet at
-      go (accepted span) k = let z : _≡_ {A = ℕ} 0 1 = cc in absurd (omega arith)
+      go (accepted span) k = never (cc)
       go (refused n p) k = tt
 
   module _ (span : Span) (e : r ≡ partAnswer (parting s i)) (a : r ≡ part.At span) where

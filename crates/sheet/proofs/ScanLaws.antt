@@ -7,6 +7,7 @@ use native.Mathlib.Omega.{arith}
 use lib.Dec.{ltb}
 use lib.ListN.{length, replicate, getD-replicate, length-replicate}
 use borrow.Author.Tests.{le-ltb, lt-ltb}
+use Rattle.sheet.specs.laws.Basics.{never}
 use Rattle.sheet.specs.declared.Reading.the-variants as read
 use Rattle.sheet.specs.declared.rules.State.{State}
 use Rattle.sheet.specs.declared.finish.End.{End}
@@ -107,7 +108,7 @@ module _ (s : List ℕ) (c : State) (os ts ms : List ℕ) (at : ℕ) (r : Step) 
         in' = x .3;
         on = record { fuel = f; progress = p'; enough = omega (arith, x .2); holds = x .1; rest = sym (from-go f p s at p' e' w) ∙ q };
       })
-  moved (suc f) p k h q (stop d) w x e v = let z : _≡_ {A = ℕ} 0 1 = cc in absurd (omega arith)
+  moved (suc f) p k h q (stop d) w x e v = never (cc)
 
   pub going-on : Going s c os ts ms at → (e : ℕ) → r .verdict ≡ Go e → Moved e
   going-on g e v = moved (g .fuel) (g .progress) (g .enough) (g .holds) (g .rest) (oneCommand (g .progress) s at) refl (m (g .progress) (g .holds)) e v
@@ -115,7 +116,7 @@ module _ (s : List ℕ) (c : State) (os ts ms : List ℕ) (at : ℕ) (r : Step) 
   ended : (f : ℕ) (p : Progress) → length s < f + at → Holds c os ts ms p → from f p s at ≡ from (length s + 1) blank s 0
       → (o : Outcome) → oneCommand p s at ≡ o → Meets s at o r os' ts' ms' → (e : End) → r .verdict ≡ Stop e → Scanned (from (length s + 1) blank s 0) (record { end = e; state = r .state }) os' ts' ms'
   ended zero p k h q o w x e v = absurd (omega arith)
-  ended (suc f) p k h q (go p' e') w x e v = let z : _≡_ {A = ℕ} 0 1 = cc in absurd (omega arith)
+  ended (suc f) p k h q (go p' e') w x e v = never (cc)
   ended (suc f) p k h q (stop d) w x e v =
       let is : d ≡ from (length s + 1) blank s 0 = sym (from-stop f p s at d w) ∙ q in
       let same : e ≡ endOf d = cc in
@@ -153,10 +154,10 @@ answer-accepted (accepted sh) r n h e =
     let b : r .state .faults .count ≡ length (sh .faults) = f .faults .count ∙ ap (λ (x : Sheet). length (x .faults)) (h .state .same) in
     let t : r .state .tests .count ≡ length (sh .tests) = f .tests .count ∙ ap (λ (x : Sheet). length (x .tests)) (h .state .same) in
     rw (o, z, a, b, t)
-answer-accepted (refused k p) r n h e = let z : _≡_ {A = ℕ} 0 1 = cc (h .end, e) in absurd (omega arith)
+answer-accepted (refused k p) r n h e = never (cc (h .end, e))
 
 pub answer-refused : (d : Reading) (r : Done) {os ts ms : List ℕ} (n p : ℕ) → Scanned d r os ts ms → r .end ≡ Refused n p → read.Refused n p ≡ readAnswer d
-answer-refused (accepted sh) r n p h e = let z : _≡_ {A = ℕ} 0 1 = cc (h .end, e) in absurd (omega arith)
+answer-refused (accepted sh) r n p h e = never (cc (h .end, e))
 answer-refused (refused k q) r n p h e =
     let a : n ≡ k = cc (h .end, e) in
     let b : p ≡ q = cc (h .end, e) in

@@ -17,7 +17,7 @@ use Rattle.sheet.specs.declared.rules.State.{State}
 use Rattle.sheet.specs.Lists.{last}
 use Rattle.sheet.specs.Sheet.{after}
 use Rattle.sheet.specs.Reading.{Progress, size, rule, fault, test, press, inOneTo16, sizeInRange, allowed, lastTest, firstBroken, refusal, advance}
-use Rattle.sheet.specs.laws.Basics.{both}
+use Rattle.sheet.specs.laws.Basics.{both, never}
 use Rattle.sheet.specs.laws.Ordered.{press-length}
 use Rattle.sheet.specs.Held.{TestsHold, RuleMeets, FaultMeets, PressMeets, Holds, Applies}
 use Rattle.sheet.proofs.Laws.{length-snoc}
@@ -54,7 +54,7 @@ module _ (phase b : ℕ) where
 
 -- a command byte that may stand somewhere is one of the six
 pub known : (phase b : ℕ) → allowed phase b ≡ true → (1 ≤ b) × (b ≤ 6)
-known phase zero h = let z : _≡_ {A = ℕ} 0 1 = cc in absurd (omega arith)
+known phase zero h = never (cc)
 known phase (suc b) h = (omega arith, top (leb (suc b) 6) refl)
   where
     top : (t : Bool) → leb (suc b) 6 ≡ t → suc b ≤ 6
@@ -69,7 +69,7 @@ known phase (suc b) h = (omega arith, top (leb (suc b) 6) refl)
           ne-eqb (suc b) 5 (λ q. omega arith),
           ne-eqb (suc b) 6 (λ q. omega arith),
         ) in
-        let z : _≡_ {A = ℕ} 0 1 = cc in absurd (omega arith)
+        never (cc)
 
 module _ (c : State) (os ts ms : List ℕ) (p : Progress) (h : Holds c os ts ms p) where
   pub state-rule : (row : Row) (a : Ruled) (os' ts' : List ℕ) → p .phase ≤ 2 → RuleMeets (p .sheet) row a os' ts'

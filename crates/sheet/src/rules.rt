@@ -234,31 +234,27 @@ fn add_fault(
         → Leads (now (target .entry)) (sh .rules) → FaultsHold faults (now (faulty .entry)) (sh .faults)
         → FaultMeets sh row r (now (faulty .exit))) ⌝ }
 {
-    if in_range(size, row) {
-        let p = (row.source as usize) * 16 + (row.input as usize);
-        let key = p * 256 + ((row.output as usize) * 16 + (row.target as usize));
-        if faults.key <= key {
-            if is_other(row, output, target) {
-                if faults.count < 256 {
-                    faulty[p] = 1;
-                    Faulted {
-                        number: 0,
-                        faults: Faults {
-                            count: faults.count + 1,
-                            key: key + 1,
-                        },
-                    }
-                } else {
-                    Faulted { number: 8, faults }
-                }
-            } else {
-                Faulted { number: 7, faults }
-            }
-        } else {
-            Faulted { number: 6, faults }
-        }
-    } else {
-        Faulted { number: 5, faults }
+    if !in_range(size, row) {
+        return Faulted { number: 5, faults };
+    }
+    let p = (row.source as usize) * 16 + (row.input as usize);
+    let key = p * 256 + ((row.output as usize) * 16 + (row.target as usize));
+    if key < faults.key {
+        return Faulted { number: 6, faults };
+    }
+    if !is_other(row, output, target) {
+        return Faulted { number: 7, faults };
+    }
+    if faults.count >= 256 {
+        return Faulted { number: 8, faults };
+    }
+    faulty[p] = 1;
+    Faulted {
+        number: 0,
+        faults: Faults {
+            count: faults.count + 1,
+            key: key + 1,
+        },
     }
 }
 

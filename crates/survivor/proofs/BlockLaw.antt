@@ -30,6 +30,7 @@ use Rattle.model.specs.laws.StepLaw.{step-at, step-outside, choice-below, choic
 use Rattle.model.specs.laws.SuiteLaw.{test-specified, passes-right, Specified as SpecifiedIn}
 use Rattle.partial.specs.Machine.{pair, ruleOutput, ruleTarget, siteAt, mutated, diverted, choicesOf, statesOf, choicesAt, choiceOf, chosen, ruleOf, stepOf, startOf, pairOf, Survivor, Specified, suiteBytes, testsOf, SuiteOk, Ranged, Wf, firstFault as firstIndex}
 use Rattle.partial.proofs.Suites.{tests-same}
+use Rattle.sheet.specs.laws.Basics.{never}
 use Rattle.survivor.specs.Block.{BlockFor}
 
 -- ---- numbers
@@ -117,8 +118,8 @@ module _ (sh : Sheet) (m : List ℕ) (wf : WellFormed sh) (bl : BlockFor sh m) w
           cond (c && d) (cond (eqb (ruleTarget m (pair s x)) 255) none (some (record { output = ruleOutput m (pair s x); target = ruleTarget m (pair s x) }))) none
           ≡ maybe (ruleAt (sh .rules) s x) none (λ r. some (moveOf r))
       go true ec true ed = inside (here s x (ltb-true s (sh .size .states) ec) (ltb-true x (sh .size .inputs) ed)) (ruleAt (sh .rules) s x) refl
-      go true ec false ed = sym (rule-none s x (λ ls lx. let z : _≡_ {A = ℕ} 0 1 = cc (lt-ltb x (sh .size .inputs) lx) in omega arith))
-      go false ec d ed = sym (rule-none s x (λ ls lx. let z : _≡_ {A = ℕ} 0 1 = cc (lt-ltb s (sh .size .states) ls) in omega arith))
+      go true ec false ed = sym (rule-none s x (λ ls lx. never (cc (lt-ltb x (sh .size .inputs) lx))))
+      go false ec d ed = sym (rule-none s x (λ ls lx. never (cc (lt-ltb s (sh .size .states) ls))))
 
   -- the block's rules are the sheet's
   pub rule-same : ruleOf m ≡ rule sh
@@ -191,8 +192,8 @@ module _ (sh : Sheet) (m : List ℕ) (wf : WellFormed sh) (bl : BlockFor sh m) w
             let h = here s x ls lx in
             ap (λ (c : ℕ). choiceOf m (pair s x) c) (chosen-at b s x h)
             ∙ choice-at s x (choiceAt sh b s x) h (choice-below sh b s x wf is) ∙ sym (step-at sh b s x ls lx)
-        go true ec false ed = sym (step-outside sh b s x (λ ls lx. let z : _≡_ {A = ℕ} 0 1 = cc (lt-ltb x (sh .size .inputs) lx) in omega arith))
-        go false ec d ed = sym (step-outside sh b s x (λ ls lx. let z : _≡_ {A = ℕ} 0 1 = cc (lt-ltb s (sh .size .states) ls) in omega arith))
+        go true ec false ed = sym (step-outside sh b s x (λ ls lx. never (cc (lt-ltb x (sh .size .inputs) lx))))
+        go false ec d ed = sym (step-outside sh b s x (λ ls lx. never (cc (lt-ltb s (sh .size .states) ls))))
 
     -- the block's mutants do what the sheet's do
     pub step-same : stepOf m b ≡ step sh b

@@ -21,6 +21,7 @@ use Rattle.model.specs.laws.SuspectLaw.{slot-count}
 use Rattle.model.specs.laws.OperationLaw.{mutant-length, in-range-at, in-range}
 use Rattle.partial.specs.Machine.{choicesOf, suiteBytes, testsOf, Ranged, Partial, SuiteOk, Survivor, Wf}
 use Rattle.engine.specs.Refute.{NoneIf}
+use Rattle.sheet.specs.laws.Basics.{never}
 use Rattle.survivor.specs.declared.survive.Searched.the-variants.{Nothing, First, GaveUp}
 use Rattle.survivor.specs.Block.{BlockFor}
 use Rattle.survivor.specs.Search.{Begins, Prefix, NoneFrom, FirstFrom, Tried, Kept, Shown, Searching, Room}
@@ -50,10 +51,10 @@ earlier (x ∷ b) (y ∷ a) (inr (e, h)) = go (earlier b a h)
 
 -- an answer is not another
 pub nothing : {A : Type 0} → Nothing ≡ GaveUp → A
-nothing e = let z : _≡_ {A = ℕ} 0 1 = cc in absurd (omega arith)
+nothing e = never (cc)
 
 pub first : {A : Type 0} {d : ℕ} → First d ≡ GaveUp → A
-first e = let z : _≡_ {A = ℕ} 0 1 = cc in absurd (omega arith)
+first e = never (cc)
 
 -- ---- the buffers
 

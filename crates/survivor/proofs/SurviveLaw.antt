@@ -36,6 +36,7 @@ use Rattle.partial.proofs.ChoiceLaws.{chosen-none, chosen-some}
 use Rattle.survivor.specs.declared.survive.Searched.the-variants.{Nothing, First}
 use Rattle.machine.specs.Differences.{differenceOf, found}
 use Rattle.machine.specs.Tables.{ruleIn, moveIn, movesIn, tables, Valid}
+use Rattle.sheet.specs.laws.Basics.{never}
 use Rattle.survivor.specs.Search.{Leaves, Searching}
 use Rattle.survivor.specs.Survive.{slot, walkOf, Chosen, Acts, Laid}
 use Rattle.survivor.proofs.BlockLaw.{getD-default, slot-few, rule-none, site-some, site-low, ranged, step-same, well-formed}
@@ -215,7 +216,7 @@ module _ (so sn mo mn : List ℕ) where
             (λ other.
             let v : walkOf so sn mo mn s q (pressBytes (x ∷ left) ++ suiteBytes ts) ≡ false = value ∙ rw (ne-eqb (f .move .output) (step sh b q x .output) other) refl in
             record {
-              to = λ h. absurd (let z : _≡_ {A = ℕ} 0 1 = cc in omega arith);
+              to = λ h. never (cc);
               fro = λ h a.
                   let w : step sh b q x .output ∷ outputsFrom (step sh b) (step sh b q x .target) left ≡ f .move .output ∷ f .rest = h ∙ f .is in
                   let z : f .move .output ≡ step sh b q x .output = cc in
@@ -348,7 +349,7 @@ module _ {sh : Sheet} {m bytes p : List ℕ} {n : ℕ} (w : Searching sh m bytes
         rw (h .same) (go h (ruleAt (sh .rules) s x) refl e)
       where
         go : Here s x → (o : Option Row) → ruleAt (sh .rules) s x ≡ o → maybe o none (λ q. some (moveOf q)) ≡ some r → (getD so (pair s x) 0 ≡ r .output) × (getD sn (pair s x) 0 ≡ r .target)
-        go h none eo er = absurd (let z : _≡_ {A = ℕ} 0 1 = cc in omega arith)
+        go h none eo er = never (cc)
         go h (some q) eo er =
             let z : moveOf q ≡ r = cc in
             (rule-output-at s x h ∙ rw eo (ap (λ (t : Move). t .output) z), rule-target-at s x h ∙ rw eo (ap (λ (t : Move). t .target) z))
@@ -373,8 +374,8 @@ module _ {sh : Sheet} {m bytes p : List ℕ} {n : ℕ} (w : Searching sh m bytes
             cond (c && d) (cond (eqb (getD so (pair s x) 0) 255) none (some (record { output = getD so (pair s x) 0; target = getD sn (pair s x) 0 }))) none
             ≡ maybe (ruleAt (sh .rules) s x) none (λ r. some (moveOf r))
         go true ec true ed = inside (here s x (ltb-true s (sh .size .states) ec) (ltb-true x (sh .size .inputs) ed)) (ruleAt (sh .rules) s x) refl
-        go true ec false ed = sym (rule-none sh m (w .formed) (w .block) s x (λ ls lx. let z : _≡_ {A = ℕ} 0 1 = cc (lt-ltb x (sh .size .inputs) lx) in omega arith))
-        go false ec d ed = sym (rule-none sh m (w .formed) (w .block) s x (λ ls lx. let z : _≡_ {A = ℕ} 0 1 = cc (lt-ltb s (sh .size .states) ls) in omega arith))
+        go true ec false ed = sym (rule-none sh m (w .formed) (w .block) s x (λ ls lx. never (cc (lt-ltb x (sh .size .inputs) lx))))
+        go false ec d ed = sym (rule-none sh m (w .formed) (w .block) s x (λ ls lx. never (cc (lt-ltb s (sh .size .states) ls))))
 
     move-here : (s x : ℕ) → cond (ltb s (sh .size .states) && ltb x (sh .size .inputs)) (moveIn mo mn (pair s x)) idle ≡ step sh b s x
     unfolding moveIn
@@ -383,8 +384,8 @@ module _ {sh : Sheet} {m bytes p : List ℕ} {n : ℕ} (w : Searching sh m bytes
         go : (c : Bool) → ltb s (sh .size .states) ≡ c → (d : Bool) → ltb x (sh .size .inputs) ≡ d →
             cond (c && d) (record { output = getD mo (pair s x) 0; target = getD mn (pair s x) 0 }) idle ≡ step sh b s x
         go true ec true ed = let h = here s x (ltb-true s (sh .size .states) ec) (ltb-true x (sh .size .inputs) ed) in rw (output-at s x h, target-at s x h) refl
-        go true ec false ed = sym (step-outside sh b s x (λ ls lx. let z : _≡_ {A = ℕ} 0 1 = cc (lt-ltb x (sh .size .inputs) lx) in omega arith))
-        go false ec d ed = sym (step-outside sh b s x (λ ls lx. let z : _≡_ {A = ℕ} 0 1 = cc (lt-ltb s (sh .size .states) ls) in omega arith))
+        go true ec false ed = sym (step-outside sh b s x (λ ls lx. never (cc (lt-ltb x (sh .size .inputs) lx))))
+        go false ec d ed = sym (step-outside sh b s x (λ ls lx. never (cc (lt-ltb s (sh .size .states) ls))))
 
     tables-same : tables (sh .size .states) (sh .size .inputs) 0 so sn mo mn ≡ against sh b
     unfolding tables movesIn initial
@@ -399,7 +400,7 @@ module _ {sh : Sheet} {m bytes p : List ℕ} {n : ℕ} (w : Searching sh m bytes
     fails r e f ps =
         let v = passes-walk so sn mo mn sh (w .formed) (take n p) spec-at mach-at ps in
         let u : walkOf so sn mo mn 0 0 (suiteBytes (sh .tests)) ≡ false = rw (← w .suite) (sym e ∙ f) in
-        let z : _≡_ {A = ℕ} 0 1 = cc in omega arith
+        never (cc)
 
     passed : (r : Bool) → r ≡ walkOf so sn mo mn 0 0 bytes → r ≡ true → Passes sh (take n p)
     unfolding b
@@ -446,7 +447,7 @@ module _ {sh : Sheet} {m bytes p : List ℕ} {n : ℕ} (w : Searching sh m bytes
           (ed : d ≡ differenceOf (comparePair (tables states inputs 0 so sn mo mn))) (es′ : sequence′ ≡ overlay (found (comparePair (tables states inputs 0 so sn mo mn))) sequence) where
         differs-shown : (o : Option (List ℕ)) → compareOf sh (take n p) ≡ o → d ≡ differenceOf o → sequence′ ≡ overlay (found o) sequence →
             (k : ℕ) → d ≡ difference.Shown k → {board′ : List ℕ} → board′ ≡ overlay (take n p) board → Leaves sh p n (First k) board board′ sequence sequence′
-        differs-shown none eo h g k x eb = absurd (let z : _≡_ {A = ℕ} 0 1 = cc in omega arith)
+        differs-shown none eo h g k x eb = never (cc)
         differs-shown (some xs) eo h g k x {board′} eb =
             record {
               survivor = take n p;
@@ -460,7 +461,7 @@ module _ {sh : Sheet} {m bytes p : List ℕ} {n : ℕ} (w : Searching sh m bytes
         conforms-shown : (o : Option (List ℕ)) → compareOf sh (take n p) ≡ o → d ≡ differenceOf o → sequence′ ≡ overlay (found o) sequence →
             d ≡ difference.Nothing → Leaves sh p n Nothing board board sequence sequence′
         conforms-shown none eo h g x = none-shown (λ ps. eo) g
-        conforms-shown (some xs) eo h g x = absurd (let z : _≡_ {A = ℕ} 0 1 = cc in omega arith)
+        conforms-shown (some xs) eo h g x = never (cc)
 
         pub differs : (k : ℕ) → d ≡ difference.Shown k → {board′ : List ℕ} → board′ ≡ overlay (take n p) board → Leaves sh p n (First k) board board′ sequence sequence′
         differs k x eb = differs-shown (compareOf sh (take n p)) refl (ed ∙ ap differenceOf compare-same) (es′ ∙ ap (λ (o : Option (List ℕ)). overlay (found o) sequence) compare-same) k x eb

@@ -9,10 +9,11 @@ use mathlib.Core.Option.{some}
 use mathlib.Core.List.{List, [], _∷_, _++_, map, List·Memᴰ, List·Memᴰ·head, List·Memᴰ·tail, Memᴰ·append-left, Memᴰ·append-right, List·Memᴰ·append-cases, List·Memᴰ·cases-cons, List·Memᴰ·not-nil}
 use lib.ListN.{getD}
 use Rattle.sheet.specs.Lists.{first, All, Ascending, upTo, joined}
+use Rattle.sheet.specs.laws.Basics.{never}
 
 -- a test is not both true and false
 pub clash : {A : Type 0} (b : Bool) → b ≡ true → b ≡ false → A
-clash b t f = let z : _≡_ {A = ℕ} 0 1 = cc in absurd (omega arith)
+clash b t f = never (cc)
 
 -- what is not true is false
 pub not-true-false : (b : Bool) → (b ≡ true → ⊥) → b ≡ false
@@ -43,7 +44,7 @@ module _ {A : Type 0} (P : A → Type 0) where
 
   -- of the first element
   pub all-first : (xs : List A) (x : A) → All P xs → first xs ≡ some x → P x
-  all-first [] x a e = let z : _≡_ {A = ℕ} 0 1 = cc in absurd (omega arith)
+  all-first [] x a e = never (cc)
   all-first (y ∷ ys) x a e = let z : y ≡ x = cc in subst P z (a .0)
 
   -- of every member

@@ -13,6 +13,7 @@ use Rattle.sheet.specs.declared.Size.{Size}
 use Rattle.sheet.specs.Lists.{maybe, All, upTo, joined}
 use Rattle.sheet.specs.Sheet.{Sheet, rowsAt, ruleAt}
 use Rattle.sheet.specs.WellFormed.{RowIn, WellFormed}
+use Rattle.sheet.specs.laws.Basics.{never}
 use Rattle.model.specs.Machine.{Move, Pair}
 use Rattle.model.specs.Mutant.{moveOf, rule, unruled, transitions, suspects, siteIn, idle, step, initial, against}
 use Rattle.model.specs.laws.Basics.{all-imp, all-getD, all-first, all-map, all-joined, upTo-below}
@@ -68,7 +69,7 @@ module _ (sh : Sheet) (wf : WellFormed sh) where
   rule-in s x t e = go (ruleAt (sh .rules) s x) refl e
     where
       go : (o : Option Row) → ruleAt (sh .rules) s x ≡ o → maybe o none (λ r. some (moveOf r)) ≡ some t → RuleAt (sh .size) s x t
-      go none er h = let z : _≡_ {A = ℕ} 0 1 = cc in absurd (omega arith)
+      go none er h = never (cc)
       go (some r) er h =
           let at = rule-row s x r er in
           let eo : r .output ≡ t .output = cc in

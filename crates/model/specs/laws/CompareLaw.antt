@@ -13,6 +13,7 @@ use borrow.Author.Tests.{eqb-true, eqb-false, lt-ltb, ltb-true}
 use lib.Dec.{eqb}
 use lib.ListN.{length}
 use Rattle.sheet.specs.Lists.{maybe, Before}
+use Rattle.sheet.specs.laws.Basics.{never}
 use Rattle.model.specs.Machine.{Move, Pair, prepend, outputsFrom, specifiedFrom, DistinguishesFrom, ConformingFrom}
 use Rattle.model.specs.Compare.{least, target, shows, within, best, shortest, distance, compareFrom}
 use Rattle.model.specs.Verdict.{After}
@@ -100,7 +101,7 @@ dist-uncons m p q x xs (os, e, ne) = go (m .rule p x) refl e
   where
     rest : (r : Move) (w : Option (List ℕ)) → specifiedFrom (m .rule) (r .target) xs ≡ w → prepend (r .output) w ≡ some os →
         (r .output ≡ m .move q x .output → ⊥) ⊎ DistinguishesFrom m (r .target) (m .move q x .target) xs
-    rest r none ew h = let z : _≡_ {A = ℕ} 0 1 = cc in absurd (omega arith)
+    rest r none ew h = never (cc)
     rest r (some os′) ew h =
         by-cases (ℕ-discrete (r .output) (m .move q x .output))
         (λ same. inr (os′, ew, λ eo. ne (cc)))
@@ -108,7 +109,7 @@ dist-uncons m p q x xs (os, e, ne) = go (m .rule p x) refl e
 
     go : (o : Option Move) → m .rule p x ≡ o → maybe o none (λ r. prepend (r .output) (specifiedFrom (m .rule) (r .target) xs)) ≡ some os →
         (r : Move) × (m .rule p x ≡ some r) × ((r .output ≡ m .move q x .output → ⊥) ⊎ DistinguishesFrom m (r .target) (m .move q x .target) xs)
-    go none er h = let z : _≡_ {A = ℕ} 0 1 = cc in absurd (omega arith)
+    go none er h = never (cc)
     go (some r) er h = (r, er, rest r (specifiedFrom (m .rule) (r .target) xs) refl h)
 
 -- one input that shows another output
@@ -418,7 +419,7 @@ module _ (m : Pair) (p q : ℕ) (cl : Closed m) (lp : p < m .states) (lq : q < m
     where
       go : (b : Bool) → within m (m .states * m .states) p q ≡ b → cond b (some (shortest m (distance m p q) p q)) none ≡ none →
           ConformingFrom m p q
-      go true w h′ = let z : _≡_ {A = ℕ} 0 1 = cc in absurd (omega arith)
+      go true w h′ = never (cc)
       go false w h′ = within-none w
 
   -- an answer: the shortest, then smallest, distinguishing sequence
@@ -430,7 +431,7 @@ module _ (m : Pair) (p q : ℕ) (cl : Closed m) (lp : p < m .states) (lq : q < m
       d = distance m p q
 
       go : (b : Bool) → within m (m .states * m .states) p q ≡ b → cond b (some (shortest m d p q)) none ≡ some xs → Shortest m p q xs
-      go false w h′ = let z : _≡_ {A = ℕ} 0 1 = cc in absurd (omega arith)
+      go false w h′ = never (cc)
       go true w h′ =
           let e : shortest m d p q ≡ xs = cc in
           subst (Shortest m p q) e (found-at m p q d cl (distance-le m p q) (distance-within m p q w) (distance-fewest m p q))

@@ -9,6 +9,7 @@ use Rattle.sheet.specs.declared.Row.{Row}
 use Rattle.sheet.specs.Lists.{maybe, All}
 use Rattle.sheet.specs.Sheet.{Sheet, ruleAt, after}
 use Rattle.sheet.specs.WellFormed.{TestIn, WellFormed}
+use Rattle.sheet.specs.laws.Basics.{never}
 use Rattle.model.specs.Machine.{Move, Pair, outputsFrom, specifiedFrom, ConformingFrom}
 use Rattle.model.specs.Mutant.{initial, outputs, specified, against, IsMutant, Conforming}
 use Rattle.model.specs.Suite.{Passes}
@@ -54,7 +55,7 @@ module _ (m : Pair) where
       Given o (m .move q x .output) × Ok (targetOf o) (m .move q x .target)
   unfolding Ok Given
   ok-next none q x ok none e = (tt, tt)
-  ok-next none q x ok (some r) e = let z : _≡_ {A = ℕ} 0 1 = cc in absurd (omega arith)
+  ok-next none q x ok (some r) e = never (cc)
   ok-next (some p) q x ok none e = (tt, tt)
   ok-next (some p) q x ok (some r) e = conforming-next p q x r ok e
 
@@ -157,7 +158,7 @@ module _ (sh : Sheet) (wf : WellFormed sh) where
           ((s′ : ℕ) → after (sh .rules) s′ xs ≡ some t → InputsBelow (sh .size .inputs) (map input xs ++ rest)) →
           maybe o none (λ r. after (sh .rules) (r .target) xs) ≡ some t →
           (x < sh .size .inputs) × InputsBelow (sh .size .inputs) (map input xs ++ rest)
-      go none er ih h = let z : _≡_ {A = ℕ} 0 1 = cc in absurd (omega arith)
+      go none er ih h = never (cc)
       go (some r) er ih h = let at = rule-row sh wf s x r er in (omega (arith, at .input, at .row .input), ih (r .target) h)
 
   suite-below : (ts : List (List ℕ)) → All (TestIn (sh .rules)) ts → InputsBelow (sh .size .inputs) (suiteEvents ts)

@@ -1,6 +1,5 @@
 -- The answers of compare and judge mean what they should.
 use Prim.Native.Nat.{ℕ}
-use native.Mathlib.Omega.{arith}
 use mathlib.Core.Path.{_≡_, refl, sym, _∙_, subst}
 use mathlib.Core.Logic.{_⊎_, inl, inr, ⊎-elim}
 use mathlib.Core.Option.{Option, none, some}
@@ -8,6 +7,7 @@ use mathlib.Core.List.{List, [], _∷_, List·Memᴰ, List·Memᴰ·head, List·
 use Rattle.sheet.specs.Lists.{Ascending, Before}
 use Rattle.sheet.specs.Sheet.{Sheet}
 use Rattle.sheet.specs.WellFormed.{WellFormed}
+use Rattle.sheet.specs.laws.Basics.{never}
 use Rattle.model.specs.Mutant.{mutants, IsMutant, initial, against, Conforming}
 use Rattle.model.specs.Compare.{comparePair}
 use Rattle.model.specs.Suite.{Place, firstFailedOf, Passes, compareOf, Judgement, complete, survivor, survivorAmong, judgeOf}
@@ -33,7 +33,7 @@ turn sh b bs = go (firstFailedOf sh b) refl (compareOf sh b) refl
     go : (f : Option Place) → firstFailedOf sh b ≡ f → (o : Option (List ℕ)) → compareOf sh b ≡ o → Turn sh b bs
     go none ef none eo = over (λ _. eo) (rw (ef, eo) refl)
     go none ef (some xs) eo = here xs ef eo (rw (ef, eo) refl)
-    go (some f) ef o eo = over (λ p. let z : _≡_ {A = ℕ} 0 1 = cc in absurd (omega arith)) (rw ef refl)
+    go (some f) ef o eo = over (λ p. never (cc)) (rw ef refl)
 
 -- `complete`: every mutant of the list is cleared
 all-cleared : (sh : Sheet) (bs : List (List ℕ)) → survivorAmong sh bs ≡ complete → (b : List ℕ) → List·Memᴰ b bs → Cleared sh b
@@ -43,7 +43,7 @@ all-cleared sh (c ∷ bs) e b m p = go (turn sh c bs) (all-cleared sh bs)
     go : Turn sh c bs → (survivorAmong sh bs ≡ complete → (d : List ℕ) → List·Memᴰ d bs → Cleared sh d) → compareOf sh b ≡ none
     go (over cleared q) ih =
         ⊎-elim (λ eb. subst (Cleared sh) (sym eb) cleared p) (λ t. ih (sym q ∙ e) b t p) (List·Memᴰ·cases-cons m)
-    go (here xs pc ec q) ih = let z : _≡_ {A = ℕ} 0 1 = cc in absurd (omega arith)
+    go (here xs pc ec q) ih = never (cc)
 
 -- where every mutant of the list is cleared: `complete`
 cleared-all : (sh : Sheet) (bs : List (List ℕ)) → ((b : List ℕ) → List·Memᴰ b bs → Cleared sh b) → survivorAmong sh bs ≡ complete
@@ -53,7 +53,7 @@ cleared-all sh (c ∷ bs) h = go (turn sh c bs) (cleared-all sh bs (λ b m. h b 
   where
     go : Turn sh c bs → survivorAmong sh bs ≡ complete → survivorAmong sh (c ∷ bs) ≡ complete
     go (over cleared q) ih = q ∙ ih
-    go (here xs pc ec q) ih = let w = h c (List·Memᴰ·head refl) pc in let z : _≡_ {A = ℕ} 0 1 = cc in absurd (omega arith)
+    go (here xs pc ec q) ih = let w = h c (List·Memᴰ·head refl) pc in never (cc)
 
 -- of the mutants of a list b is not cleared, and every other stands after it or is cleared
 record FirstIn (sh : Sheet) (bs : List (List ℕ)) (b xs : List ℕ) : Type 0 where
@@ -66,7 +66,7 @@ record FirstIn (sh : Sheet) (bs : List (List ℕ)) (b xs : List ℕ) : Type 0 wh
 first-in : (sh : Sheet) (bs : List (List ℕ)) (b xs : List ℕ) → Ascending Before bs → survivorAmong sh bs ≡ survivor b xs →
     FirstIn sh bs b xs
 unfolding survivorAmong Ascending
-first-in sh [] b xs a e = let z : _≡_ {A = ℕ} 0 1 = cc in absurd (omega arith)
+first-in sh [] b xs a e = never (cc)
 first-in sh (c ∷ bs) b xs a e = go (turn sh c bs) (first-in sh bs b xs (a .1))
   where
     go : Turn sh c bs → (survivorAmong sh bs ≡ survivor b xs → FirstIn sh bs b xs) → FirstIn sh (c ∷ bs) b xs
@@ -103,7 +103,7 @@ first-of sh (c ∷ bs) b xs a m p e h =
     at (over cleared q) eb =
         let w : compareOf sh c ≡ none = cleared (rw (← eb) p) in
         let w′ : compareOf sh c ≡ some xs = rw (← eb) e in
-        let z : _≡_ {A = ℕ} 0 1 = cc in absurd (omega arith)
+        never (cc)
     at (here ys pc ec q) eb =
         let w : compareOf sh c ≡ some xs = rw (← eb) e in
         let ey : ys ≡ xs = cc in
@@ -113,7 +113,7 @@ first-of sh (c ∷ bs) b xs a m p e h =
     later (over cleared q) t ih = q ∙ ih
     later (here ys pc ec q) t ih =
         let w : compareOf sh c ≡ none = h c (List·Memᴰ·head refl) (all-mem (Before c) bs b (a .0) t) pc in
-        let z : _≡_ {A = ℕ} 0 1 = cc in absurd (omega arith)
+        never (cc)
 
 -- judge says complete where every mutant that passes conforms, as compare tells
 pub judge-none : (sh : Sheet) → ((b : List ℕ) → IsMutant sh b → Passes sh b → compareOf sh b ≡ none) → judgeOf sh ≡ complete

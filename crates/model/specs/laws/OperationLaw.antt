@@ -11,6 +11,7 @@ use lib.Dec.{ltb}
 use lib.ListN.{length, getD}
 use Rattle.sheet.specs.Sheet.{Sheet}
 use Rattle.sheet.specs.Reading.{Result, refused}
+use Rattle.sheet.specs.laws.Basics.{never}
 use Rattle.model.specs.Mutant.{slots, later, InRange, IsMutant}
 use Rattle.model.specs.Operations.{firstHigh, firstOver, withMutant}
 
@@ -48,8 +49,8 @@ pub record FirstHigh (cs b : List ℕ) (i : ℕ) : Type 0 where
 -- the lowest index of a choice that is too high
 pub high-first : (cs b : List ℕ) (i : ℕ) → firstHigh cs b ≡ some i → FirstHigh cs b i
 unfolding firstHigh
-high-first [] b i e = let z : _≡_ {A = ℕ} 0 1 = cc in absurd (omega arith)
-high-first (c ∷ cs) [] i e = let z : _≡_ {A = ℕ} 0 1 = cc in absurd (omega arith)
+high-first [] b i e = never (cc)
+high-first (c ∷ cs) [] i e = never (cc)
 high-first (c ∷ cs) (a ∷ b) i e = go (ltb a c) refl (firstHigh cs b) (λ j. high-first cs b j) e
   where
     then : (k : ℕ) → a < c → ((j : ℕ) → j < k → getD b j 0 < getD cs j 0) → (j : ℕ) → j < suc k → getD (a ∷ b) j 0 < getD (c ∷ cs) j 0
@@ -58,7 +59,7 @@ high-first (c ∷ cs) (a ∷ b) i e = go (ltb a c) refl (firstHigh cs b) (λ j. 
 
     go : (t : Bool) → ltb a c ≡ t → (o : Option ℕ) → ((j : ℕ) → o ≡ some j → FirstHigh cs b j) → cond t (later o) (some zero) ≡ some i →
         FirstHigh (c ∷ cs) (a ∷ b) i
-    go true et none ih h = let z : _≡_ {A = ℕ} 0 1 = cc in absurd (omega arith)
+    go true et none ih h = never (cc)
     go true et (some j) ih h =
         let z : suc j ≡ i = cc in
         let f = ih j refl in
@@ -96,8 +97,8 @@ high-none (c ∷ cs) (a ∷ b) e h = go (ltb a c) refl (firstHigh cs b) (high-no
   where
     go : (t : Bool) → ltb a c ≡ t → (o : Option ℕ) → (o ≡ none → InRange cs b) → cond t (later o) (some zero) ≡ none → (a < c) × InRange cs b
     go true et none ih h′ = (ltb-true a c et, ih refl)
-    go true et (some j) ih h′ = let z : _≡_ {A = ℕ} 0 1 = cc in absurd (omega arith)
-    go false et o ih h′ = let z : _≡_ {A = ℕ} 0 1 = cc in absurd (omega arith)
+    go true et (some j) ih h′ = never (cc)
+    go false et o ih h′ = never (cc)
 
 -- each choice is below its number: none is too high
 pub none-high : (cs b : List ℕ) → InRange cs b → firstHigh cs b ≡ none
@@ -115,7 +116,7 @@ pub record FirstOver (k : ℕ) (xs : List ℕ) (i : ℕ) : Type 0 where
 -- the lowest index of an input that is not below k
 pub over-first : (k : ℕ) (xs : List ℕ) (i : ℕ) → firstOver k xs ≡ some i → FirstOver k xs i
 unfolding firstOver
-over-first k [] i e = let z : _≡_ {A = ℕ} 0 1 = cc in absurd (omega arith)
+over-first k [] i e = never (cc)
 over-first k (x ∷ xs) i e = go (ltb x k) refl (firstOver k xs) (λ j. over-first k xs j) e
   where
     then : (n : ℕ) → x < k → ((j : ℕ) → j < n → getD xs j 0 < k) → (j : ℕ) → j < suc n → getD (x ∷ xs) j 0 < k
@@ -124,7 +125,7 @@ over-first k (x ∷ xs) i e = go (ltb x k) refl (firstOver k xs) (λ j. over-fir
 
     go : (t : Bool) → ltb x k ≡ t → (o : Option ℕ) → ((j : ℕ) → o ≡ some j → FirstOver k xs j) → cond t (later o) (some zero) ≡ some i →
         FirstOver k (x ∷ xs) i
-    go true et none ih h = let z : _≡_ {A = ℕ} 0 1 = cc in absurd (omega arith)
+    go true et none ih h = never (cc)
     go true et (some j) ih h =
         let z : suc j ≡ i = cc in
         let f = ih j refl in
@@ -155,8 +156,8 @@ over-none k (x ∷ xs) e j l = go (ltb x k) refl (firstOver k xs) (over-none k x
         cond t (later o) (some zero) ≡ none → (i : ℕ) → i < suc (length xs) → getD (x ∷ xs) i 0 < k
     go true et none ih h zero m = ltb-true x k et
     go true et none ih h (suc i) m = ih refl i (le-of-suc-le-suc m)
-    go true et (some n) ih h i m = let z : _≡_ {A = ℕ} 0 1 = cc in absurd (omega arith)
-    go false et o ih h i m = let z : _≡_ {A = ℕ} 0 1 = cc in absurd (omega arith)
+    go true et (some n) ih h i m = never (cc)
+    go false et o ih h i m = never (cc)
 
 -- each input is below k: none is over
 pub none-over : (k : ℕ) (xs : List ℕ) → ((j : ℕ) → j < length xs → getD xs j 0 < k) → firstOver k xs ≡ none

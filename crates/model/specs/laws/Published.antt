@@ -1,12 +1,12 @@
 -- The machines here are 000's: their runs are traces, conforming is quasi-equivalence, and a run is the response after one reset.
 use Prim.Native.Nat.{ℕ, suc}
-use native.Mathlib.Omega.{arith}
 use mathlib.Core.Path.{_≡_, refl, ap}
 use mathlib.Core.Option.{Option, none, some}
 use mathlib.Core.List.{List, [], _∷_, _++_, map}
 use lib.ListN.{length, replicate}
 use Rattle.sheet.specs.Lists.{maybe}
 use Rattle.sheet.specs.Sheet.{Sheet}
+use Rattle.sheet.specs.laws.Basics.{never}
 use Rattle.model.specs.Machine.{Move, prepend, outputsFrom, specifiedFrom, ConformingFrom}
 use Rattle.model.specs.Mutant.{rule, step, initial, outputs, specified, Conforming}
 use Rattle.model.specs.Implementation.{reset, input, respondFrom, respond, requiredFrom, required}
@@ -32,7 +32,7 @@ module _ (rule : ℕ → ℕ → Option Move) where
   pub specified-trace : (s : ℕ) (xs os : List ℕ) → specifiedFrom rule s xs ≡ some os → TraceFrom (specification rule) s xs os
   unfolding TraceFrom specifiedFrom
   specified-trace s [] [] e = tt
-  specified-trace s [] (o ∷ os) e = let z : _≡_ {A = ℕ} 0 1 = cc in absurd (omega arith)
+  specified-trace s [] (o ∷ os) e = never (cc)
   specified-trace s (x ∷ xs) os e =
       let f = specified-uncons rule s x xs os e in
       rw (f .is) (f .move .target, f .ruled, specified-trace (f .move .target) xs (f .rest) (f .specifies))
@@ -61,7 +61,7 @@ module _ (rule : ℕ → ℕ → Option Move) where
     where
       unruled : (o : Option Move) → maybe o none (λ r. prepend (r .output) (some [])) ≡ none → o ≡ none
       unruled none h = refl
-      unruled (some r) h = let z : _≡_ {A = ℕ} 0 1 = cc in absurd (omega arith)
+      unruled (some r) h = never (cc)
   required-undefined s (y ∷ xs) x ys os e n =
       let f = specified-uncons rule s y xs os e in
       let h : maybe (rule s y) none (λ r. prepend (r .output) (specifiedFrom rule (r .target) (xs ++ x ∷ []))) ≡ none = n in
@@ -71,7 +71,7 @@ module _ (rule : ℕ → ℕ → Option Move) where
     where
       unprepend : (o : ℕ) (w : Option (List ℕ)) → prepend o w ≡ none → w ≡ none
       unprepend o none h = refl
-      unprepend o (some w) h = let z : _≡_ {A = ℕ} 0 1 = cc in absurd (omega arith)
+      unprepend o (some w) h = never (cc)
 
   -- every sequence is defined, or has a longest defined part
   defined-or : (s : ℕ) (xs : List ℕ) → DefinedOr (specifiedFrom rule s) xs

@@ -13,6 +13,7 @@ use Rattle.sheet.specs.declared.Row.{Row}
 use Rattle.sheet.specs.Lists.{maybe, All}
 use Rattle.sheet.specs.Sheet.{Sheet, ruleAt, after}
 use Rattle.sheet.specs.WellFormed.{TestIn, WellFormed}
+use Rattle.sheet.specs.laws.Basics.{never}
 use Rattle.model.specs.Machine.{Move, prepend, outputsFrom, specifiedFrom}
 use Rattle.model.specs.Mutant.{moveOf, rule, later, initial, step, outputs, specified}
 use Rattle.model.specs.Suite.{firstWrong, wrongIn, Place, laterTest, firstFailedIn, firstFailedOf, Passes}
@@ -41,12 +42,12 @@ specified-uncons rule s x xs os e = go (rule s x) refl e
   where
     more : (r : Move) → rule s x ≡ some r → (w : Option (List ℕ)) → specifiedFrom rule (r .target) xs ≡ w → prepend (r .output) w ≡ some os →
         Following rule s x xs os
-    more r er none ew h = let z : _≡_ {A = ℕ} 0 1 = cc in absurd (omega arith)
+    more r er none ew h = never (cc)
     more r er (some rest) ew h = let z : os ≡ r .output ∷ rest = cc in record { move = r; ruled = er; rest = rest; specifies = ew; is = z }
 
     go : (o : Option Move) → rule s x ≡ o → maybe o none (λ r. prepend (r .output) (specifiedFrom rule (r .target) xs)) ≡ some os →
         Following rule s x xs os
-    go none er h = let z : _≡_ {A = ℕ} 0 1 = cc in absurd (omega arith)
+    go none er h = never (cc)
     go (some r) er h = more r er (specifiedFrom rule (r .target) xs) refl h
 
 -- and put together
@@ -72,7 +73,7 @@ after-specified sh s t (x ∷ xs) e = go (ruleAt (sh .rules) s x) (λ s′. afte
     go : (o : Option Row) → ((s′ : ℕ) → after (sh .rules) s′ xs ≡ some t → (os : List ℕ) × (specifiedFrom (rule sh) s′ xs ≡ some os)) →
         maybe o none (λ r. after (sh .rules) (r .target) xs) ≡ some t →
         (os : List ℕ) × (maybe (maybe o none (λ r. some (moveOf r))) none (λ m. prepend (m .output) (specifiedFrom (rule sh) (m .target) xs)) ≡ some os)
-    go none h e′ = let z : _≡_ {A = ℕ} 0 1 = cc in absurd (omega arith)
+    go none h e′ = never (cc)
     go (some r) h e′ = let w = h (r .target) e′ in (r .output ∷ w .0, rw (w .1) refl)
 
 -- a sequence with specified outputs, one for each input
@@ -101,8 +102,8 @@ none-wrong (r ∷ rs) (o ∷ os) l e = go (eqb r o) refl (firstWrong rs os) (non
   where
     go : (b : Bool) → eqb r o ≡ b → (w : Option ℕ) → (w ≡ none → rs ≡ os) → cond b (later w) (some zero) ≡ none → r ∷ rs ≡ o ∷ os
     go true eb none h e′ = let a : r ≡ o = eqb-true r o eb in let c : rs ≡ os = h refl in cc
-    go true eb (some i) h e′ = let z : _≡_ {A = ℕ} 0 1 = cc in absurd (omega arith)
-    go false eb w h e′ = let z : _≡_ {A = ℕ} 0 1 = cc in absurd (omega arith)
+    go true eb (some i) h e′ = never (cc)
+    go false eb w h e′ = never (cc)
 
 -- the same outputs: none is wrong
 pub same-right : (os : List ℕ) → firstWrong os os ≡ none
@@ -118,13 +119,13 @@ pub record Differ (rs os : List ℕ) (i : ℕ) : Type 0 where
 
 first-wrong : (rs os : List ℕ) (i : ℕ) → length rs ≡ length os → firstWrong rs os ≡ some i → Differ rs os i
 unfolding firstWrong
-first-wrong [] os i l e = let z : _≡_ {A = ℕ} 0 1 = cc in absurd (omega arith)
+first-wrong [] os i l e = never (cc)
 first-wrong (r ∷ rs) [] i l e = absurd (omega arith)
 first-wrong (r ∷ rs) (o ∷ os) i l e = go (eqb r o) refl (firstWrong rs os) (λ j. first-wrong rs os j (omega arith)) e
   where
     go : (b : Bool) → eqb r o ≡ b → (w : Option ℕ) → ((j : ℕ) → w ≡ some j → Differ rs os j) → cond b (later w) (some zero) ≡ some i →
         Differ (r ∷ rs) (o ∷ os) i
-    go true eb none h e′ = let z : _≡_ {A = ℕ} 0 1 = cc in absurd (omega arith)
+    go true eb none h e′ = never (cc)
     go true eb (some j) h e′ =
         let z : suc j ≡ i = cc in
         let t = h j refl in

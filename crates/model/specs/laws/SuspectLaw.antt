@@ -10,6 +10,7 @@ use lib.Dec.{eqb}
 use lib.ListN.{length, getD, length-append, length-map}
 use Rattle.sheet.specs.Lists.{All, count, upTo, joined}
 use Rattle.sheet.specs.Sheet.{Sheet, choicesAt, isOpen, openBelow, openPairs}
+use Rattle.sheet.specs.laws.Basics.{never}
 use Rattle.model.specs.Mutant.{Suspect, keepOpen, suspects, slots, later, siteIn, siteOf}
 use Rattle.model.specs.laws.Basics.{clash, all-imp, all-append, all-joined, upTo-below}
 use Rattle.model.specs.laws.ListLaw.{joined-split, length-joined-snoc, getD-map-below, all-at-index}
@@ -97,14 +98,14 @@ suspects-are sh =
 pub site-in : (us : List Suspect) (s x i : ℕ) (d : Suspect) → siteIn us s x ≡ some i →
     (i < length us) × (getD us i d ≡ record { state = s; input = x })
 unfolding siteIn
-site-in [] s x i d e = let z : _≡_ {A = ℕ} 0 1 = cc in absurd (omega arith)
+site-in [] s x i d e = never (cc)
 site-in (u ∷ us) s x i d e = go (eqb (u .state) s) refl (eqb (u .input) x) refl (siteIn us s x) (λ j. site-in us s x j d) e
   where
     Found : List Suspect → ℕ → Type 0
     Found vs j = (j < length vs) × (getD vs j d ≡ record { state = s; input = x })
 
     next : (o : Option ℕ) → ((j : ℕ) → o ≡ some j → Found us j) → later o ≡ some i → Found (u ∷ us) i
-    next none h e′ = let z : _≡_ {A = ℕ} 0 1 = cc in absurd (omega arith)
+    next none h e′ = never (cc)
     next (some j) h e′ = let z : suc j ≡ i = cc in rw (← z) (suc-le-suc (h j refl .0), h j refl .1)
 
     go : (b : Bool) → eqb (u .state) s ≡ b → (c : Bool) → eqb (u .input) x ≡ c → (o : Option ℕ) → ((j : ℕ) → o ≡ some j → Found us j) →

@@ -13,7 +13,7 @@ use Rattle.sheet.specs.Lists.{isNone, first, upTo, All, Ascending, Befor
 use Rattle.sheet.specs.Sheet.{Sheet, rowOf, isAt, rowsAt}
 use Rattle.sheet.specs.WellFormed.{WellFormed}
 use Rattle.sheet.specs.Tables.{table, firstAt, firstFault, noRow}
-use Rattle.sheet.specs.laws.Basics.{both}
+use Rattle.sheet.specs.laws.Basics.{both, never}
 
 map-length : {A : Type 0} (f : A → ℕ) (l : List A) → length (map f l) ≡ length l
 map-length f [] = refl
@@ -82,7 +82,7 @@ module _ (s x : ℕ) where
   past-next r q a (inr (e, inr k)) b =
       let t = both (eqb (r .source) s) (eqb (r .input) x) a in
       let same : isAt q s x ≡ true = simp (eq-eqb (q .source) s (sym e ∙ eqb-true (r .source) s (t .0)), eq-eqb (q .input) x (sym (k .0) ∙ eqb-true (r .input) x (t .1))) in
-      let z : _≡_ {A = ℕ} 0 1 = cc in absurd (omega arith)
+      never (cc)
 
   none-past : (q : Row) → Past q → (l : List Row) → All (λ r. Before (rowOf q) (rowOf r)) l → rowsAt l s x ≡ []
   unfolding rowsAt

@@ -110,8 +110,7 @@ unfolding tables moveIn
 loop-again c =
     let at-first-showing = c .before .before .before .before in
     let at-loop = at-first-showing .before .before in
-    let place = at-loop .before .before in
-    let s = place in
+    let s = at-loop .before .before in
     let a = s .args in
     let l = at-loop .loop in
     let t = found (at-first-showing) in

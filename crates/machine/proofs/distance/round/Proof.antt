@@ -5,6 +5,7 @@ use mathlib.Core.Bool.{false}
 use mathlib.Core.Logic.{⊎-elim}
 use native.Mathlib.Omega.{arith}
 use lib.ListN.{length, length-set, getD}
+use Rattle.sheet.specs.laws.Basics.{never}
 use Rattle.machine.specs.Tables.{tables}
 use Rattle.machine.proofs.MarksLaw.{Done, done-none, done-more, done-same, done-all}
 use Rattle.machine.proofs.distance.round.Statement.{statement}
@@ -54,7 +55,7 @@ loop-again c =
     (λ w. (
       rw (w .1) (simp length-set (l .inv .0)),
       λ start. rw (w .1) (done-more _ _ _ _ _ (l .inv .1 start) _ lt (e start)),
-      λ f. let z : _≡_ {A = ℕ} 0 1 = cc in absurd (omega arith),
+      λ f. never (cc),
     ))
     (λ w. (
       rw (w .1) (l .inv .0),

@@ -42,8 +42,7 @@ element-copy-out-s c = search needs
 cast-s : tie.Need-cast-s
 cast-s c =
     let at-if1 = c .before .before .before .before in
-    let place = at-if1 .before .before in
-    let s = place in
+    let s = at-if1 .before .before in
     let a = s .args in
     omega (arith, s .pre .0 .few-states, next-below (a .n) (a .k) 0 (a .so .now) (a .sn .now) (a .mo .now) (a .mn .now) (a .p) (a .q) (a .x) (s .pre .1 .0) (s .pre .1 .1) (s .pre .1 .2) (s .pre .0) (at-if1 .if1 .left))
 
@@ -56,8 +55,7 @@ small : (c : tie.After-t) →
     (getD (a .sn .now) (a .p * 16 + a .x) 0 < c .before .before .before .before .before .before .before .args .n) × (getD (a .mn .now) (a .q * 16 + a .x) 0 < c .before .before .before .before .before .before .before .args .n)
 small c =
     let at-if1 = c .before .before .before .before .before in
-    let place = at-if1 .before .before in
-    let s = place in
+    let s = at-if1 .before .before in
     let a = s .args in (
       next-below (a .n) (a .k) 0 (a .so .now) (a .sn .now) (a .mo .now) (a .mn .now) (a .p) (a .q) (a .x) (s .pre .1 .0) (s .pre .1 .1) (s .pre .1 .2) (s .pre .0) (at-if1 .if1 .left),
       move-next-below (a .n) (a .k) 0 (a .so .now) (a .sn .now) (a .mo .now) (a .mn .now) (a .p) (a .q) (a .x) (s .pre .1 .0) (s .pre .1 .1) (s .pre .1 .2) (s .pre .0),

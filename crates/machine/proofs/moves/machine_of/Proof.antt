@@ -50,8 +50,7 @@ enum-told-2 c = search needs
 
 fill-requires : tie.Need-fill-requires
 fill-requires c κs =
-    let place = c .before .before .before .before .before .before .before .before .before .before in
-    let at-enum-told2 = place in
+    let at-enum-told2 = c .before .before .before .before .before .before .before .before .before .before in
     let at-blank2 = at-enum-told2 .before .before in
     let at-blank = at-blank2 .before in
     let at-fits2 = at-blank .before in
@@ -67,8 +66,7 @@ fill-requires c κs =
 
 returns-2 : tie.Need-returns-2
 returns-2 c =
-    let place = c .before .before .before .before .before .before .before .before .before .before .before .before .before .before .before in
-    let at-fits2 = place in
+    let at-fits2 = c .before .before .before .before .before .before .before .before .before .before .before .before .before .before .before in
     let at-number = at-fits2 .before .before .before in
     let at-wide2 = at-number .before .before .before in
     let at-wide = at-wide2 .before in

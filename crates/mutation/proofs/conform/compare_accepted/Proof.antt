@@ -57,8 +57,7 @@ initial-requires c κs = search needs
 
 distinguish-requires : tie.Need-distinguish-requires
 distinguish-requires c κs =
-    let place = c .before .before .before .before .before .before .before .before .before in
-    let at-if1 = place in
+    let at-if1 = c .before .before .before .before .before .before .before .before .before in
     let at-bound = at-if1 .before in
     let at-wide = at-bound .before in
     let at-enum-told = at-wide .before in

@@ -35,8 +35,7 @@ initial-requires c κs = search needs
 
 first-failure-requires : tie.Need-first-failure-requires
 first-failure-requires c κs =
-    let place = c .before .before .before .before .before .before .before .before .before in
-    let at-wide2 = place in
+    let at-wide2 = c .before .before .before .before .before .before .before .before .before in
     let at-wide = at-wide2 .before in
     let at-enum-told = at-wide .before in
     let at-machine-of = at-enum-told .before .before in
@@ -47,8 +46,7 @@ first-failure-requires c κs =
 
 returns-2 : tie.Need-returns-2
 returns-2 c =
-    let place = c .before .before .before .before .before .before .before .before .before .before in
-    let at-wide2 = place in
+    let at-wide2 = c .before .before .before .before .before .before .before .before .before .before in
     let at-wide = at-wide2 .before in
     let at-enum-told = at-wide .before in
     let at-machine-of = at-enum-told .before .before in

@@ -107,8 +107,7 @@ wide-requires-3 c κs = tt
 
 add-i : tie.Need-add-i Inv-loop μ-loop
 add-i c =
-    let place = c .before .before .before .before .before .before .before .before .before in
-    let at-loop-test = place in
+    let at-loop-test = c .before .before .before .before .before .before .before .before .before in
     let at-fits = at-loop-test .before .before .before in
     omega (arith, at-fits .fits .count, at-loop-test .loop-test .taken)
 

@@ -52,8 +52,7 @@ same-length-2 c = search needs
 
 returns : tie.Need-returns
 returns c =
-    let place = c .before .before .before .before .before .before .before .before in
-    let at-search = place in
+    let at-search = c .before .before .before .before .before .before .before .before in
     let at-unsettled = at-search .before .before .before .before .before .before in
     (λ sh w. rw (c .enum-told .given .1, at-unsettled .unsettled .ensures) at (at-search .search .ensures .0 sh (rw (at-unsettled .unsettled .ensures) w)), nothing)
 
@@ -65,8 +64,7 @@ same-length-4 c = search needs
 
 returns-2 : tie.Need-returns-2
 returns-2 c =
-    let place = c .before .before .before .before .before .before .before .before .before in
-    let at-search = place in
+    let at-search = c .before .before .before .before .before .before .before .before .before in
     let at-unsettled = at-search .before .before .before .before .before .before in
     (λ sh w. rw (c .before .found .given .1, at-unsettled .unsettled .ensures) at (at-search .search .ensures .0 sh (rw (at-unsettled .unsettled .ensures) w)), first)
 

@@ -1,8 +1,8 @@
 use borrow.Author.Needs.{needs}
 use native.Mathlib.Omega.{arith}
-use mathlib.Core.Path.{_≡_, sym, _∙_}
+use mathlib.Core.Path.{sym, _∙_}
 use borrow.Author.Tests.{eqb-true}
-use Prim.Native.Nat.{ℕ}
+use Rattle.sheet.specs.laws.Basics.{never}
 use Rattle.partial.proofs.Pairs.{listed-at}
 use Rattle.partial.proofs.product.listed.Statement.{statement}
 use Rattle.partial.proofs.product.listed.Tie as tie
@@ -14,7 +14,7 @@ wide-requires : tie.Need-wide-requires
 wide-requires c κs = search needs
 
 returns : tie.Need-returns
-returns c = λ e. absurd (let z : _≡_ {A = ℕ} 0 1 = cc in omega arith)
+returns c = λ e. never (cc)
 
 element-copy-out-wide-2 : tie.Need-element-copy-out-wide-2
 element-copy-out-wide-2 c = search needs

@@ -57,8 +57,7 @@ returns-3 c =
 
 add-t25 : tie.Need-add-t25
 add-t25 c =
-    let place = c .before .before .before .before .before .before .before .before in
-    let at-if2 = place in
+    let at-if2 = c .before .before .before .before .before .before .before .before in
     let entry = at-if2 .before .before .before .before in
     omega (arith, press (entry .pre .2) (at-if2 .if2 .left) .within, entry)
 

@@ -25,14 +25,12 @@ put-all-requires-2 c κs =
 
 put-number-requires-2 : tie.Need-put-number-requires-2
 put-number-requires-2 c κs =
-    let place-2 = c .before .before .before .before .before .before .before .before .before .before .before .before .before .before .before .before in
-    let at-fits = place-2 in
+    let at-fits = c .before .before .before .before .before .before .before .before .before .before .before .before .before .before .before .before in
     omega (arith, byte-digits _ (at-fits .fits .number), place-digits _ (at-fits .fits .place))
 
 put-requires : tie.Need-put-requires
 put-requires c κs =
-    let place-2 = c .before .before .before .before .before .before .before .before .before .before .before .before .before .before .before .before .before .before .before .before in
-    let at-fits = place-2 in
+    let at-fits = c .before .before .before .before .before .before .before .before .before .before .before .before .before .before .before .before .before .before .before .before in
     omega (arith, byte-digits _ (at-fits .fits .number), place-digits _ (at-fits .fits .place))
 
 same-length : tie.Need-same-length

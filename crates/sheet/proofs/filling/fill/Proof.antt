@@ -52,8 +52,7 @@ fill-faults-requires c κs =
 
 count-choices-requires : tie.Need-count-choices-requires
 count-choices-requires c κs =
-    let place = c .before .before .before .before .before .before .before .before .before .before in
-    let entry = place in
+    let entry = c .before .before .before .before .before .before .before .before .before .before in
     let a = entry .args in
     let s = now (a .sheet) in
     let sh = entry .pre .0 in
@@ -63,8 +62,7 @@ count-choices-requires c κs =
 
 fill-tests-requires : tie.Need-fill-tests-requires
 fill-tests-requires c κs =
-    let place = c .before .before .before .before .before .before .before .before .before .before .before .before .before in
-    let entry = place in
+    let entry = c .before .before .before .before .before .before .before .before .before .before .before .before .before in
     let a = entry .args in
     let s = now (a .sheet) in
     let sh = entry .pre .0 in

@@ -3,11 +3,15 @@ use Rattle.sheet.specs.laws.Right.{row-in}
 use mathlib.Core.Path.{_∙_, sym}
 use native.Mathlib.Omega.{arith}
 use borrow.Author.Needs.{needs}
+use borrow.Author.Tests.{not-true, not-false}
 use Rattle.sheet.proofs.rules.add_fault.Statement.{statement}
 use Rattle.sheet.proofs.rules.add_fault.Tie as tie
 
 in-range-requires : tie.Need-in-range-requires
 in-range-requires c κs = search needs
+
+returns : tie.Need-returns
+returns c = λ sh ez ho ht h. fault-outside sh _ _ _ _ ez h (sym (c .before .in-range .ensures) ∙ not-true _ (c .if1 .taken))
 
 cast-p : tie.Need-cast-p
 cast-p c = search needs
@@ -39,69 +43,65 @@ add-key c = search needs
 add-key-2 : tie.Need-add-key-2
 add-key-2 c = search needs
 
+returns-2 : tie.Need-returns-2
+returns-2 c =
+    let at-if1 = c .before .before .before .before .before .before in
+    let at-in-range = at-if1 .before in
+    let entry = at-in-range .before in
+    λ sh ez ho ht h. fault-unordered sh _ _ _ _ ez h (entry .pre .0) (sym (at-in-range .in-range .ensures) ∙ not-false _ (at-if1 .if1 .left)) (c .if2 .taken)
+
 is-other-requires : tie.Need-is-other-requires
 is-other-requires c κs =
     let at-if1 = c .before .before .before .before .before .before in
     let at-in-range = at-if1 .before in
     let entry = at-in-range .before in
-    let a = entry .args in omega (arith, row-in (a .size) (a .row) (sym (at-in-range .in-range .ensures) ∙ at-if1 .if1 .taken))
+    let a = entry .args in omega (arith, row-in (a .size) (a .row) (sym (at-in-range .in-range .ensures) ∙ not-false _ (at-if1 .if1 .left)))
+
+returns-3 : tie.Need-returns-3
+returns-3 c =
+    let at-if1 = c .before .before .before .before .before .before .before .before in
+    let at-in-range = at-if1 .before in
+    let entry = at-in-range .before in
+    λ sh ez ho ht h. fault-same sh _ _ _ _ ez h (entry .pre .0) (sym (at-in-range .in-range .ensures) ∙ not-false _ (at-if1 .if1 .left)) (c .before .before .if2 .left) (sym (c .before .is-other .ensures _ ho ht) ∙ not-true _ (c .if3 .taken))
+
+returns-4 : tie.Need-returns-4
+returns-4 c =
+    let at-is-other = c .before .before .before in
+    let at-if2 = at-is-other .before in
+    let at-if1 = at-if2 .before .before .before .before .before .before in
+    let at-in-range = at-if1 .before in
+    let entry = at-in-range .before in
+    λ sh ez ho ht h. fault-many sh _ _ _ _ ez h (entry .pre .0) (sym (at-in-range .in-range .ensures) ∙ not-false _ (at-if1 .if1 .left)) (at-if2 .if2 .left) (sym (at-is-other .is-other .ensures _ ho ht) ∙ not-false _ (c .before .before .if3 .left)) (c .if4 .taken)
 
 element-write-faulty : tie.Need-element-write-faulty
 element-write-faulty c =
-    let place = c .before .before .before .before .before .before .before .before .before .before in
-    let at-if1 = place in
+    let at-if1 = c .before .before .before .before .before .before .before .before .before .before in
     let at-in-range = at-if1 .before in
     let entry = at-in-range .before in
-    let a = entry .args in omega (arith, row-in (a .size) (a .row) (sym (at-in-range .in-range .ensures) ∙ at-if1 .if1 .taken))
+    let a = entry .args in omega (arith, row-in (a .size) (a .row) (sym (at-in-range .in-range .ensures) ∙ not-false _ (at-if1 .if1 .left)))
 
-add-t24 : tie.Need-add-t24
-add-t24 c = search needs
+add-t15 : tie.Need-add-t15
+add-t15 c = search needs
 
-add-t25 : tie.Need-add-t25
-add-t25 c = search needs
+add-t14 : tie.Need-add-t14
+add-t14 c = search needs
 
-returns : tie.Need-returns
-returns c =
+returns-5 : tie.Need-returns-5
+returns-5 c =
     let at-if3 = c .before .before .before in
     let at-is-other = at-if3 .before in
     let at-if2 = at-is-other .before in
     let at-if1 = at-if2 .before .before .before .before .before .before in
     let at-in-range = at-if1 .before in
     let entry = at-in-range .before in
-    λ sh ez ho ht h. fault-taken sh _ _ _ _ ez h (entry .pre .0) (sym (at-in-range .in-range .ensures) ∙ at-if1 .if1 .taken) (at-if2 .if2 .taken) (sym (at-is-other .is-other .ensures _ ho ht) ∙ at-if3 .if3 .taken) (c .before .if4 .taken)
-
-returns-2 : tie.Need-returns-2
-returns-2 c =
-    let at-is-other = c .before .before .before in
-    let at-if2 = at-is-other .before in
-    let at-if1 = at-if2 .before .before .before .before .before .before in
-    let at-in-range = at-if1 .before in
-    let entry = at-in-range .before in
-    λ sh ez ho ht h. fault-many sh _ _ _ _ ez h (entry .pre .0) (sym (at-in-range .in-range .ensures) ∙ at-if1 .if1 .taken) (at-if2 .if2 .taken) (sym (at-is-other .is-other .ensures _ ho ht) ∙ c .before .before .if3 .taken) (c .if4 .left)
-
-returns-3 : tie.Need-returns-3
-returns-3 c =
-    let place = c .before .before .before .before .before .before .before .before in
-    let at-if1 = place in
-    let at-in-range = at-if1 .before in
-    let entry = at-in-range .before in
-    λ sh ez ho ht h. fault-same sh _ _ _ _ ez h (entry .pre .0) (sym (at-in-range .in-range .ensures) ∙ at-if1 .if1 .taken) (c .before .before .if2 .taken) (sym (c .before .is-other .ensures _ ho ht) ∙ c .if3 .left)
-
-returns-4 : tie.Need-returns-4
-returns-4 c =
-    let at-if1 = c .before .before .before .before .before .before in
-    let at-in-range = at-if1 .before in
-    let entry = at-in-range .before in
-    λ sh ez ho ht h. fault-unordered sh _ _ _ _ ez h (entry .pre .0) (sym (at-in-range .in-range .ensures) ∙ at-if1 .if1 .taken) (c .if2 .left)
-
-returns-5 : tie.Need-returns-5
-returns-5 c = λ sh ez ho ht h. fault-outside sh _ _ _ _ ez h (sym (c .before .in-range .ensures) ∙ c .if1 .left)
+    λ sh ez ho ht h. fault-taken sh _ _ _ _ ez h (entry .pre .0) (sym (at-in-range .in-range .ensures) ∙ not-false _ (at-if1 .if1 .left)) (at-if2 .if2 .left) (sym (at-is-other .is-other .ensures _ ho ht) ∙ not-false _ (at-if3 .if3 .left)) (c .before .if4 .left)
 
 pub add-fault-spec : {M : Type 1} → statement M
 add-fault-spec =
     tie.close
     (tie.spec
     in-range-requires
+    returns
     cast-p
     mul-p
     cast-p-2
@@ -112,12 +112,11 @@ add-fault-spec =
     cast-key-2
     add-key
     add-key-2
-    is-other-requires
-    element-write-faulty
-    add-t24
-    add-t25
-    returns
     returns-2
+    is-other-requires
     returns-3
     returns-4
+    element-write-faulty
+    add-t15
+    add-t14
     returns-5)

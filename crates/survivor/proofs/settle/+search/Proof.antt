@@ -51,8 +51,7 @@ search-μ-loop block bytes sets₀ values₀ notes₀ i n board₀ sequence₀ p
 
 search-no-survivor-requires : (t : ℕ) → search-lts.Need-no-survivor-requires (cs t) (search-at t) search′.Post search-Inv-loop search-μ-loop
 search-no-survivor-requires t c κs =
-    let place = c .before .before .before .before .before .before .before .before in
-    let entry = place in
+    let entry = c .before .before .before .before .before .before .before .before in
     let a = asked (entry .pre .1 .0 .1) in (a .0, a .1, a .2, a .3, entry .pre .1 .1 .0)
 
 search-same-length : (t : ℕ) → search-lts.Need-same-length (cs t) (search-at t) search′.Post search-Inv-loop search-μ-loop
@@ -161,8 +160,7 @@ search-enum-told t c = search needs
 
 search-add-c : (t : ℕ) → search-lts.Need-add-c (cs t) (search-at t) search′.Post search-Inv-loop search-μ-loop
 search-add-c t c =
-    let place = c .before .before .before .before .before .before .before .before .before .before .before .before .before .before .before .before in
-    let at-loop-test = place in
+    let at-loop-test = c .before .before .before .before .before .before .before .before .before .before .before .before .before .before .before .before in
     let at-choices = at-loop-test .before .before in
     let at-if2 = at-choices .before .before in
     let entry = at-if2 .before .before .before .before .before .before .before .before .before .before .before .before .before .before .before in
@@ -176,8 +174,7 @@ search-loop-less t c =
 
 search-loop-again : (t : ℕ) → search-lts.Need-loop-again (cs t) (search-at t) search′.Post search-Inv-loop search-μ-loop
 search-loop-again t c =
-    let place = c .before .before .before .before .before .before .before .before .before .before in
-    let at-search = place in
+    let at-search = c .before .before .before .before .before .before .before .before .before .before in
     let at-loop-test = at-search .before .before .before .before .before .before in
     let at-loop = at-loop-test .before in
     let at-choices = at-loop .before in
@@ -199,38 +196,33 @@ search-enum-known-found t c = search needs
 
 search-same-length-9 : (t : ℕ) → search-lts.Need-same-length-9 (cs t) (search-at t) search′.Post search-Inv-loop search-μ-loop
 search-same-length-9 t c =
-    let place = c .before .before .before .before .before .before .before .before .before .before .before in
-    let at-search = place in
+    let at-search = c .before .before .before .before .before .before .before .before .before .before .before in
     let at-loop = at-search .before .before .before .before .before .before .before in
     let at-no-survivor = at-loop .before .before .before .before .before .before .before .before .before in
     at-search .search .kept .1 .1 .0 ∙ at-loop .loop .inv .same-sets ∙ at-no-survivor .no-survivor .kept .1 .1 .0
 
 search-same-length-10 : (t : ℕ) → search-lts.Need-same-length-10 (cs t) (search-at t) search′.Post search-Inv-loop search-μ-loop
 search-same-length-10 t c =
-    let place = c .before .before .before .before .before .before .before .before .before .before .before in
-    let at-search = place in
+    let at-search = c .before .before .before .before .before .before .before .before .before .before .before in
     let at-loop = at-search .before .before .before .before .before .before .before in
     let at-no-survivor = at-loop .before .before .before .before .before .before .before .before .before in
     at-search .search .kept .1 .1 .1 .0 ∙ at-loop .loop .inv .same-values ∙ at-no-survivor .no-survivor .kept .1 .1 .1 .0
 
 search-same-length-11 : (t : ℕ) → search-lts.Need-same-length-11 (cs t) (search-at t) search′.Post search-Inv-loop search-μ-loop
 search-same-length-11 t c =
-    let place = c .before .before .before .before .before .before .before .before .before .before .before in
-    let at-search = place in
+    let at-search = c .before .before .before .before .before .before .before .before .before .before .before in
     let at-loop = at-search .before .before .before .before .before .before .before in
     at-search .search .kept .1 .1 .1 .1 .1 .1 .1 .1 .0 ∙ ap length (at-loop .loop .inv .kept .board)
 
 search-same-length-12 : (t : ℕ) → search-lts.Need-same-length-12 (cs t) (search-at t) search′.Post search-Inv-loop search-μ-loop
 search-same-length-12 t c =
-    let place = c .before .before .before .before .before .before .before .before .before .before .before in
-    let at-search = place in
+    let at-search = c .before .before .before .before .before .before .before .before .before .before .before in
     let at-loop = at-search .before .before .before .before .before .before .before in
     at-search .search .kept .1 .1 .1 .1 .1 .1 .1 .1 .1 .0 ∙ ap length (at-loop .loop .inv .kept .sequence)
 
 search-returns-4 : (t : ℕ) → search-lts.Need-returns-4 (cs t) (search-at t) search′.Post search-Inv-loop search-μ-loop
 search-returns-4 t c =
-    let place = c .before .before .before .before .before .before .before .before .before .before .before in
-    let at-search = place in
+    let at-search = c .before .before .before .before .before .before .before .before .before .before .before in
     let at-loop-test = at-search .before .before .before .before .before .before in
     let at-loop = at-loop-test .before in
     let at-choices = at-loop .before in
@@ -243,38 +235,33 @@ search-enum-told-2 t c = search needs
 
 search-same-length-13 : (t : ℕ) → search-lts.Need-same-length-13 (cs t) (search-at t) search′.Post search-Inv-loop search-μ-loop
 search-same-length-13 t c =
-    let place = c .before .before .before .before .before .before .before .before .before .before in
-    let at-search = place in
+    let at-search = c .before .before .before .before .before .before .before .before .before .before in
     let at-loop = at-search .before .before .before .before .before .before .before in
     let at-no-survivor = at-loop .before .before .before .before .before .before .before .before .before in
     at-search .search .kept .1 .1 .0 ∙ at-loop .loop .inv .same-sets ∙ at-no-survivor .no-survivor .kept .1 .1 .0
 
 search-same-length-14 : (t : ℕ) → search-lts.Need-same-length-14 (cs t) (search-at t) search′.Post search-Inv-loop search-μ-loop
 search-same-length-14 t c =
-    let place = c .before .before .before .before .before .before .before .before .before .before in
-    let at-search = place in
+    let at-search = c .before .before .before .before .before .before .before .before .before .before in
     let at-loop = at-search .before .before .before .before .before .before .before in
     let at-no-survivor = at-loop .before .before .before .before .before .before .before .before .before in
     at-search .search .kept .1 .1 .1 .0 ∙ at-loop .loop .inv .same-values ∙ at-no-survivor .no-survivor .kept .1 .1 .1 .0
 
 search-same-length-15 : (t : ℕ) → search-lts.Need-same-length-15 (cs t) (search-at t) search′.Post search-Inv-loop search-μ-loop
 search-same-length-15 t c =
-    let place = c .before .before .before .before .before .before .before .before .before .before in
-    let at-search = place in
+    let at-search = c .before .before .before .before .before .before .before .before .before .before in
     let at-loop = at-search .before .before .before .before .before .before .before in
     at-search .search .kept .1 .1 .1 .1 .1 .1 .1 .1 .0 ∙ ap length (at-loop .loop .inv .kept .board)
 
 search-same-length-16 : (t : ℕ) → search-lts.Need-same-length-16 (cs t) (search-at t) search′.Post search-Inv-loop search-μ-loop
 search-same-length-16 t c =
-    let place = c .before .before .before .before .before .before .before .before .before .before in
-    let at-search = place in
+    let at-search = c .before .before .before .before .before .before .before .before .before .before in
     let at-loop = at-search .before .before .before .before .before .before .before in
     at-search .search .kept .1 .1 .1 .1 .1 .1 .1 .1 .1 .0 ∙ ap length (at-loop .loop .inv .kept .sequence)
 
 search-returns-5 : (t : ℕ) → search-lts.Need-returns-5 (cs t) (search-at t) search′.Post search-Inv-loop search-μ-loop
 search-returns-5 t c =
-    let place = c .before .before .before .before .before .before .before .before .before .before in
-    let at-search = place in
+    let at-search = c .before .before .before .before .before .before .before .before .before .before in
     let at-loop-test = at-search .before .before .before .before .before .before in
     let at-loop = at-loop-test .before in
     let at-choices = at-loop .before in

@@ -74,15 +74,13 @@ element-copy-out-q c = omega (arith, c .before .before .before .before .slot-at2
 
 add-at-2 : tie.Need-add-at-2 Inv-loop μ-loop
 add-at-2 c =
-    let place-2 = c .before .before .before .before .before .before .before .before .before .before in
-    let at-loop-test = place-2 in
+    let at-loop-test = c .before .before .before .before .before .before .before .before .before .before in
     let place = at-loop-test .before .before .before in
     omega (arith, at-loop-test .loop-test .taken, place)
 
 loop-less-2 : tie.Need-loop-less-2 Inv-loop μ-loop
 loop-less-2 c =
-    let place-2 = c .before .before .before .before .before .before .before .before .before .before in
-    let at-loop-test = place-2 in
+    let at-loop-test = c .before .before .before .before .before .before .before .before .before .before in
     let place = at-loop-test .before .before .before in
     omega (arith, at-loop-test .loop-test .taken, place)
 

@@ -68,8 +68,7 @@ enum-known-length c = search needs
 
 write-choices-requires : tie.Need-write-choices-requires
 write-choices-requires c κs =
-    let place = c .before .before .before .before .before .before .before .before .before .before .before .before .before .before .before .before .before .before .before .before .before .before .before .before .before .before .before .before .before .before .before .before .before .before in
-    let entry = place in
+    let entry = c .before .before .before .before .before .before .before .before .before .before .before .before .before .before .before .before .before .before .before .before .before .before .before .before .before .before .before .before .before .before .before .before .before .before in
     let b = choice-bytes (entry .pre .0 .1) in (b .0, b .1, entry .pre .1 .choices, b .2)
 
 enum-told : tie.Need-enum-told
