@@ -1,6 +1,6 @@
 // Notes that steer the search. Nothing is promised of what they say: they decide what is tried, not what is answered.
 use partial::block::wide;
-use partial::block::wide32;
+ghost use mathlib.Core.Path.{_≡_};
 ghost use Prim.Native.Nat.{_≤_, _<_};
 
 // How many nodes were looked at.
@@ -25,6 +25,12 @@ pub type Notes = [u32; WITNESS + 32];
 
 pub fn fresh_notes() -> Notes {
     [0u32; WITNESS + 32]
+}
+
+fn wide32(x: u32) -> usize
+    ensures { λ r. ⌜ r ≡ x ⌝ }
+{
+    x as usize
 }
 
 // One more, as far as that goes.

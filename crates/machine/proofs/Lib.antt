@@ -5,6 +5,6 @@ mod MarksLaw
 mod FollowLaw
 mod SitesLaw
 mod SuspectSites
-mod MovesLaw
+pub mod MovesLaw
 pub mod Against
 pub mod FitsLaw

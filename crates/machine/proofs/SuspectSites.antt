@@ -16,8 +16,8 @@ use Rattle.sheet.specs.Tables.{byPair}
 use Rattle.sheet.specs.WellFormed.{WellFormed}
 use Rattle.sheet.specs.laws.TablesLaw.{table-at}
 use Rattle.model.specs.Mutant.{Suspect, keepOpen, suspects, slots, siteOf}
-use Rattle.model.specs.laws.ListLaw.{map-append, joined-append, upTo-snoc, length-joined-snoc}
-use Rattle.model.specs.laws.SuspectLaw.{openBefore, slot-count, site-outside, site-number}
+use Rattle.sheet.specs.laws.ListLaw.{map-append, joined-append, upTo-snoc, length-joined-snoc}
+use Rattle.model.specs.laws.SuspectLaw.{at-count, openBefore, slot-count, site-outside, site-number}
 use Rattle.machine.specs.Sites.{openAt, openChoices, Numbered}
 use Rattle.machine.specs.Mutants.{Placed, Sited}
 use Rattle.machine.specs.declared.sites.Sites.{Sites}
@@ -47,15 +47,6 @@ joined-nothing : {B : Type 0} (n : ℕ) → joined {A = ℕ} {B = B} (λ i. []) 
 unfolding joined upTo
 joined-nothing zero = refl
 joined-nothing {B} (suc n) = joined-snoc {B = B} (λ i. []) n ∙ append-nil _ ∙ joined-nothing n
-
-at-count : (sh : Sheet) (s i : ℕ) → length (joined (λ x. keepOpen sh s x) (upTo i)) ≡ count (isOpen sh s) i
-unfolding count joined upTo
-at-count sh s zero = refl
-at-count sh s (suc i) = length-joined-snoc (λ x. keepOpen sh s x) i ∙ ap (λ c. c + length (keepOpen sh s i)) (at-count sh s i) ∙ one-more (isOpen sh s i) (record { state = s; input = i }) (count (isOpen sh s) i)
-  where
-    one-more : (b : Bool) (u : Suspect) (c : ℕ) → c + length (cond b (u ∷ []) []) ≡ cond b (suc c) c
-    one-more true u c = omega arith
-    one-more false u c = omega arith
 
 module _ (sh : Sheet) (wf : WellFormed sh) (choices : List ℕ) (is : choices ≡ byPair (choicesAt sh)) where
   n : ℕ

@@ -1,5 +1,4 @@
 pub mod Basics
-pub mod ListLaw
 pub mod LeastLaw
 pub mod SumLaw
 pub mod Closed

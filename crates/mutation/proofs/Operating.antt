@@ -1,5 +1,5 @@
 -- The operations on an accepted sheet: each way out is a case of what they come to.
-use Prim.Native.Nat.{ℕ, _*_, _≤_, _<_}
+use Prim.Native.Nat.{ℕ, _*_, _/_, _%_, _≤_, _<_}
 use native.Mathlib.Omega.{arith}
 use mathlib.Core.Path.{_≡_, refl, sym, _∙_, ap, subst}
 use mathlib.Core.Option.{Option, none, some}
@@ -12,7 +12,7 @@ use Rattle.sheet.specs.declared.Tables.{Tables}
 use Rattle.sheet.specs.Sheet.{Sheet}
 use Rattle.sheet.specs.Reading.{Result, accepted, refused}
 use Rattle.model.specs.Machine.{outputsFrom}
-use Rattle.model.specs.Mutant.{outputs, step, initial, against, IsMutant}
+use Rattle.model.specs.Mutant.{rule, outputs, step, initial, against, IsMutant}
 use Rattle.model.specs.Compare.{comparePair}
 use Rattle.model.specs.Suite.{firstFailedOf, compareOf}
 use Rattle.model.specs.Operations.{refuseIf, refuseAt, firstOver, withMutant, compareOn, runOn}
@@ -21,7 +21,7 @@ use Rattle.model.specs.laws.OperationLaw.{mutant-goes-on, over-first, over-none
 use Rattle.machine.specs.declared.sites.Fit.the-variants as fit
 use Rattle.machine.specs.declared.moves.Machine.{Machine}
 use Rattle.sheet.specs.Lists.{indexOr}
-use Rattle.machine.specs.Tables.{tables, movesIn, Valid, Total}
+use Rattle.machine.specs.Tables.{ruleIn, tables, movesIn, Valid, Total}
 use Rattle.machine.specs.declared.distance.Difference.{Difference}
 use Rattle.machine.specs.Differences.{differenceOf}
 use Rattle.mutation.specs.declared.Compared.{Compared}
@@ -29,6 +29,7 @@ use Rattle.mutation.specs.Answers.{comparedOf, comparedBy, comparedAnswe
 use Rattle.machine.specs.Mutants.{Moves}
 use Rattle.machine.specs.Fits.{Read, Machined}
 use Rattle.machine.proofs.Against.{moves-step, tables-against, tables-valid, tables-total}
+use Rattle.machine.proofs.MovesLaw.{rule-at}
 use Rattle.machine.proofs.FitsLaw.{fit-refused, fit-mutant, read-states, read-inputs, read-ruled}
 
 -- the tables are the sheet's specification and its mutant
@@ -51,15 +52,17 @@ module _ (sh : Sheet) (size : Summary) (t : Tables) (rd : Read sh size t) (b : L
   prepared e n k start en ek es =
       let ruled = read-ruled sh size t rd n k en ek in
       let moved = subst (λ (d : ℕ). Moves sh b (r .output) (r .target) (16 * d)) (sym (ruled .states)) (is .moves (machine-mutant e)) in
+      let held : (i : ℕ) → i < 16 * n → ruleIn (t .output) (t .target) i ≡ rule sh (i / 16) (i % 16) =
+      λ i l. rule-at sh n k (t .output) (t .target) (t .first) (t .mutated) (t .diverted) ruled i (omega (arith, ruled .states, rd .formed .size .states .few)) in
       record {
         states = ruled .states;
         inputs = ruled .inputs;
         starts = es;
         low = omega (arith, ruled .states, start-below sh b (rd .formed));
-        valid = tables-valid sh b n k (t .output) (t .target) (t .first) (t .mutated) (t .diverted) (r .output) (r .target) ruled moved;
-        total = tables-total sh b n k (t .output) (t .target) (t .first) (t .mutated) (t .diverted) (r .output) (r .target) ruled moved;
-        steps = moves-step sh b n k (t .output) (t .target) (t .first) (t .mutated) (t .diverted) (r .output) (r .target) ruled moved;
-        same = tables-against sh b n k (t .output) (t .target) (t .first) (t .mutated) (t .diverted) (r .output) (r .target) ruled moved start es;
+        valid = tables-valid sh (rd .formed) b n k (ruled .states) (ruled .inputs) (t .output) (t .target) (r .output) (r .target) held moved;
+        total = tables-total sh (rd .formed) b n k (ruled .states) (ruled .inputs) (t .output) (t .target) (r .output) (r .target) held moved;
+        steps = moves-step sh (rd .formed) b n k (ruled .states) (ruled .inputs) (t .output) (t .target) (r .output) (r .target) held moved;
+        same = tables-against sh (rd .formed) b n k (ruled .states) (ruled .inputs) (t .output) (t .target) (r .output) (r .target) held moved start es;
       }
 
   -- 13 and 14

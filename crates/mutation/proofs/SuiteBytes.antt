@@ -21,7 +21,7 @@ use Rattle.sheet.specs.laws.Parts.{before, presses, after, layout, presses-leng
 use Rattle.model.specs.Machine.{Pair}
 use Rattle.model.specs.Mutant.{specified, outputs, against}
 use Rattle.model.specs.Suite.{wrongIn, firstFailedIn, firstFailedOf}
-use Rattle.model.specs.laws.ListLaw.{all-at-index}
+use Rattle.sheet.specs.laws.ListLaw.{all-at-index}
 use Rattle.model.specs.laws.SuiteLaw.{Specified, test-specified}
 use Rattle.mutation.specs.Tests.{wrongFrom, failedFrom, Test, Tests}
 use Rattle.mutation.specs.Operate.{ReadFrom}

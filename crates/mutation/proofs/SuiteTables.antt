@@ -1,5 +1,5 @@
 -- A test on tables: what holds after i inputs whose outputs are right.
-use Prim.Native.Nat.{ℕ, zero, suc, _+_, _*_, _≤_, _<_}
+use Prim.Native.Nat.{ℕ, suc, _+_, _*_, _≤_, _<_}
 use native.Mathlib.Numerals.{add-one}
 use native.Mathlib.Nat.{zero-add}
 use native.Mathlib.Omega.{arith}
@@ -14,7 +14,7 @@ use lib.Seq.{drop-cons}
 use Rattle.model.specs.Machine.{Move, Pair, outputsFrom, specifiedFrom}
 use Rattle.model.specs.Mutant.{later}
 use Rattle.model.specs.Suite.{firstWrong, Place, laterTest}
-use Rattle.model.specs.laws.SuiteLaw.{Following, specified-uncons, specified-length}
+use Rattle.model.specs.laws.SuiteLaw.{Following, specified-uncons, specified-length, first-wrong, outputs-length}
 use Rattle.sheet.specs.Lists.{indexOr}
 use Rattle.machine.specs.Tables.{ruleIn, moveIn, tables, Valid}
 use Rattle.mutation.specs.Tests.{wrongFrom, failedFrom, Test}
@@ -179,17 +179,6 @@ pub index-there : (count i : ℕ) (o : Option ℕ) → i ≡ indexOr count o →
 index-there count i none e l = absurd (omega arith)
 index-there count i (some j) e l = ap (λ (t : ℕ). some t) (sym e)
 
-first-wrong-below : (rs os : List ℕ) (j : ℕ) → firstWrong rs os ≡ some j → j < length rs
-unfolding firstWrong
-first-wrong-below [] os j e = never (cc)
-first-wrong-below (r ∷ rs) [] j e = let z : zero ≡ j = cc in omega arith
-first-wrong-below (r ∷ rs) (o ∷ os) j e = go (eqb r o) (firstWrong rs os) (first-wrong-below rs os) e
-  where
-    go : (b : Bool) (f : Option ℕ) → ((i : ℕ) → f ≡ some i → i < length rs) → cond b (later f) (some zero) ≡ some j → j < suc (length rs)
-    go true none h e′ = never (cc)
-    go true (some i) h e′ = let z : suc i ≡ j = cc in omega (arith, h i refl)
-    go false f h e′ = let z : zero ≡ j = cc in omega arith
-
 -- a test that is found right
 pub test-right : (m : Pair) (sheet : List ℕ) (at count : ℕ) (xs : List ℕ) → Test m sheet at count xs → (w : ℕ) →
     w ≡ indexOr count (wrongFrom m 0 (m .start) xs) → count ≤ w → wrongFrom m 0 (m .start) xs ≡ none
@@ -200,4 +189,6 @@ test-right m sheet at count xs t w e l =
     go : (o : Option ℕ) → firstWrong (t .expected) (outputsFrom (m .move) (m .start) xs) ≡ o → w ≡ indexOr count o → o ≡ none
     go none eo ew = refl
     go (some j) eo ew =
-        absurd (omega (arith, first-wrong-below (t .expected) (outputsFrom (m .move) (m .start) xs) j eo, specified-length (m .rule) 0 xs (t .expected) (t .specifies), t .many))
+        let long = specified-length (m .rule) 0 xs (t .expected) (t .specifies) in
+        let d = first-wrong (t .expected) (outputsFrom (m .move) (m .start) xs) j (long ∙ sym (outputs-length (m .move) (m .start) xs)) eo in
+        absurd (omega (arith, d .reached, t .many))

@@ -16,14 +16,9 @@ use machine::Fit;
 use machine::initial;
 use machine::machine_of;
 use machine::wide;
+use partial::block::wide16;
 use sheet::Summary;
 use sheet::Tables;
-
-fn wide16(x: u16) -> usize
-    ensures { λ r. ⌜ r ≡ x ⌝ }
-{
-    x as usize
-}
 
 // The position of the first wrong output in the test whose PRESS commands start at `at`; its number of inputs where none is
 // wrong.

@@ -12,14 +12,8 @@ pub fn wide(x: u8) -> usize
     x as usize
 }
 
-fn wide16(x: u16) -> usize
+pub fn wide16(x: u16) -> usize
     ensures { λ r. ⌜ (r ≡ x) × (r < 65536) ⌝ }
-{
-    x as usize
-}
-
-pub fn wide32(x: u32) -> usize
-    ensures { λ r. ⌜ r ≡ x ⌝ }
 {
     x as usize
 }
@@ -33,8 +27,8 @@ pub(crate) fn place(s: u8, x: u8) -> usize
 }
 
 // The same, whatever the numbers are.
-pub(crate) fn some_place(s: u8, x: u8) -> usize
-    ensures { λ r. ⌜ r < 256 ⌝ }
+pub fn some_place(s: u8, x: u8) -> usize
+    ensures { λ r. ⌜ (r ≡ pair (s % 16) (x % 16)) × (r < 256) ⌝ }
 {
     ((s % 16) as usize) * 16 + ((x % 16) as usize)
 }

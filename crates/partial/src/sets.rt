@@ -1,4 +1,4 @@
-// A set of suspects, numbers below 32, as the bits of a u32. Nobody else sees a bit.
+// A set of suspects, numbers below 32, as the bits of a u32. No other promise speaks of bits.
 ghost use mathlib.Core.Path.{_≡_};
 ghost use mathlib.Core.Bool.{true, false};
 ghost use Prim.Native.Nat.{ℕ, _<_};

@@ -1,5 +1,5 @@
 -- The tables, as the passes fill them.
-use Prim.Native.Nat.{ℕ, zero, suc, _+_, _*_, _-_, _/_, _%_, _<_, _≤_}
+use Prim.Native.Nat.{ℕ, suc, _+_, _*_, _-_, _/_, _%_, _<_, _≤_}
 use mathlib.Core.Path.{_≡_, refl, ap, sym, _∙_}
 use mathlib.Core.Bool.{Bool, true, false, cond}
 use mathlib.Core.Option.{Option, none, some}
@@ -16,13 +16,14 @@ use Rattle.sheet.specs.declared.Span.{Span}
 use Rattle.sheet.specs.declared.fetch.Item.{Item}
 use Rattle.sheet.specs.declared.fetch.Fetched.{Fetched}
 use Rattle.sheet.specs.declared.fetch.Taken.the-variants.{Whole}
-use Rattle.sheet.specs.Lists.{maybe, isNone, first, All}
+use Rattle.sheet.specs.Lists.{maybe, isNone, first}
 use Rattle.sheet.specs.Sheet.{Sheet, isAt, rowsAt, ruleAt, unruledChoices, choicesAt}
 use Rattle.sheet.specs.Encode.{rowBytes, testBytes}
 use Rattle.sheet.specs.Tables.{table, firstAt, firstFault, noRow}
 use Rattle.sheet.specs.Fetch.{itemAt, fetchAt, itemIn, rowFrom}
 use Rattle.sheet.specs.Held.{Digits, placeOf, pairKey, ByPair, ruleTarget}
 use Rattle.sheet.specs.Places.{TestAt, spanFrom, FaultsFrom, TestsFrom, Table, FaultTables, TestTables, Countable}
+use Rattle.sheet.specs.laws.ListLaw.{all-at-index}
 use Rattle.sheet.specs.laws.TablesLaw.{table-length, table-at, rows-few}
 use Rattle.sheet.proofs.Laws.{If, length-snoc, at-true, rows-new, rows-old, rule-digits, table-set}
 use Rattle.sheet.proofs.PlaceLaws.{fetch-there, TestPlace, place-start, place-found, place-next}
@@ -161,11 +162,6 @@ pub record Filling (s : List ℕ) (l : List Row) (cs fs ms ds : List ℕ) (at i 
 pub filling-start : (s : List ℕ) (place : ℕ) (l : List Row) (cs fs ms ds : List ℕ) → FaultsFrom s place l → FaultTables cs fs ms ds [] → Filling s l cs fs ms ds place 0
 filling-start s place l cs fs ms ds h t = record { rest = h .rest; bytes = h .bytes; tables = t }
 
-all-index : {A : Type 0} (P : A → Type 0) (d : A) (l : List A) (i : ℕ) → All P l → i < length l → P (getD l i d)
-all-index P d [] i h k = absurd (omega arith)
-all-index P d (x ∷ l) zero h k = h .0
-all-index P d (x ∷ l) (suc i) h k = all-index P d l i (h .1) (omega arith)
-
 bytes-at : (s : List ℕ) (at i : ℕ) (l : List ℕ) → drop at s ≡ l → getD s (at + i) 0 ≡ getD l i 0
 bytes-at s at i l e = sym (getD-drop at s i 0) ∙ ap (λ (t : List ℕ). getD t i 0) e
 
@@ -190,7 +186,7 @@ module _ (s : List ℕ) (place : ℕ) (l : List Row) (from : FaultsFrom s place 
     row-fetched f k row ef ek er = er ∙ ap rowFrom (ek ∙ ap (λ (f : Fetched). itemIn (f .taken)) (ef ∙ fetched)) ∙ row-is
 
     pub row-digits : (row : Row) → row ≡ getD l i noRow → Digits row
-    row-digits row e = rw e (all-index Digits noRow l i (from .digits) h)
+    row-digits row e = rw e (all-at-index Digits l i noRow h (from .digits))
 
     pub taken-length : i ≡ length (take i l)
     taken-length = sym (length-take-le i l (omega arith))

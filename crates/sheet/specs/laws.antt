@@ -1,5 +1,6 @@
 -- The laws of the definitions.
 pub mod Basics
+pub mod ListLaw
 pub mod Steps
 pub mod Ordered
 pub mod Encoded

@@ -20,7 +20,7 @@ use Rattle.model.specs.Machine.{Move}
 use Rattle.model.specs.Mutant.{moveOf, rule, transitions, Suspect, suspects, slots, siteOf, IsMutant, idle, step, initial, outputs, specified, against}
 use Rattle.model.specs.Suite.{Passes, compareOf}
 use Rattle.model.specs.laws.Basics.{all-every, all-imp, all-map, all-getD}
-use Rattle.model.specs.laws.ListLaw.{index-all}
+use Rattle.sheet.specs.laws.ListLaw.{index-all}
 use Rattle.model.specs.laws.Closed.{rule-row, rule-in}
 use Rattle.model.specs.laws.JudgeLaw.{some-nonconforming}
 use Rattle.model.specs.laws.SuspectLaw.{slot-count, site-is, site-one}

@@ -2,13 +2,13 @@
 use Prim.Native.Nat.{ℕ, suc, _+_, _-_, _*_, _/_, _%_, _<_, _≤_}
 use native.Mathlib.Decide.{ℕ-discrete}
 use native.Mathlib.Omega.{arith}
-use mathlib.Core.Path.{_≡_, refl, sym, _∙_, ap, subst, fun-ext}
+use mathlib.Core.Path.{_≡_, refl, sym, _∙_, ap, subst}
 use mathlib.Core.Logic.{by-cases}
 use mathlib.Core.Bool.{Bool, true, false, cond, _&&_}
 use mathlib.Core.Option.{Option, none, some}
 use mathlib.Core.List.{List, [], _∷_, _++_, append-assoc}
 use borrow.Author.Count.{below-more}
-use borrow.Author.Tests.{lt-ltb, le-ltb, ltb-true, eq-eqb, ne-eqb}
+use borrow.Author.Tests.{lt-ltb, le-ltb, eq-eqb, ne-eqb}
 use lib.Dec.{eqb, ltb}
 use lib.ListN.{length, getD, take, drop, set, length-append, length-drop}
 use lib.Seq.{take-suc, drop-cons, append-snoc, set-at, length-take-le, getD-take, getD-set-same, getD-set-other}
@@ -17,15 +17,14 @@ use Rattle.sheet.specs.Lists.{maybe, All, overlay}
 use Rattle.sheet.specs.Sheet.{Sheet, ruleAt}
 use Rattle.sheet.specs.Encode.{pressBytes, testBytes}
 use Rattle.sheet.specs.WellFormed.{WellFormed}
-use Rattle.model.specs.Machine.{Move, Pair, outputsFrom, specifiedFrom}
+use Rattle.model.specs.Machine.{Move, outputsFrom, specifiedFrom}
 use Rattle.model.specs.Mutant.{moveOf, rule, slots, IsMutant, idle, step, initial, outputs, specified, against}
 use Rattle.model.specs.Compare.{comparePair}
 use Rattle.model.specs.Suite.{Passes, compareOf}
 use Rattle.model.specs.Verdict.{RightOn}
-use Rattle.model.specs.laws.ListLaw.{index-all, all-at-index}
-use Rattle.model.specs.laws.Closed.{Closed, closed, rule-row, rule-in, step-in, some-state}
+use Rattle.sheet.specs.laws.ListLaw.{index-all, all-at-index}
+use Rattle.model.specs.laws.Closed.{rule-row, rule-in, step-in, some-state}
 use Rattle.model.specs.laws.SuspectLaw.{site-is}
-use Rattle.model.specs.laws.StepLaw.{step-outside}
 use Rattle.model.specs.laws.SuiteLaw.{Following, Specified, test-specified, specified-uncons, passes-right, right-passes}
 use Rattle.partial.specs.Machine.{pair, ruleOutput, ruleTarget, siteAt, choicesOf, statesOf, inputsOf, choicesAt, choiceOf, chosen, stepOf, suiteBytes, Wf}
 use Rattle.partial.specs.Answers.{StepIs}
@@ -33,13 +32,15 @@ use Rattle.partial.specs.declared.block.Step.{Step}
 use Rattle.machine.specs.declared.distance.Difference.{Difference}
 use Rattle.machine.specs.declared.distance.Difference.the-variants as difference
 use Rattle.partial.proofs.ChoiceLaws.{chosen-none, chosen-some}
+use Rattle.machine.specs.Mutants.{Moves}
+use Rattle.machine.proofs.Against.{tables-against, tables-valid}
 use Rattle.survivor.specs.declared.survive.Searched.the-variants.{Nothing, First}
 use Rattle.machine.specs.Differences.{differenceOf, found}
-use Rattle.machine.specs.Tables.{ruleIn, moveIn, movesIn, tables, Valid}
+use Rattle.machine.specs.Tables.{ruleIn, tables, Valid}
 use Rattle.sheet.specs.laws.Basics.{never}
 use Rattle.survivor.specs.Search.{Leaves, Searching}
 use Rattle.survivor.specs.Survive.{slot, walkOf, Chosen, Acts, Laid}
-use Rattle.survivor.proofs.BlockLaw.{getD-default, slot-few, rule-none, site-some, site-low, ranged, step-same, well-formed}
+use Rattle.survivor.proofs.BlockLaw.{getD-default, slot-few, site-some, site-low, ranged, step-same, well-formed}
 use Rattle.survivor.proofs.SearchLaw.{full-mutant, full-none, full-first}
 
 -- ---- writing the choices
@@ -322,10 +323,10 @@ module _ {sh : Sheet} {m bytes p : List ℕ} {n : ℕ} (w : Searching sh m bytes
       let d = w .formed .size .inputs .few in
       record { low = omega arith; laid = omega (arith, w .block .states); state = omega arith; input = omega arith; same = omega arith }
 
-  step-taken : (s x : ℕ) → Here s x → stepOf m p s x ≡ step sh b s x
+  step-taken : (s x : ℕ) → pair s x < 256 → stepOf m p s x ≡ step sh b s x
   unfolding stepOf
-  step-taken s x h =
-      ap (λ (c : ℕ). cond (ltb s (statesOf m) && ltb x (inputsOf m)) (choiceOf m (pair s x) c) idle) (chosen-same (pair s x) (h .low))
+  step-taken s x low =
+      ap (λ (c : ℕ). cond (ltb s (statesOf m) && ltb x (inputsOf m)) (choiceOf m (pair s x) c) idle) (chosen-same (pair s x) low)
       ∙ ap (λ (f : ℕ → ℕ → Move). f s x) (step-same sh m (w .formed) (w .block) b is)
 
   module _ {so sn mo mn : List ℕ} (l : Laid m p so sn mo mn (16 * statesOf m)) where
@@ -336,10 +337,10 @@ module _ {sh : Sheet} {m bytes p : List ℕ} {n : ℕ} (w : Searching sh m bytes
     rule-target-at s x h = l .rule-target (pair s x) (h .laid) ∙ w .block .targets (pair s x) (h .low) ∙ rw (h .state, h .input) refl
 
     output-at : (s x : ℕ) → Here s x → getD mo (pair s x) 0 ≡ step sh b s x .output
-    output-at s x h = l .output (pair s x) (h .laid) ∙ rw (h .state, h .input) (ap (λ (t : Move). t .output) (step-taken s x h))
+    output-at s x h = l .output (pair s x) (h .laid) ∙ rw (h .state, h .input) (ap (λ (t : Move). t .output) (step-taken s x (h .low)))
 
     target-at : (s x : ℕ) → Here s x → getD mn (pair s x) 0 ≡ step sh b s x .target
-    target-at s x h = l .target (pair s x) (h .laid) ∙ rw (h .state, h .input) (ap (λ (t : Move). t .target) (step-taken s x h))
+    target-at s x h = l .target (pair s x) (h .laid) ∙ rw (h .state, h .input) (ap (λ (t : Move). t .target) (step-taken s x (h .low)))
 
     spec-at : (s x : ℕ) (r : Move) → rule sh s x ≡ some r → (getD so (slot s x) 0 ≡ r .output) × (getD sn (slot s x) 0 ≡ r .target)
     unfolding rule
@@ -357,42 +358,43 @@ module _ {sh : Sheet} {m bytes p : List ℕ} {n : ℕ} (w : Searching sh m bytes
     mach-at : (q x : ℕ) → q < sh .size .states → x < sh .size .inputs → (getD mo (slot q x) 0 ≡ step sh b q x .output) × (getD mn (slot q x) 0 ≡ step sh b q x .target)
     mach-at q x lq lx = let h = here q x lq lx in rw (h .same) (output-at q x h, target-at q x h)
 
-    -- the tables are the specification and the mutant
-    rule-here : (s x : ℕ) → cond (ltb s (sh .size .states) && ltb x (sh .size .inputs)) (ruleIn so sn (pair s x)) none ≡ rule sh s x
+    -- the tables hold the specification and the mutant
+    ruled-at : (i : ℕ) → i < 16 * sh .size .states → ruleIn so sn i ≡ rule sh (i / 16) (i % 16)
     unfolding ruleIn rule
-    rule-here s x = go (ltb s (sh .size .states)) refl (ltb x (sh .size .inputs)) refl
+    ruled-at i li = go (ruleAt (sh .rules) (i / 16) (i % 16)) refl
       where
-        inside : Here s x → (o : Option Row) → ruleAt (sh .rules) s x ≡ o →
-            cond (eqb (getD so (pair s x) 0) 255) none (some (record { output = getD so (pair s x) 0; target = getD sn (pair s x) 0 })) ≡ maybe o none (λ r. some (moveOf r))
-        inside h none e = rw (rule-output-at s x h, e) refl
-        inside h (some r) e =
-            let few = w .formed .size .outputs .few in
-            let low : r .output ≡ 255 → ⊥ = λ f. omega (arith, rule-row sh (w .formed) s x r e .row .output) in
-            rw (rule-output-at s x h, rule-target-at s x h, e, ne-eqb (r .output) 255 low) refl
+        laid : i < 16 * statesOf m
+        laid = omega (arith, w .block .states)
 
-        go : (c : Bool) → ltb s (sh .size .states) ≡ c → (d : Bool) → ltb x (sh .size .inputs) ≡ d →
-            cond (c && d) (cond (eqb (getD so (pair s x) 0) 255) none (some (record { output = getD so (pair s x) 0; target = getD sn (pair s x) 0 }))) none
-            ≡ maybe (ruleAt (sh .rules) s x) none (λ r. some (moveOf r))
-        go true ec true ed = inside (here s x (ltb-true s (sh .size .states) ec) (ltb-true x (sh .size .inputs) ed)) (ruleAt (sh .rules) s x) refl
-        go true ec false ed = sym (rule-none sh m (w .formed) (w .block) s x (λ ls lx. never (cc (lt-ltb x (sh .size .inputs) lx))))
-        go false ec d ed = sym (rule-none sh m (w .formed) (w .block) s x (λ ls lx. never (cc (lt-ltb s (sh .size .states) ls))))
+        output : getD so i 0 ≡ maybe (ruleAt (sh .rules) (i / 16) (i % 16)) 255 (λ r. r .output)
+        output = l .rule-output i laid ∙ w .block .outputs i (omega (arith, w .formed .size .states .few))
 
-    move-here : (s x : ℕ) → cond (ltb s (sh .size .states) && ltb x (sh .size .inputs)) (moveIn mo mn (pair s x)) idle ≡ step sh b s x
-    unfolding moveIn
-    move-here s x = go (ltb s (sh .size .states)) refl (ltb x (sh .size .inputs)) refl
+        target : getD sn i 0 ≡ maybe (ruleAt (sh .rules) (i / 16) (i % 16)) 255 (λ r. r .target)
+        target = l .rule-target i laid ∙ w .block .targets i (omega (arith, w .formed .size .states .few))
+
+        go : (o : Option Row) → ruleAt (sh .rules) (i / 16) (i % 16) ≡ o →
+            cond (eqb (getD so i 0) 255) none (some (record { output = getD so i 0; target = getD sn i 0 })) ≡ maybe o none (λ r. some (moveOf r))
+        go none e = rw (output, e) refl
+        go (some r) e =
+            let low : r .output ≡ 255 → ⊥ = λ f. omega (arith, rule-row sh (w .formed) (i / 16) (i % 16) r e .row .output, w .formed .size .outputs .few) in
+            rw (output, target, e, ne-eqb (r .output) 255 low) refl
+
+    moved : Moves sh b mo mn (16 * sh .size .states)
+    moved =
+        record {
+          output = λ t lt. l .output t (laid t lt) ∙ ap (λ (q : Move). q .output) (step-taken (t / 16) (t % 16) (low t lt));
+          target = λ t lt. l .target t (laid t lt) ∙ ap (λ (q : Move). q .target) (step-taken (t / 16) (t % 16) (low t lt));
+        }
       where
-        go : (c : Bool) → ltb s (sh .size .states) ≡ c → (d : Bool) → ltb x (sh .size .inputs) ≡ d →
-            cond (c && d) (record { output = getD mo (pair s x) 0; target = getD mn (pair s x) 0 }) idle ≡ step sh b s x
-        go true ec true ed = let h = here s x (ltb-true s (sh .size .states) ec) (ltb-true x (sh .size .inputs) ed) in rw (output-at s x h, target-at s x h) refl
-        go true ec false ed = sym (step-outside sh b s x (λ ls lx. never (cc (lt-ltb x (sh .size .inputs) lx))))
-        go false ec d ed = sym (step-outside sh b s x (λ ls lx. never (cc (lt-ltb s (sh .size .states) ls))))
+        laid : (t : ℕ) → t < 16 * sh .size .states → t < 16 * statesOf m
+        laid t lt = omega (arith, w .block .states)
+
+        low : (t : ℕ) → t < 16 * sh .size .states → pair (t / 16) (t % 16) < 256
+        low t lt = omega (arith, w .formed .size .states .few)
 
     tables-same : tables (sh .size .states) (sh .size .inputs) 0 so sn mo mn ≡ against sh b
-    unfolding tables movesIn initial
-    tables-same =
-        let er = fun-ext (λ s. fun-ext (λ x. rule-here s x)) in
-        let em = fun-ext (λ s. fun-ext (λ x. move-here s x)) in
-        λ i. record { states = sh .size .states; inputs = sh .size .inputs; start = 0; rule = er i; move = em i }
+    unfolding initial
+    tables-same = tables-against sh (w .formed) b (sh .size .states) (sh .size .inputs) refl refl so sn mo mn ruled-at moved 0 refl
 
     -- a wrong output: it fails
     fails : (r : Bool) → r ≡ walkOf so sn mo mn 0 0 bytes → r ≡ false → Passes sh (take n p) → ⊥
@@ -421,18 +423,7 @@ module _ {sh : Sheet} {m bytes p : List ℕ} {n : ℕ} (w : Searching sh m bytes
 
       -- what the comparison asks
       pub valid : Valid states inputs so sn mo mn
-      unfolding tables
-      valid =
-          rw (sizes .0, sizes .1)
-          (record {
-            some-state = some-state sh (w .formed);
-            few-states = w .formed .size .states .few;
-            few-inputs = w .formed .size .inputs .few;
-            closed = λ start. shut start (subst (λ (q : Pair). Closed q) (sym tables-same) (closed sh b (w .formed)));
-          })
-        where
-          shut : (start : ℕ) → Closed (tables (sh .size .states) (sh .size .inputs) 0 so sn mo mn) → Closed (tables (sh .size .states) (sh .size .inputs) start so sn mo mn)
-          shut start h = record { input-below = h .input-below; rule-below = h .rule-below; move-below = h .move-below }
+      valid = rw (sizes .0, sizes .1) (tables-valid sh (w .formed) b (sh .size .states) (sh .size .inputs) refl refl so sn mo mn ruled-at moved)
 
       pub start-in : 0 < states
       start-in = rw (sizes .0) (some-state sh (w .formed))

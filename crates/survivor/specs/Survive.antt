@@ -1,16 +1,16 @@
 -- Whether a mutant with all its choices is a survivor, by tables.
-use Prim.Native.Nat.{ℕ, _+_, _*_, _/_, _%_, _<_}
+use Prim.Native.Nat.{ℕ, _/_, _%_, _<_}
 use mathlib.Core.Path.{_≡_}
 use mathlib.Core.Bool.{Bool, true, false, cond}
 use mathlib.Core.List.{List, [], _∷_}
 use lib.Dec.{eqb}
 use lib.ListN.{getD}
-use Rattle.partial.specs.Machine.{ruleOutput, ruleTarget, choicesAt, chosen, stepOf}
+use Rattle.partial.specs.Machine.{pair, ruleOutput, ruleTarget, choicesAt, chosen, stepOf}
 use Rattle.partial.specs.declared.block.Step.{Step}
 
--- the place of a state and an input in a table
+-- the place of a state and an input in a table, whatever the numbers are
 abbrev pub slot : ℕ → ℕ → ℕ
-slot s x = s % 16 * 16 + x % 16
+slot s x = pair (s % 16) (x % 16)
 
 -- along the commands of tests the outputs in mo are those in so, from the states s and q on: PRESS goes on by sn and mn, and
 -- any other command resets

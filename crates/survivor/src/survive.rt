@@ -8,6 +8,7 @@ use partial::block::inputs;
 use partial::block::rule_output;
 use partial::block::rule_target;
 use partial::block::site;
+use partial::block::some_place;
 use partial::block::states;
 use partial::block::transition;
 ghost use mathlib.Core.Path.{_≡_};
@@ -18,7 +19,7 @@ ghost use Rattle.partial.specs.Machine.{Wf, statesOf, chosen};
 ghost use Rattle.survivor.specs.declared.survive.Searched.the-variants.{GaveUp};
 ghost use Rattle.sheet.specs.Lists.{overlay};
 ghost use Rattle.survivor.specs.Search.{Searching, Room, Leaves};
-ghost use Rattle.survivor.specs.Survive.{slot, walkOf, Chosen, Acts, Laid};
+ghost use Rattle.survivor.specs.Survive.{walkOf, Chosen, Acts, Laid};
 
 // What a search finds: no survivor; the first one, with the length of its distinguishing sequence; or neither, where a quick
 // search gave up.
@@ -80,13 +81,6 @@ fn lay(
     }
 }
 
-// The place of a state and an input.
-fn slot_at(s: u8, x: u8) -> usize
-    ensures { λ r. ⌜ (r ≡ slot s x) × (r < 256) ⌝ }
-{
-    ((s % 16) as usize) * 16 + ((x % 16) as usize)
-}
-
 // Whether the mutant gives every specified output along the tests.
 fn passes(bytes: &[u8], so: &[u8; 256], sn: &[u8; 256], mo: &[u8; 256], mn: &[u8; 256]) -> bool
     ensures { λ r. ⌜ r ≡ walkOf (now (so .entry)) (now (sn .entry)) (now (mo .entry)) (now (mn .entry)) 0 0 (now (bytes .entry)) ⌝ }
@@ -101,8 +95,8 @@ fn passes(bytes: &[u8], so: &[u8; 256], sn: &[u8; 256], mo: &[u8; 256], mn: &[u8
             at += 1;
         } else {
             let x = bytes[at + 1];
-            let a = slot_at(s, x);
-            let b = slot_at(q, x);
+            let a = some_place(s, x);
+            let b = some_place(q, x);
             if so[a] != mo[b] {
                 return false;
             }

@@ -17,7 +17,7 @@ use Rattle.model.specs.Implementation.{Event, reset, input, InputsBelow,
 use Rattle.model.specs.Verdict.{RightOn, Complete}
 use Rattle.model.specs.laws.Closed.{closed, some-state, start-below, rule-row}
 use Rattle.model.specs.laws.CompareLaw.{conforms-or-distinguished, conforming-not}
-use Rattle.model.specs.laws.ListLaw.{all-at-index, index-all}
+use Rattle.sheet.specs.laws.ListLaw.{all-at-index, index-all}
 use Rattle.model.specs.laws.SuiteLaw.{specified-uncons, specified-cons, Specified, test-specified, right-passes, passes-right}
 
 -- the output is the specified one, if there is one

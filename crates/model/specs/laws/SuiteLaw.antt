@@ -117,7 +117,7 @@ pub record Differ (rs os : List ℕ) (i : ℕ) : Type 0 where
   pub agree : take i os ≡ take i rs
   pub wrong : getD os i 0 ≡ getD rs i 0 → ⊥
 
-first-wrong : (rs os : List ℕ) (i : ℕ) → length rs ≡ length os → firstWrong rs os ≡ some i → Differ rs os i
+pub first-wrong : (rs os : List ℕ) (i : ℕ) → length rs ≡ length os → firstWrong rs os ≡ some i → Differ rs os i
 unfolding firstWrong
 first-wrong [] os i l e = never (cc)
 first-wrong (r ∷ rs) [] i l e = absurd (omega arith)

@@ -13,17 +13,17 @@ use Rattle.sheet.specs.Sheet.{Sheet, choicesAt, isOpen, openBelow, openPairs}
 use Rattle.sheet.specs.laws.Basics.{never}
 use Rattle.model.specs.Mutant.{Suspect, keepOpen, suspects, slots, later, siteIn, siteOf}
 use Rattle.model.specs.laws.Basics.{clash, all-imp, all-append, all-joined, upTo-below}
-use Rattle.model.specs.laws.ListLaw.{joined-split, length-joined-snoc, getD-map-below, all-at-index}
+use Rattle.sheet.specs.laws.ListLaw.{joined-split, length-joined-snoc, getD-map-below, all-at-index}
 
 -- the suspects of the state s with inputs below i; those of the states below i
-suspectsAt : Sheet → ℕ → ℕ → List Suspect
+abbrev suspectsAt : Sheet → ℕ → ℕ → List Suspect
 suspectsAt sh s i = joined (λ x. keepOpen sh s x) (upTo i)
 
 suspectsBelow : Sheet → ℕ → List Suspect
 suspectsBelow sh i = joined (λ s. suspectsAt sh s (sh .size .inputs)) (upTo i)
 
-at-count : (sh : Sheet) (s i : ℕ) → length (suspectsAt sh s i) ≡ count (isOpen sh s) i
-unfolding suspectsAt count upTo joined
+pub at-count : (sh : Sheet) (s i : ℕ) → length (suspectsAt sh s i) ≡ count (isOpen sh s) i
+unfolding count upTo joined
 at-count sh s zero = refl
 at-count sh s (suc i) =
     length-joined-snoc (λ x. keepOpen sh s x) i ∙ ap (λ c. c + length (keepOpen sh s i)) (at-count sh s i)
@@ -42,7 +42,7 @@ below-count sh (suc i) =
 
 -- as many suspects as open pairs
 pub suspect-count : (sh : Sheet) → length (suspects sh) ≡ openPairs sh
-unfolding suspects suspectsBelow suspectsAt openPairs
+unfolding suspects suspectsBelow openPairs
 suspect-count sh = below-count sh (sh .size .states)
 
 -- a mutant has one byte for each open pair
@@ -68,7 +68,6 @@ abbrev Other : ℕ → ℕ → Suspect → Type 0
 Other s x u = u .state ≡ s → u .input ≡ x → ⊥
 
 all-at : (sh : Sheet) (s i : ℕ) → All (OpenAt sh s i) (suspectsAt sh s i)
-unfolding suspectsAt
 all-at sh s i =
     all-joined (OpenAt sh s i) (λ x. keepOpen sh s x) (upTo i)
     (all-imp _ (λ (x : ℕ). x < i) (λ x l. kept x l (isOpen sh s x) refl) (upTo i) (upTo-below i))
@@ -89,7 +88,7 @@ all-below sh i =
 
 -- every suspect is an open pair of the sheet
 pub suspects-are : (sh : Sheet) → All (IsSuspect sh) (suspects sh)
-unfolding suspects suspectsBelow suspectsAt
+unfolding suspects suspectsBelow
 suspects-are sh =
     all-imp (IsSuspect sh) (OpenBelow sh (sh .size .states)) (λ (u : Suspect) h. record { state = h .0; input = h .1; several = h .2 })
     (suspects sh) (all-below sh (sh .size .states))
@@ -157,7 +156,7 @@ record Split (sh : Sheet) (s x : ℕ) : Type 0 where
 
 module _ (sh : Sheet) (s x : ℕ) where
   split : s < sh .size .states → x < sh .size .inputs → isOpen sh s x ≡ true → Split sh s x
-  unfolding suspects suspectsBelow suspectsAt
+  unfolding suspects suspectsBelow
   split ls lx e =
       let a = joined-split (λ s′. suspectsAt sh s′ (sh .size .inputs)) (sh .size .states) s ls in
       let b = joined-split (λ x′. keepOpen sh s x′) (sh .size .inputs) x lx in

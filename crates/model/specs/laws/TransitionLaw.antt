@@ -19,7 +19,7 @@ use Rattle.sheet.specs.WellFormed.{Mutates, WellFormed}
 use Rattle.model.specs.Machine.{Move}
 use Rattle.model.specs.Mutant.{moveOf, unruled, transitions, idle}
 use Rattle.model.specs.laws.Basics.{all-getD}
-use Rattle.model.specs.laws.ListLaw.{all-both, ascending-of, getD-map-below, joined-split, length-upTo, getD-upTo, length-joined-even}
+use Rattle.sheet.specs.laws.ListLaw.{all-both, ascending-of, getD-map-below, joined-split, length-upTo, getD-upTo, length-joined-even}
 use Rattle.model.specs.laws.Closed.{MoveIn, RowAt, rows-at, rule-row, transitions-in}
 
 -- without a rule every output goes with every next state

@@ -3,43 +3,24 @@ use Prim.Native.Nat.{ℕ, zero, suc, _+_, _<_, _≤_}
 use mathlib.Core.Path.{_≡_, refl, ap, sym, _∙_}
 use mathlib.Core.Bool.{Bool, true, false, _&&_, cond}
 use mathlib.Core.Logic.{_⊎_, inl, inr}
-use mathlib.Core.List.{List, [], _∷_, map}
+use mathlib.Core.List.{List, [], _∷_}
 use native.Mathlib.Omega.{arith}
 use lib.Dec.{eqb}
-use lib.ListN.{length, getD}
+use lib.ListN.{length, getD, length-map}
 use borrow.Author.Tests.{eqb-true, eq-eqb, ne-eqb}
 use Rattle.sheet.specs.declared.Row.{Row}
 use Rattle.sheet.specs.Lists.{isNone, first, upTo, All, Ascending, Before}
 use Rattle.sheet.specs.Sheet.{Sheet, rowOf, isAt, rowsAt}
 use Rattle.sheet.specs.WellFormed.{WellFormed}
 use Rattle.sheet.specs.Tables.{table, firstAt, firstFault, noRow}
+use Rattle.sheet.specs.laws.ListLaw.{getD-map-below, length-upTo, getD-upTo}
 use Rattle.sheet.specs.laws.Basics.{both, never}
 
-map-length : {A : Type 0} (f : A → ℕ) (l : List A) → length (map f l) ≡ length l
-map-length f [] = refl
-map-length f (x ∷ l) = ap suc (map-length f l)
-
-map-at : {A : Type 0} (f : A → ℕ) (l : List A) (i : ℕ) (d : A) → i < length l → getD (map f l) i 0 ≡ f (getD l i d)
-map-at f [] i d h = absurd (omega arith)
-map-at f (x ∷ l) zero d h = refl
-map-at f (x ∷ l) (suc i) d h = map-at f l i d (omega arith)
-
-upTo-length : (n : ℕ) → length (upTo n) ≡ n
-unfolding upTo
-upTo-length zero = refl
-upTo-length (suc n) = ap suc (map-length suc (upTo n) ∙ upTo-length n)
-
-upTo-at : (n i : ℕ) → i < n → getD (upTo n) i 0 ≡ i
-unfolding upTo
-upTo-at zero i h = absurd (omega arith)
-upTo-at (suc n) zero h = refl
-upTo-at (suc n) (suc i) h = map-at suc (upTo n) i 0 (omega (arith, upTo-length n)) ∙ ap suc (upTo-at n i (omega arith))
-
 pub table-length : (f : ℕ → ℕ) → length (table f) ≡ 256
-table-length f = map-length f (upTo 256) ∙ upTo-length 256
+table-length f = length-map (upTo 256) f ∙ length-upTo 256
 
 pub table-at : (f : ℕ → ℕ) (i : ℕ) → i < 256 → getD (table f) i 0 ≡ f i
-table-at f i h = map-at f (upTo 256) i 0 (omega (arith, upTo-length 256)) ∙ ap f (upTo-at 256 i h)
+table-at f i h = getD-map-below f (upTo 256) i 0 0 (omega (arith, length-upTo 256)) ∙ ap f (getD-upTo 256 i 0 h)
 
 pub rows-few : (l : List Row) (s x : ℕ) → length (rowsAt l s x) ≤ length l
 unfolding rowsAt

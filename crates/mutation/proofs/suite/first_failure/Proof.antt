@@ -46,7 +46,7 @@ first-wrong-requires c κs =
     let at-loop-test = c .before .before .before .before in
     let at-loop = at-loop-test .before in
     let entry = at-loop .before .before in
-    let a = entry .args in let l = at-loop .loop in (entry .pre .0, (entry .pre .1 .0, (getD (entry .pre .1 .1 .0) (l .t) [], (rw (c .wide162 .ensures, c .before .before .wide16 .ensures) (entry .pre .1 .1 .1 .each (l .t) (at-loop-test .loop-test .taken))))))
+    let a = entry .args in let l = at-loop .loop in (entry .pre .0, (entry .pre .1 .0, (getD (entry .pre .1 .1 .0) (l .t) [], (rw (c .wide162 .ensures .0, c .before .before .wide16 .ensures .0) (entry .pre .1 .1 .1 .each (l .t) (at-loop-test .loop-test .taken))))))
 
 returns : tie.Need-returns Inv-loop μ-loop
 unfolding tables
@@ -57,7 +57,7 @@ returns c =
     let entry = at-loop .before .before in
     let a = entry .args in let l = at-loop .loop in λ ts is.
     ap failedOf (sym (suite-failed (tables (a .n) (a .k) (a .start) (a .so .now) (a .sn .now) (a .mo .now) (a .mn .now)) ts (l .t) (l .inv .1 ts is) (omega (arith, is .many, at-loop-test .loop-test .taken)) (c .before .first-wrong .result)
-    (index-there (at-wide16 .wide16 .result) (c .before .first-wrong .result) _ (c .before .first-wrong .ensures (getD ts (l .t) []) (rw (c .before .before .wide162 .ensures, at-wide16 .wide16 .ensures) (is .each (l .t) (at-loop-test .loop-test .taken)))) (c .if1 .taken))))
+    (index-there (at-wide16 .wide16 .result) (c .before .first-wrong .result) _ (c .before .first-wrong .ensures (getD ts (l .t) []) (rw (c .before .before .wide162 .ensures .0, at-wide16 .wide16 .ensures .0) (is .each (l .t) (at-loop-test .loop-test .taken)))) (c .if1 .taken))))
 
 add-t : tie.Need-add-t Inv-loop μ-loop
 add-t c =
@@ -78,7 +78,7 @@ loop-again c =
       omega arith,
       λ ts is.
           suite-more (tables (a .n) (a .k) (a .start) (a .so .now) (a .sn .now) (a .mo .now) (a .mn .now)) ts (l .t) (l .inv .1 ts is) (omega (arith, is .many, at-loop-test .loop-test .taken))
-          (test-right (tables (a .n) (a .k) (a .start) (a .so .now) (a .sn .now) (a .mo .now) (a .mn .now)) (a .sheet .now) (c .before .before .wide162 .result) (at-wide16 .wide16 .result) (getD ts (l .t) []) (rw (c .before .before .wide162 .ensures, at-wide16 .wide16 .ensures) (is .each (l .t) (at-loop-test .loop-test .taken))) (c .before .first-wrong .result) (c .before .first-wrong .ensures (getD ts (l .t) []) (rw (c .before .before .wide162 .ensures, at-wide16 .wide16 .ensures) (is .each (l .t) (at-loop-test .loop-test .taken)))) (c .if1 .left)),
+          (test-right (tables (a .n) (a .k) (a .start) (a .so .now) (a .sn .now) (a .mo .now) (a .mn .now)) (a .sheet .now) (c .before .before .wide162 .result) (at-wide16 .wide16 .result) (getD ts (l .t) []) (rw (c .before .before .wide162 .ensures .0, at-wide16 .wide16 .ensures .0) (is .each (l .t) (at-loop-test .loop-test .taken))) (c .before .first-wrong .result) (c .before .first-wrong .ensures (getD ts (l .t) []) (rw (c .before .before .wide162 .ensures .0, at-wide16 .wide16 .ensures .0) (is .each (l .t) (at-loop-test .loop-test .taken)))) (c .if1 .left)),
     )
 
 returns-2 : tie.Need-returns-2 Inv-loop μ-loop

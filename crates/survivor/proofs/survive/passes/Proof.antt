@@ -43,34 +43,34 @@ add-x c = omega (arith, c .before .before .loop-test .taken, c .before .before .
 shared-slice-read-x : tie.Need-shared-slice-read-x Inv-loop μ-loop
 shared-slice-read-x c = omega (arith, c .before .before .before .loop-test .taken, c .before .before .before .before .before .before)
 
-slot-at-requires : tie.Need-slot-at-requires Inv-loop μ-loop
-slot-at-requires c κs = search needs
+some-place-requires : tie.Need-some-place-requires Inv-loop μ-loop
+some-place-requires c κs = search needs
 
-slot-at-requires-2 : tie.Need-slot-at-requires-2 Inv-loop μ-loop
-slot-at-requires-2 c κs = search needs
+some-place-requires-2 : tie.Need-some-place-requires-2 Inv-loop μ-loop
+some-place-requires-2 c κs = search needs
 
 element-copy-out-if2 : tie.Need-element-copy-out-if2 Inv-loop μ-loop
-element-copy-out-if2 c = omega (arith, c .before .slot-at .ensures .1)
+element-copy-out-if2 c = omega (arith, c .before .some-place .ensures .1)
 
 element-copy-out-if2-2 : tie.Need-element-copy-out-if2-2 Inv-loop μ-loop
-element-copy-out-if2-2 c = omega (arith, c .before .slot-at2 .ensures .1)
+element-copy-out-if2-2 c = omega (arith, c .before .some-place2 .ensures .1)
 
 returns : tie.Need-returns Inv-loop μ-loop
 returns c =
-    let at-slot-at2 = c .before .before .before in
-    let at-slot-at = at-slot-at2 .before in
-    let at-if1 = at-slot-at .before .before in
+    let at-some-place2 = c .before .before .before in
+    let at-some-place = at-some-place2 .before in
+    let at-if1 = at-some-place .before .before in
     let at-loop-test = at-if1 .before .before in
     let at-loop = at-loop-test .before in
     let entry = at-loop .before .before in
     let a = entry .args in let l = at-loop .loop in
-    sym (at-loop .loop .inv .1 ∙ walk-wrong (a .so .now) (a .sn .now) (a .mo .now) (a .mn .now) (a .bytes .now) (l .s) (l .q) (l .at) _ (omega (arith, at-loop-test .loop-test .taken)) (at-if1 .if1 .left) refl (rw (at-slot-at .slot-at .ensures .0, at-slot-at2 .slot-at2 .ensures .0) at (c .if2 .taken)))
+    sym (at-loop .loop .inv .1 ∙ walk-wrong (a .so .now) (a .sn .now) (a .mo .now) (a .mn .now) (a .bytes .now) (l .s) (l .q) (l .at) _ (omega (arith, at-loop-test .loop-test .taken)) (at-if1 .if1 .left) refl (rw (at-some-place .some-place .ensures .0, at-some-place2 .some-place2 .ensures .0) at (c .if2 .taken)))
 
 element-copy-out-s : tie.Need-element-copy-out-s Inv-loop μ-loop
-element-copy-out-s c = omega (arith, c .before .before .before .before .slot-at .ensures .1)
+element-copy-out-s c = omega (arith, c .before .before .before .before .some-place .ensures .1)
 
 element-copy-out-q : tie.Need-element-copy-out-q Inv-loop μ-loop
-element-copy-out-q c = omega (arith, c .before .before .before .before .slot-at2 .ensures .1)
+element-copy-out-q c = omega (arith, c .before .before .before .before .some-place2 .ensures .1)
 
 add-at-2 : tie.Need-add-at-2 Inv-loop μ-loop
 add-at-2 c =
@@ -86,15 +86,15 @@ loop-less-2 c =
 
 loop-again-2 : tie.Need-loop-again-2 Inv-loop μ-loop
 loop-again-2 c =
-    let at-slot-at2 = c .before .before .before .before .before in
-    let at-slot-at = at-slot-at2 .before in
-    let at-if1 = at-slot-at .before .before in
+    let at-some-place2 = c .before .before .before .before .before in
+    let at-some-place = at-some-place2 .before in
+    let at-if1 = at-some-place .before .before in
     let at-loop-test = at-if1 .before .before in
     let at-loop = at-loop-test .before in
     let entry = at-loop .before .before in
     let a = entry .args in let l = at-loop .loop in (
       omega (arith, at-loop-test .loop-test .taken),
-      at-loop .loop .inv .1 ∙ rw (at-slot-at .slot-at .ensures .0, at-slot-at2 .slot-at2 .ensures .0) (walk-press (a .so .now) (a .sn .now) (a .mo .now) (a .mn .now) (a .bytes .now) (l .s) (l .q) (l .at) _ (omega (arith, at-loop-test .loop-test .taken)) (at-if1 .if1 .left) refl (rw (at-slot-at .slot-at .ensures .0, at-slot-at2 .slot-at2 .ensures .0) at (c .before .before .if2 .left))),
+      at-loop .loop .inv .1 ∙ rw (at-some-place .some-place .ensures .0, at-some-place2 .some-place2 .ensures .0) (walk-press (a .so .now) (a .sn .now) (a .mo .now) (a .mn .now) (a .bytes .now) (l .s) (l .q) (l .at) _ (omega (arith, at-loop-test .loop-test .taken)) (at-if1 .if1 .left) refl (rw (at-some-place .some-place .ensures .0, at-some-place2 .some-place2 .ensures .0) at (c .before .before .if2 .left))),
     )
 
 returns-2 : tie.Need-returns-2 Inv-loop μ-loop
@@ -114,8 +114,8 @@ passes-spec =
     loop-again
     add-x
     shared-slice-read-x
-    slot-at-requires
-    slot-at-requires-2
+    some-place-requires
+    some-place-requires-2
     element-copy-out-if2
     element-copy-out-if2-2
     returns
