@@ -1,4 +1,4 @@
--- The operations on an accepted sheet, and what their answers tell.
+-- What the answers of First failed test and Compare tell; an accepted sheet as it was read.
 use Prim.Native.Nat.{ℕ, _*_, _≤_}
 use mathlib.Core.Path.{_≡_}
 use mathlib.Core.Option.{none, some}
