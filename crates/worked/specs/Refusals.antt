@@ -1,10 +1,10 @@
 -- What Read refuses: sheets for the numbers 2 to 11 and for the order in which they are tried, each with its number and place
 -- (`Rows` has 01's own sheets, with 1 and 12).
-use Prim.Native.Nat.{ℕ}
+use Prim.Native.Nat.{ℕ, suc, _/_, _%_}
 use mathlib.Core.Path.{_≡_, refl}
 use mathlib.Core.List.{List, [], _∷_, _++_, map}
 use lib.ListN.{replicate}
-use Rattle.sheet.specs.Lists.{last, precedes, count, any, all}
+use Rattle.sheet.specs.Lists.{last, precedes, count, any, all, upTo, joined}
 use Rattle.sheet.specs.Sheet.{rowsAt, ruleAt, after, leads, reachedWithin, allReached, unruledChoices, choicesAt, isOpen, openBelow, openPairs}
 use Rattle.sheet.specs.Reading.{refused, firstBroken, ascends, lastTest, ruleAfter, refusal, addPress, advance, finishing, doing, oneCommand, from, blank, reading}
 use Rattle.sheet.specs.Encode.{pressBytes}
@@ -18,9 +18,15 @@ pub record Refusal : Type 0 where
 abbrev row : List ℕ → ℕ → ℕ → Refusal
 row sheet number place = record { sheet = sheet; number = number; place = place }
 
--- one state, one press, one sound, and a test of so many PRESSes
+-- one state, one RULE, and a test of 256 PRESSes and one more
 unfoldable pub presses : ℕ → List ℕ
-presses n = (0x01 ∷ 1 ∷ 1 ∷ 1 ∷ 0x02 ∷ 0 ∷ 0 ∷ 0 ∷ 0 ∷ 0x04 ∷ []) ++ (pressBytes (replicate n 0) ++ 0x06 ∷ [])
+presses x = (0x01 ∷ 1 ∷ 2 ∷ 1 ∷ 0x02 ∷ 0 ∷ 0 ∷ 0 ∷ 0 ∷ 0x04 ∷ []) ++ (pressBytes (replicate 256 0) ++ 0x05 ∷ x ∷ 0x06 ∷ [])
+
+-- 255 FAULTs at the pair (0, 0), one at (0, 1), and one more there; the RULE at (0, 1) leads to t
+unfoldable pub faults : ℕ → ℕ → List ℕ
+faults t u =
+    (0x01 ∷ 16 ∷ 2 ∷ 16 ∷ 0x02 ∷ 0 ∷ 0 ∷ 0 ∷ 0 ∷ 0x02 ∷ 0 ∷ 1 ∷ 0 ∷ t ∷ [])
+    ++ (joined (λ i. 0x03 ∷ 0 ∷ 0 ∷ suc i / 16 ∷ suc i % 16 ∷ []) (upTo 255) ++ 0x03 ∷ 0 ∷ 1 ∷ 0 ∷ 1 ∷ 0x03 ∷ 0 ∷ 1 ∷ 0 ∷ u ∷ [])
 
 unfoldable pub refusals : List Refusal
 refusals =
@@ -53,8 +59,13 @@ refusals =
     -- 7: a FAULT with no RULE at its pair; one that equals it
     ∷ row (0x01 ∷ 1 ∷ 1 ∷ 2 ∷ 0x03 ∷ 0 ∷ 0 ∷ 1 ∷ 0 ∷ []) 7 4
     ∷ row (0x01 ∷ 1 ∷ 1 ∷ 1 ∷ 0x02 ∷ 0 ∷ 0 ∷ 0 ∷ 0 ∷ 0x03 ∷ 0 ∷ 0 ∷ 0 ∷ 0 ∷ []) 7 9
-    -- 8: the 257th PRESS of a test
-    ∷ row (presses 257) 8 522
+    -- 8: the 257th PRESS of a test, also where no RULE is there, after 5; the 257th FAULT, after 7 and 6
+    ∷ row (presses 0) 8 522
+    ∷ row (presses 1) 8 522
+    ∷ row (presses 2) 5 522
+    ∷ row (faults 0 2) 8 1294
+    ∷ row (faults 2 2) 7 1294
+    ∷ row (faults 0 1) 6 1294
     -- 9: no RULE at state 0; none at the state that the test has reached
     ∷ row (0x01 ∷ 1 ∷ 1 ∷ 1 ∷ 0x04 ∷ 0x05 ∷ 0 ∷ []) 9 5
     ∷ row (0x01 ∷ 2 ∷ 1 ∷ 1 ∷ 0x02 ∷ 0 ∷ 0 ∷ 0 ∷ 1 ∷ 0x04 ∷ 0x05 ∷ 0 ∷ 0x05 ∷ 0 ∷ []) 9 12
@@ -65,5 +76,5 @@ refusals =
     ∷ []
 
 pub refusals-told : map (λ (r : Refusal). reading (r .sheet)) refusals ≡ map (λ (r : Refusal). refused (r .number) (r .place)) refusals
-unfolding refusals presses last precedes count any all rowsAt ruleAt after leads reachedWithin allReached unruledChoices choicesAt isOpen openBelow openPairs firstBroken ascends lastTest ruleAfter refusal addPress advance finishing doing oneCommand from blank reading pressBytes
+unfolding refusals presses faults last precedes count any all upTo joined rowsAt ruleAt after leads reachedWithin allReached unruledChoices choicesAt isOpen openBelow openPairs firstBroken ascends lastTest ruleAfter refusal addPress advance finishing doing oneCommand from blank reading pressBytes
 refusals-told = refl
