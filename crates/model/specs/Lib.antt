@@ -3,6 +3,7 @@ pub mod Traces
 pub mod Mutant
 pub mod Compare
 pub mod Suite
+pub mod Log
 pub mod Implementation
 pub mod Verdict
 pub mod Operations

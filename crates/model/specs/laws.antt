@@ -11,6 +11,7 @@ pub mod TransitionLaw
 pub mod OperationLaw
 pub mod StepLaw
 pub mod SuiteLaw
+pub mod LogLaw
 pub mod Published
 pub mod GuaranteeLaw
 pub mod Demands

@@ -1,0 +1,158 @@
+-- The log of a sheet's test suite: what a mutant that passes gives, where one that fails is wrong, how long it is.
+use Prim.Native.Nat.{ℕ, zero, suc, _+_, _-_, _*_, _≤_}
+use native.Mathlib.Omega.{arith}
+use mathlib.Core.Path.{_≡_, refl, sym, _∙_}
+use mathlib.Core.Bool.{Bool, true, false, cond}
+use mathlib.Core.Option.{Option, none, some}
+use mathlib.Core.List.{List, [], _∷_, _++_}
+use borrow.Author.Tests.{eqb-true, eq-eqb, ne-eqb}
+use native.Mathlib.Decide.{ℕ-discrete}
+use lib.Dec.{eqb}
+use lib.ListN.{length, length-append}
+use Rattle.sheet.specs.Lists.{maybe, All}
+use Rattle.sheet.specs.Sheet.{Sheet}
+use Rattle.sheet.specs.Encode.{rowBytes, pressBytes, testBytes, sizeBytes, machineBytes, body, encode}
+use Rattle.sheet.specs.WellFormed.{WellFormed}
+use Rattle.sheet.specs.laws.Basics.{never}
+use Rattle.sheet.specs.laws.Parts.{presses-length}
+use Rattle.model.specs.Machine.{Move, outputsFrom, specifiedFrom}
+use Rattle.model.specs.Mutant.{rule, later, step, initial, outputs, specified}
+use Rattle.model.specs.Suite.{firstWrong, wrongIn, Place, laterTest, firstFailedIn, firstFailedOf, Passes}
+use Rattle.model.specs.Log.{Observation, reset, seen, GivesFrom, GivesLog, failedIn, testLog, testsLog, suiteLog}
+use Rattle.model.specs.laws.SuiteLaw.{specified-uncons, Specified, test-specified}
+
+abbrev place : ℕ → ℕ → Option Place
+place t i = some (record { test = t; position = i })
+
+same-place : {t u i j : ℕ} → t ≡ u → i ≡ j → place t i ≡ place u j
+same-place e f = rw (e, f) refl
+
+module _ (move : ℕ → ℕ → Move) (start : ℕ) where
+  -- a machine gives a log exactly if it gives every output of it
+  pub gives-none : (l : List Observation) (s begun i : ℕ) → GivesFrom move start s l → failedIn move start s begun i l ≡ none
+  unfolding GivesFrom failedIn
+  gives-none [] s begun i g = refl
+  gives-none (reset ∷ l) s begun i g = gives-none l start (suc begun) 0 g
+  gives-none (seen x o ∷ l) s begun i g = rw (eq-eqb (move s x .output) o (g .0)) (gives-none l (move s x .target) begun (suc i) (g .1))
+
+  pub none-gives : (l : List Observation) (s begun i : ℕ) → failedIn move start s begun i l ≡ none → GivesFrom move start s l
+  unfolding GivesFrom failedIn
+  none-gives [] s begun i e = tt
+  none-gives (reset ∷ l) s begun i e = none-gives l start (suc begun) 0 e
+  none-gives (seen x o ∷ l) s begun i e = go (eqb (move s x .output) o) refl (none-gives l (move s x .target) begun (suc i)) e
+    where
+      go : (c : Bool) → eqb (move s x .output) o ≡ c →
+          (failedIn move start (move s x .target) begun (suc i) l ≡ none → GivesFrom move start (move s x .target) l) →
+          cond c (failedIn move start (move s x .target) begun (suc i) l) (place (begun - 1) i) ≡ none →
+          (move s x .output ≡ o) × GivesFrom move start (move s x .target) l
+      go true ec h n = (eqb-true (move s x .output) o ec, h n)
+      go false ec h n = never (cc)
+
+  -- along a test, before a log on which neither the state nor the position matters
+  module _ (rule : ℕ → ℕ → Option Move) (begun : ℕ) (l : List Observation) (rest : Option Place)
+      (after : (q i : ℕ) → failedIn move start q begun i l ≡ rest) where
+    abbrev at : ℕ → ℕ → Option Place
+    at i j = place (begun - 1) (i + j)
+
+    one-later : (i : ℕ) (w : Option ℕ) → maybe w rest (at (suc i)) ≡ maybe (later w) rest (at i)
+    one-later i none = refl
+    one-later i (some j) = same-place refl (omega arith)
+
+    along-test : (xs os : List ℕ) (s q i : ℕ) → specifiedFrom rule s xs ≡ some os →
+        failedIn move start q begun i (testLog rule s xs ++ l) ≡ maybe (firstWrong os (outputsFrom move q xs)) rest (at i)
+    unfolding testLog failedIn specifiedFrom firstWrong outputsFrom
+    along-test [] os s q i e = let z : [] ≡ os = cc in rw (← z) (after q i)
+    along-test (x ∷ xs) os s q i e =
+        let f = specified-uncons rule s x xs os e in
+        rw (f .is, f .ruled)
+        (go (f .move .output) (firstWrong (f .rest) (outputsFrom move (move q x .target) xs)) (ℕ-discrete (move q x .output) (f .move .output))
+        (along-test xs (f .rest) (f .move .target) (move q x .target) (suc i) (f .specifies)))
+      where
+        go : (o : ℕ) (w : Option ℕ) → Dec (move q x .output ≡ o) → {r : Option Place} → r ≡ maybe w rest (at (suc i)) →
+            cond (eqb (move q x .output) o) r (place (begun - 1) i)
+            ≡ maybe (cond (eqb o (move q x .output)) (later w) (some zero)) rest (at i)
+        go o w (yes same) h = rw (eq-eqb _ _ same, eq-eqb _ _ (sym same)) (h ∙ one-later i w)
+        go o w (no other) h = rw (ne-eqb _ _ other, ne-eqb _ _ (λ z. other (sym z))) (same-place refl (omega arith))
+
+-- that many tests later
+laterBy : ℕ → Option Place → Option Place
+laterBy t none = none
+laterBy t (some f) = place (t + f .test) (f .position)
+
+module _ (sh : Sheet) (b : List ℕ) where
+  along-tests : (ts : List (List ℕ)) → All (Specified sh) ts → (q begun i : ℕ) →
+      failedIn (step sh b) (initial sh b) q begun i (testsLog (rule sh) ts) ≡ laterBy begun (firstFailedIn sh b ts)
+  unfolding failedIn testsLog firstFailedIn wrongIn specified outputs laterBy
+  along-tests [] a q begun i = refl
+  along-tests (t ∷ ts) a q begun i =
+      along-test (step sh b) (initial sh b) (rule sh) (suc begun) (testsLog (rule sh) ts) (laterBy (suc begun) (firstFailedIn sh b ts))
+      (λ p j. along-tests ts (a .1) p (suc begun) j) t (a .0 .expected) 0 (initial sh b) 0 (a .0 .is)
+      ∙ rw (a .0 .is) (go (firstWrong (a .0 .expected) (outputsFrom (step sh b) (initial sh b) t)) (firstFailedIn sh b ts))
+    where
+      go : (w : Option ℕ) (o : Option Place) →
+          maybe w (laterBy (suc begun) o) (λ j. place (suc begun - 1) (0 + j))
+          ≡ laterBy begun (maybe w (laterTest o) (place zero))
+      go none none = refl
+      go none (some f) = same-place (omega arith) refl
+      go (some j) o = same-place (omega arith) (omega arith)
+
+  module _ (wf : WellFormed sh) where
+    -- the first failed test is where the mutant does not give the suite's log
+    pub failed-log : failedIn (step sh b) (initial sh b) (initial sh b) 0 0 (suiteLog sh) ≡ firstFailedOf sh b
+    unfolding suiteLog firstFailedOf laterBy
+    failed-log = along-tests (sh .tests) (test-specified sh wf) (initial sh b) 0 0 ∙ go (firstFailedIn sh b (sh .tests))
+      where
+        go : (o : Option Place) → laterBy 0 o ≡ o
+        go none = refl
+        go (some f) = same-place (omega arith) refl
+
+    -- a mutant passes the suite exactly if it gives that log
+    pub passes-gives : Passes sh b → GivesLog sh b (suiteLog sh)
+    passes-gives e = none-gives (step sh b) (initial sh b) (suiteLog sh) (initial sh b) 0 0 (failed-log ∙ e)
+
+    pub gives-passes : GivesLog sh b (suiteLog sh) → Passes sh b
+    gives-passes g = sym failed-log ∙ gives-none (step sh b) (initial sh b) (suiteLog sh) (initial sh b) 0 0 g
+
+-- ---- how long it is
+
+module _ (rule : ℕ → ℕ → Option Move) where
+  test-short : (xs : List ℕ) (s : ℕ) → length (testLog rule s xs) ≤ length xs
+  unfolding testLog
+  test-short [] s = omega arith
+  test-short (x ∷ xs) s = go (rule s x) (test-short xs)
+    where
+      go : (o : Option Move) → ((t : ℕ) → length (testLog rule t xs) ≤ length xs) →
+          length (maybe o [] (λ r. seen x (r .output) ∷ testLog rule (r .target) xs)) ≤ suc (length xs)
+      go none h = omega arith
+      go (some r) h = omega (arith, h (r .target))
+
+  -- a test has a byte, and two for each input
+  tests-short : (ts : List (List ℕ)) → 2 * length (testsLog rule ts) ≤ length (testBytes ts) + length ts
+  unfolding testsLog testBytes
+  tests-short [] = omega arith
+  tests-short (t ∷ ts) =
+      let ih = tests-short ts in
+      omega (arith, length-append (testLog rule 0 t) (testsLog rule ts), length-append (pressBytes t) (testBytes ts), presses-length t, test-short t 0)
+
+tests-few : (ts : List (List ℕ)) → length ts ≤ length (testBytes ts)
+unfolding testBytes
+tests-few [] = omega arith
+tests-few (t ∷ ts) = let ih = tests-few ts in omega (arith, length-append (pressBytes t) (testBytes ts))
+
+module _ (sh : Sheet) where
+  tests-inside : 5 + length (testBytes (sh .tests)) ≤ length (encode sh)
+  unfolding encode body machineBytes sizeBytes
+  tests-inside =
+      let rows = rowBytes 2 (sh .rules) ++ rowBytes 3 (sh .faults) in
+      let e = length-append (rows ++ testBytes (sh .tests)) (6 ∷ []) in
+      let f = length-append rows (testBytes (sh .tests)) in
+      omega arith
+
+  -- at most as many observations as the sheet has bytes; and not many in any sheet
+  pub log-below : length (suiteLog sh) ≤ length (encode sh)
+  unfolding suiteLog
+  log-below = omega (arith, tests-inside, tests-short (rule sh) (sh .tests), tests-few (sh .tests))
+
+  pub log-most : WellFormed sh → length (encode sh) ≤ 16384 → length (suiteLog sh) ≤ 8448
+  unfolding suiteLog
+  log-most wf l = omega (arith, tests-inside, tests-short (rule sh) (sh .tests), wf .few-tests)
