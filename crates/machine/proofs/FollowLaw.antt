@@ -44,7 +44,7 @@ pub record Taken (m : Pair) (j p q x : ℕ) : Type 0 where
   pub below : x < m .inputs
   pub next-exact : 0 < j → Exact m j (rule .target) (m .move q x .target)
 
-pub taken : (m : Pair) (j p q : ℕ) → Closed m → Exact m (suc j) p q → Taken m j p q (best m j p q)
+taken : (m : Pair) (j p q : ℕ) → Closed m → Exact m (suc j) p q → Taken m j p q (best m j p q)
 unfolding Shown within
 taken m j p q cl e =
     let s = shows-shown m (within m j) p q (best m j p q) (best-shows m j p q (e .here)) in
@@ -67,33 +67,9 @@ taken m j p q cl e =
           before = λ e′ le. not-true-false (within m e′ (r .target) t) (λ h. clash (within m i (r .target) t) (within-mono m e′ i (r .target) t cl (omega arith) h) (n .1));
         }
 
-pub shortest-step : (m : Pair) (j p q x : ℕ) → x ≡ best m j p q → shortest m (suc j) p q ≡ x ∷ shortest m j (target (m .rule p x)) (m .move q x .target)
+shortest-step : (m : Pair) (j p q x : ℕ) → x ≡ best m j p q → shortest m (suc j) p q ≡ x ∷ shortest m j (target (m .rule p x)) (m .move q x .target)
 unfolding shortest
 shortest-step m j p q x e = rw e refl
-
-pub follow-more : (m : Pair) (d : ℕ) (buf₀ buf : List ℕ) (p q i j x p′ q′ : ℕ) → Closed m → Following m d buf₀ buf p q i (suc j) →
-    i < length buf → x ≡ best m j p q → Taken m j p q x → p′ ≡ target (m .rule p x) → q′ ≡ m .move q x .target →
-    Following m d buf₀ (set buf i x) p′ q′ (i + 1) j
-follow-more m d buf₀ buf p q i j x p′ q′ cl f l e t ep eq =
-    let ep′ : p′ ≡ t .rule .target = ep ∙ ap target (t .specified) in
-    record {
-      p-below = rw ep′ (cl .rule-below p x (t .rule) (f .p-below) (t .specified));
-      q-below = rw eq (cl .move-below q x (f .q-below) (t .below));
-      counts = omega (arith, f .counts);
-      long = length-set buf i x ∙ f .long;
-      front =
-          rw (add-one, take-suc-set buf i x l, append-snoc, ep, eq, ← shortest-step m j p q x e) (f .front);
-      back =
-          drop-set-lt (i + 1) buf i x (omega arith) ∙ sym (drop-drop 1 i buf) ∙ ap (λ (s : List ℕ). drop 1 s) (f .back) ∙ drop-drop 1 i buf₀;
-      exact = λ pos. rw (ep′, eq) (t .next-exact pos);
-    }
-
-pub follow-end : (m : Pair) (d : ℕ) (buf₀ buf : List ℕ) (p q i : ℕ) → Following m d buf₀ buf p q i 0 → buf ≡ overlay (shortest m d 0 (m .start)) buf₀
-unfolding shortest
-follow-end m d buf₀ buf p q i f =
-    let e : take i buf ≡ shortest m d 0 (m .start) = sym (append-nil (take i buf)) ∙ f .front in
-    let l : i ≡ length (shortest m d 0 (m .start)) = omega (arith, f .counts, shortest-length m d 0 (m .start)) in
-    sym (take-append-drop i buf) ∙ ap₂ (λ (s t : List ℕ). s ++ t) e (f .back ∙ ap (λ (n : ℕ). drop n buf₀) l)
 
 -- what a turn knows of the input that it found
 pub record Turn (m : Pair) (left p q x : ℕ) : Type 0 where
@@ -101,15 +77,41 @@ pub record Turn (m : Pair) (left p q x : ℕ) : Type 0 where
   pub is-best : x ≡ best m (left - 1) p q
   pub took : Taken m (left - 1) p q x
 
-pub turn : (m : Pair) (dist : List ℕ) (d : ℕ) (buf₀ buf : List ℕ) (p q i left x : ℕ) → Closed m → Marks m dist (d - 1) → Following m d buf₀ buf p q i left →
-    0 < left → x ≡ least (m .inputs) (shows m (near dist (left - 1)) p q) → Turn m left p q x
-turn m dist d buf₀ buf p q i left x cl marks f pos e =
-    let one : left ≡ suc (left - 1) = omega arith in
-    let is : x ≡ best m (left - 1) p q =
-    e ∙ best-agrees m (near dist (left - 1)) (left - 1) p q cl (f .p-below) (f .q-below)
-    (λ a b la lb. marks .agrees (left - 1) a b (omega (arith, f .counts)) la lb) in
-    let ex : Exact m (suc (left - 1)) p q = subst (λ (l : ℕ). Exact m l p q) one (f .exact pos) in
-    record { one-less = one; is-best = is; took = rw is (taken m (left - 1) p q cl ex) }
+module _ {m : Pair} (cl : Closed m) {d : ℕ} {buf₀ buf : List ℕ} {p q i left : ℕ} (f : Following m d buf₀ buf p q i left) where
+  pub turn : {dist : List ℕ} {x : ℕ} → Marks m dist (d - 1) → 0 < left → x ≡ least (m .inputs) (shows m (near dist (left - 1)) p q) → Turn m left p q x
+  turn {dist} {x} marks pos e =
+      let one : left ≡ suc (left - 1) = omega arith in
+      let is : x ≡ best m (left - 1) p q =
+      e ∙ best-agrees m (near dist (left - 1)) (left - 1) p q cl (f .p-below) (f .q-below)
+      (λ a b la lb. marks .agrees (left - 1) a b (omega (arith, f .counts)) la lb) in
+      let ex : Exact m (suc (left - 1)) p q = subst (λ (l : ℕ). Exact m l p q) one (f .exact pos) in
+      record { one-less = one; is-best = is; took = rw is (taken m (left - 1) p q cl ex) }
+
+  pub follow-more : {x p′ q′ : ℕ} → Turn m left p q x → i < length buf → p′ ≡ target (m .rule p x) → q′ ≡ m .move q x .target →
+      Following m d buf₀ (set buf i x) p′ q′ (i + 1) (left - 1)
+  follow-more {x} {p′} t l ep eq =
+      let ep′ : p′ ≡ t .took .rule .target = ep ∙ ap target (t .took .specified) in
+      record {
+        p-below = rw ep′ (cl .rule-below p x (t .took .rule) (f .p-below) (t .took .specified));
+        q-below = rw eq (cl .move-below q x (f .q-below) (t .took .below));
+        counts = omega (arith, f .counts, t .one-less);
+        long = length-set buf i x ∙ f .long;
+        front =
+            rw (add-one, take-suc-set buf i x l, append-snoc, ep, eq, ← shortest-step m (left - 1) p q x (t .is-best))
+            (subst (λ (n : ℕ). take i buf ++ shortest m n p q ≡ shortest m d 0 (m .start)) (t .one-less) (f .front));
+        back =
+            drop-set-lt (i + 1) buf i x (omega arith) ∙ sym (drop-drop 1 i buf) ∙ ap (λ (s : List ℕ). drop 1 s) (f .back) ∙ drop-drop 1 i buf₀;
+        exact = λ pos. rw (ep′, eq) (t .took .next-exact pos);
+      }
+
+pub follow-end : {m : Pair} {d : ℕ} {buf₀ buf : List ℕ} {p q i left : ℕ} → Following m d buf₀ buf p q i left → left ≤ 0 → buf ≡ overlay (shortest m d 0 (m .start)) buf₀
+unfolding shortest
+follow-end {m} {d} {buf₀} {buf} {p} {q} {i} {left} f z =
+    let none-left : left ≡ 0 = omega arith in
+    let front : take i buf ++ shortest m 0 p q ≡ shortest m d 0 (m .start) = subst (λ (n : ℕ). take i buf ++ shortest m n p q ≡ shortest m d 0 (m .start)) none-left (f .front) in
+    let e : take i buf ≡ shortest m d 0 (m .start) = sym (append-nil (take i buf)) ∙ front in
+    let l : i ≡ length (shortest m d 0 (m .start)) = omega (arith, f .counts, shortest-length m d 0 (m .start)) in
+    sym (take-append-drop i buf) ∙ ap₂ (λ (s t : List ℕ). s ++ t) e (f .back ∙ ap (λ (n : ℕ). drop n buf₀) l)
 
 -- comparing: before the buffer is touched, j rounds have not told the first states apart
 pub record Searching (m : Pair) (buf₀ buf dist : List ℕ) (j : ℕ) : Type 0 where

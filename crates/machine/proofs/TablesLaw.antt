@@ -1,69 +1,73 @@
 -- `shows` on tables, as the code computes it.
-use Prim.Native.Nat.{ℕ, _+_, _*_, _<_}
-use mathlib.Core.Path.{_≡_, refl}
-use mathlib.Core.Bool.{Bool, true, false, cond, _&&_}
-use mathlib.Core.Option.{none, some}
+use Prim.Native.Nat.{ℕ, _<_}
+use native.Mathlib.Omega.{arith}
+use mathlib.Core.Path.{_≡_, refl, ap, _∙_, sym}
+use mathlib.Core.Bool.{true, false}
+use mathlib.Core.Option.{some}
 use mathlib.Core.List.{List}
 use borrow.Author.Tests.{eq-eqb, ne-eqb, lt-ltb}
-use lib.Dec.{eqb, ltb}
+use lib.Dec.{leb}
 use lib.ListN.{getD}
 use Rattle.model.specs.Machine.{Move}
 use Rattle.model.specs.Compare.{target, shows}
-use Rattle.sheet.specs.laws.Basics.{never}
-use Rattle.machine.specs.Tables.{ruleIn, moveIn, movesIn, tables, Valid}
+use Rattle.model.specs.laws.Closed.{Closed}
+use Rattle.block.specs.Layout.{pair, ruleOutput, ruleTarget, statesOf, inputsOf}
+use Rattle.block.specs.Tabulated.{ruleOf}
+use Rattle.block.specs.laws.ChoiceLaw.{rule-at}
+use Rattle.machine.specs.Tables.{movesIn, tables, Valid, near}
+use Rattle.machine.specs.laws.LaidLaw.{move-at}
 
--- the machine at a state and an input in range
-pub move-at : (n k : ℕ) (mo mn : List ℕ) (s x : ℕ) → s < n → x < k → movesIn n k mo mn s x ≡ moveIn mo mn (s * 16 + x)
-unfolding movesIn
-move-at n k mo mn s x ls lx = rw (lt-ltb s n ls, lt-ltb x k lx) refl
+module _ {m targets : List ℕ} (v : Valid m targets) where
+  -- the place of a state and an input
+  pub place-low : (s x : ℕ) → s < statesOf m → x < inputsOf m → pair s x < 256
+  place-low s x ls lx = omega (arith, v .formed .few-states, v .formed .few-inputs)
 
-module _ (n k start : ℕ) (so sn mo mn : List ℕ) (p q x : ℕ) (lp : p < n) (lq : q < n) (lx : x < k) where
-  no-rule : getD so (p * 16 + x) 0 ≡ 255 → tables n k start so sn mo mn .rule p x ≡ none
-  unfolding tables ruleIn
-  no-rule e = rw (lt-ltb p n lp, lt-ltb x k lx, e) refl
+  pub closed : (start : ℕ) (outputs : List ℕ) → Closed (tables m start outputs targets)
+  closed start outputs =
+      record {
+        input-below = λ s x r e. rule-at m s x r e .input;
+        rule-below = λ s x r l e.
+            let h = rule-at m s x r e in
+            rw (h .target) (v .formed .rules (pair s x) (place-low s x l (h .input)) (h .there));
+        move-below = λ s x ls lx. rw (move-at m outputs targets s x ls lx) (v .below s x ls lx);
+      }
 
-  pub the-rule : (getD so (p * 16 + x) 0 ≡ 255 → ⊥) → tables n k start so sn mo mn .rule p x ≡ some (moveIn so sn (p * 16 + x))
-  unfolding tables ruleIn moveIn
-  the-rule ne = rw (lt-ltb p n lp, lt-ltb x k lx, ne-eqb _ _ ne) refl
+-- at the states p and q the input x
+module _ {m targets : List ℕ} (v : Valid m targets) (outputs dist : List ℕ) (p q x j : ℕ) (lp : p < statesOf m) (lq : q < statesOf m) (lx : x < inputsOf m)
+    {a b s : ℕ} (ea : a ≡ pair p x) (eb : b ≡ pair q x) (es : s ≡ ruleTarget m a) where
+  pub shows-none : s ≡ 255 → (start : ℕ) → false ≡ shows (tables m start outputs targets) (near dist j) p q x
+  unfolding shows ruleOf
+  shows-none e start =
+      let none-there : ruleTarget m (pair p x) ≡ 255 = rw (← ea) (sym es ∙ e) in
+      rw (lt-ltb p (statesOf m) lp, lt-ltb x (inputsOf m) lx, eq-eqb _ _ none-there) refl
 
-  pub the-move : tables n k start so sn mo mn .move q x ≡ moveIn mo mn (q * 16 + x)
-  unfolding tables
-  the-move = move-at n k mo mn q x lq lx
+  module _ (ne : s ≡ 255 → ⊥) where
+    the-rule : ruleOf m p x ≡ some (record { output = ruleOutput m a; target = s })
+    unfolding ruleOf
+    the-rule =
+        let there : ruleTarget m (pair p x) ≡ 255 → ⊥ = λ e. ne (es ∙ rw ea e) in
+        rw (lt-ltb p (statesOf m) lp, lt-ltb x (inputsOf m) lx, ne-eqb _ _ there, es, ea) refl
 
-  pub shows-none : (w : ℕ → ℕ → Bool) → getD so (p * 16 + x) 0 ≡ 255 → shows (tables n k start so sn mo mn) w p q x ≡ false
-  unfolding shows
-  shows-none w e = rw (no-rule e) refl
+    the-move : movesIn m outputs targets q x ≡ record { output = getD outputs b 0; target = getD targets b 0 }
+    the-move = rw eb (move-at m outputs targets q x lq lx)
 
-  pub shows-differ : (w : ℕ → ℕ → Bool) → (getD so (p * 16 + x) 0 ≡ 255 → ⊥) → (getD so (p * 16 + x) 0 ≡ getD mo (q * 16 + x) 0 → ⊥) →
-      shows (tables n k start so sn mo mn) w p q x ≡ true
-  unfolding shows moveIn
-  shows-differ w ne d = rw (the-rule ne, the-move, ne-eqb _ _ d) refl
+    -- the next states
+    pub next-low : (s < 16) × (getD targets b 0 < 16)
+    next-low =
+        let few = v .formed .few-states in
+        let rules = v .formed .rules a (omega (arith, place-low v p x lp lx)) (λ e. ne (es ∙ e)) in
+        let moves = v .below q x lq lx in
+        (omega (arith, few), rw eb (omega (arith, few, moves)))
 
-  pub shows-same : (w : ℕ → ℕ → Bool) → (getD so (p * 16 + x) 0 ≡ 255 → ⊥) → getD so (p * 16 + x) 0 ≡ getD mo (q * 16 + x) 0 →
-      shows (tables n k start so sn mo mn) w p q x ≡ w (getD sn (p * 16 + x) 0) (getD mn (q * 16 + x) 0)
-  unfolding shows moveIn
-  shows-same w ne e = rw (the-rule ne, the-move, eq-eqb _ _ e) refl
+    pub shows-differ : {o : ℕ} → o ≡ ruleOutput m a → (o ≡ getD outputs b 0 → ⊥) → (start : ℕ) → true ≡ shows (tables m start outputs targets) (near dist j) p q x
+    unfolding shows
+    shows-differ eo d start = rw (the-rule, the-move, ← eo, ne-eqb _ _ d) refl
 
-  -- the next states are states, and so below 16
-  pub next-below : Valid n k so sn mo mn → (getD so (p * 16 + x) 0 ≡ 255 → ⊥) → getD sn (p * 16 + x) 0 < n
-  unfolding tables moveIn
-  next-below v ne = v .closed start .rule-below p x (moveIn so sn (p * 16 + x)) lp (the-rule ne)
-
-  pub move-next-below : Valid n k so sn mo mn → getD mn (q * 16 + x) 0 < n
-  unfolding moveIn
-  move-next-below v = rw the-move at (below v)
-    where
-      below : Valid n k so sn mo mn → tables n k start so sn mo mn .move q x .target < n
-      below v′ = unfold tables in v′ .closed start .move-below q x lq lx
+    pub shows-same : {o c : ℕ} → o ≡ ruleOutput m a → o ≡ getD outputs b 0 → c ≡ pair s (getD targets b 0) → (start : ℕ) →
+        leb (getD dist c 0) j ≡ shows (tables m start outputs targets) (near dist j) p q x
+    unfolding shows near
+    shows-same eo e ec start = rw (the-rule, the-move, ← eo, eq-eqb _ _ e, ec) refl
 
 -- the next state of a rule that is there
-pub rule-target : (n k start : ℕ) (so sn mo mn : List ℕ) (p x : ℕ) (r : Move) → tables n k start so sn mo mn .rule p x ≡ some r →
-    getD sn (p * 16 + x) 0 ≡ target (tables n k start so sn mo mn .rule p x)
-unfolding tables ruleIn
-rule-target n k start so sn mo mn p x r e = go (ltb p n && ltb x k) (eqb (getD so (p * 16 + x) 0) 255) e
-  where
-    go : (a b : Bool) → cond a (cond b none (some (record { output = getD so (p * 16 + x) 0; target = getD sn (p * 16 + x) 0 }))) none ≡ some r →
-        getD sn (p * 16 + x) 0 ≡ target (cond a (cond b none (some (record { output = getD so (p * 16 + x) 0; target = getD sn (p * 16 + x) 0 }))) none)
-    go true true h = never (cc)
-    go true false h = refl
-    go false b h = never (cc)
+pub rule-target : (m : List ℕ) (p x : ℕ) (r : Move) → ruleOf m p x ≡ some r → ruleTarget m (pair p x) ≡ target (ruleOf m p x)
+rule-target m p x r e = sym (rule-at m p x r e .target) ∙ sym (ap target e)

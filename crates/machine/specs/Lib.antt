@@ -1,5 +1,5 @@
+pub mod Laid
 pub mod Tables
 pub mod Differences
-pub mod Sites
-pub mod Mutants
 pub mod Fits
+pub mod laws

@@ -1,53 +1,30 @@
--- A specification and a machine as tables: at state * 16 + input the output and the next state; an output of 255 says that
--- there is no rule.
+-- The specification of a block and a machine laid out in tables: at state * 16 + input its output and its next state.
 use Prim.Native.Nat.{ℕ, suc, _+_, _*_, _/_, _%_, _≤_, _<_}
 use mathlib.Core.Path.{_≡_}
 use mathlib.Core.Bool.{Bool, true, false, cond, _&&_}
 use mathlib.Core.Logic.{_⊎_}
-use mathlib.Core.Option.{Option, none, some}
 use mathlib.Core.List.{List}
-use lib.Dec.{eqb, ltb, leb}
+use lib.Dec.{ltb, leb}
 use lib.ListN.{getD}
 use Rattle.model.specs.Machine.{Move, Pair}
 use Rattle.model.specs.Mutant.{idle}
 use Rattle.model.specs.Compare.{least, shows, within}
-use Rattle.model.specs.laws.Closed.{Closed}
+use Rattle.block.specs.Layout.{pair, statesOf, inputsOf}
+use Rattle.block.specs.Tabulated.{Wf, ruleOf}
 
--- the move at an index, unless its output is 255
-unfoldable pub ruleIn : List ℕ → List ℕ → ℕ → Option Move
-ruleIn outs nexts i =
-    cond (eqb (getD outs i 0) 255) none (some (record { output = getD outs i 0; target = getD nexts i 0 }))
+unfoldable pub movesIn : List ℕ → List ℕ → List ℕ → ℕ → ℕ → Move
+movesIn m outputs targets = λ s x.
+    cond (ltb s (statesOf m) && ltb x (inputsOf m)) (record { output = getD outputs (pair s x) 0; target = getD targets (pair s x) 0 }) idle
 
-unfoldable pub moveIn : List ℕ → List ℕ → ℕ → Move
-moveIn outs nexts i = record { output = getD outs i 0; target = getD nexts i 0 }
+-- the block's specification, and the machine with its start
+abbrev pub tables : List ℕ → ℕ → List ℕ → List ℕ → Pair
+tables m start outputs targets =
+    record { states = statesOf m; inputs = inputsOf m; start = start; rule = ruleOf m; move = movesIn m outputs targets }
 
--- the machine of n states and k inputs
-unfoldable pub movesIn : ℕ → ℕ → List ℕ → List ℕ → ℕ → ℕ → Move
-movesIn n k mo mn = λ s x. cond (ltb s n && ltb x k) (moveIn mo mn (s * 16 + x)) idle
-
--- the specification in so and sn, and the machine in mo and mn with its start
-unfoldable pub tables : ℕ → ℕ → ℕ → List ℕ → List ℕ → List ℕ → List ℕ → Pair
-tables n k start so sn mo mn =
-    record {
-      states = n;
-      inputs = k;
-      start = start;
-      rule = λ s x. cond (ltb s n && ltb x k) (ruleIn so sn (s * 16 + x)) none;
-      move = movesIn n k mo mn;
-    }
-
--- what the functions on tables ask
-pub record Valid (n k : ℕ) (so sn mo mn : List ℕ) : Type 0 where
-  pub some-state : 0 < n
-  pub few-states : n ≤ 16
-  pub few-inputs : k ≤ 16
-  pub closed : (start : ℕ) → Closed (tables n k start so sn mo mn)
-
--- the machine stays among n states
-pub record Total (n k : ℕ) (mn : List ℕ) : Type 0 where
-  pub few-states : n ≤ 16
-  pub few-inputs : k ≤ 16
-  pub below : (s x : ℕ) → s < n → x < k → getD mn (s * 16 + x) 0 < n
+-- what the functions ask: the machine stays among the states
+pub record Valid (m targets : List ℕ) : Type 0 where
+  pub formed : Wf m
+  pub below : (s x : ℕ) → s < statesOf m → x < inputsOf m → getD targets (pair s x) 0 < statesOf m
 
 -- the pairs of states whose distance, in the table of distances, is at most j
 unfoldable pub near : List ℕ → ℕ → ℕ → ℕ → Bool

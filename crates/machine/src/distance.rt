@@ -1,14 +1,19 @@
-// Comparing the specification with a mutant, both as tables: so and sn hold the specification's output and next state at
-// state * 16 + input, mo and mn the mutant's.
+// Comparing the specification with a mutant laid out in tables.
 ghost use mathlib.Core.Path.{_≡_};
 ghost use mathlib.Core.Bool.{false};
 ghost use Prim.Native.Nat.{ℕ, _-_, _*_, _/_, _≤_, _<_};
 ghost use lib.ListN.{length, getD, replicate};
 ghost use Rattle.model.specs.Compare.{least, shortest, comparePair, shows as showsOf};
-ghost use Rattle.machine.specs.Tables.{tables, Valid, Marks, Exact, near, cellOf};
 ghost use Rattle.sheet.specs.Lists.{overlay};
+ghost use Rattle.block.specs.Layout.{statesOf, inputsOf};
+ghost use Rattle.machine.specs.Tables.{tables, Valid, Marks, Exact, near, cellOf};
 ghost use Rattle.machine.specs.Differences.{differenceOf, found};
-use crate::moves::wide;
+use block::inputs;
+use block::place;
+use block::rule_output;
+use block::rule_target;
+use block::states;
+use block::wide;
 
 // What tells a mutant from the specification: nothing, or a distinguishing sequence of this length.
 pub enum Difference {
@@ -18,33 +23,29 @@ pub enum Difference {
 
 // Whether input x shows another output at the states p and q, or leads to states at most j apart.
 fn shows(
-    so: &[u8; 256],
-    sn: &[u8; 256],
-    mo: &[u8; 256],
-    mn: &[u8; 256],
+    block: &[u8; 1604],
+    outputs: &[u8; 256],
+    targets: &[u8; 256],
     dist: &[u16; 256],
-    n: usize,
-    k: usize,
-    p: usize,
-    q: usize,
-    x: usize,
+    p: u8,
+    q: u8,
+    x: u8,
     j: u16,
 ) -> bool
-    requires { ⌜ Valid n k (now so) (now sn) (now mo) (now mn) ⌝ }
-    requires { ⌜ (p < n) × (q < n) × (x < k) ⌝ }
-    ensures { λ r. ⌜ ((start : ℕ) → r ≡ showsOf (tables n k start (now (so .entry)) (now (sn .entry)) (now (mo .entry)) (now (mn .entry))) (near (now (dist .entry)) j) p q x) ⌝ }
+    requires { ⌜ Valid (now block) (now targets) ⌝ }
+    requires { ⌜ (p < statesOf (now block)) × (q < statesOf (now block)) × (x < inputsOf (now block)) ⌝ }
+    ensures { λ r. ⌜ ((start : ℕ) → r ≡ showsOf (tables (now (block .entry)) start (now (outputs .entry)) (now (targets .entry))) (near (now (dist .entry)) j) p q x) ⌝ }
 {
-    let a = p * 16 + x;
-    let b = q * 16 + x;
-    if so[a] == 255 {
+    let a = place(p, x);
+    let b = place(q, x);
+    let s = rule_target(block, a);
+    if s == 255 {
         return false;
     }
-    if so[a] != mo[b] {
+    if rule_output(block, a) != outputs[b] {
         return true;
     }
-    let s = sn[a] as usize;
-    let t = mn[b] as usize;
-    dist[s * 16 + t] <= j
+    dist[place(s, targets[b])] <= j
 }
 
 // The squares of 1 to 16: the longest that a shortest distinguishing sequence of n states can be.
@@ -74,26 +75,24 @@ pub fn bound(n: usize) -> u16
     SQUARES[n - 1]
 }
 
-// The smallest input that shows it, or k.
+// The smallest input that shows it, or how many inputs there are.
 fn first_showing(
-    so: &[u8; 256],
-    sn: &[u8; 256],
-    mo: &[u8; 256],
-    mn: &[u8; 256],
+    block: &[u8; 1604],
+    outputs: &[u8; 256],
+    targets: &[u8; 256],
     dist: &[u16; 256],
-    n: usize,
-    k: usize,
-    p: usize,
-    q: usize,
+    p: u8,
+    q: u8,
     j: u16,
-) -> usize
-    requires { ⌜ Valid n k (now so) (now sn) (now mo) (now mn) ⌝ }
-    requires { ⌜ (p < n) × (q < n) ⌝ }
-    ensures { λ r. ⌜ ((start : ℕ) → r ≡ least k (showsOf (tables n k start (now (so .entry)) (now (sn .entry)) (now (mo .entry)) (now (mn .entry))) (near (now (dist .entry)) j) p q)) ⌝ }
+) -> u8
+    requires { ⌜ Valid (now block) (now targets) ⌝ }
+    requires { ⌜ (p < statesOf (now block)) × (q < statesOf (now block)) ⌝ }
+    ensures { λ r. ⌜ ((start : ℕ) → r ≡ least (inputsOf (now (block .entry))) (showsOf (tables (now (block .entry)) start (now (outputs .entry)) (now (targets .entry))) (near (now (dist .entry)) j) p q)) ⌝ }
 {
-    let mut x = 0;
+    let k = inputs(block);
+    let mut x: u8 = 0;
     while x < k {
-        if shows(so, sn, mo, mn, dist, n, k, p, q, x, j) {
+        if shows(block, outputs, targets, dist, p, q, x, j) {
             return x;
         }
         x += 1;
@@ -101,31 +100,29 @@ fn first_showing(
     x
 }
 
-// The distance at an index of one of the n states after one more round.
+// The distance at an index of one of the states after one more round.
 fn cell(
-    so: &[u8; 256],
-    sn: &[u8; 256],
-    mo: &[u8; 256],
-    mn: &[u8; 256],
+    block: &[u8; 1604],
+    outputs: &[u8; 256],
+    targets: &[u8; 256],
     dist: &[u16; 256],
-    n: usize,
-    k: usize,
     i: usize,
     j: u16,
 ) -> u16
-    requires { ⌜ Valid n k (now so) (now sn) (now mo) (now mn) ⌝ }
-    requires { ⌜ (i / 16 < n) × (j < 256) ⌝ }
-    ensures { λ r. ⌜ ((start : ℕ) → r ≡ cellOf (tables n k start (now (so .entry)) (now (sn .entry)) (now (mo .entry)) (now (mn .entry))) (now (dist .entry)) j i) ⌝ }
+    requires { ⌜ Valid (now block) (now targets) ⌝ }
+    requires { ⌜ (i / 16 < statesOf (now block)) × (j < 256) ⌝ }
+    ensures { λ r. ⌜ ((start : ℕ) → r ≡ cellOf (tables (now (block .entry)) start (now (outputs .entry)) (now (targets .entry))) (now (dist .entry)) j i) ⌝ }
 {
     let d = dist[i];
     if d <= j {
         return d;
     }
-    let q = i % 16;
-    if q >= n {
+    let p = (i / 16) as u8;
+    let q = (i % 16) as u8;
+    if q >= states(block) {
         return d;
     }
-    if first_showing(so, sn, mo, mn, dist, n, k, i / 16, q, j) < k {
+    if first_showing(block, outputs, targets, dist, p, q, j) < inputs(block) {
         return j + 1;
     }
     d
@@ -133,25 +130,23 @@ fn cell(
 
 // One round: each pair of states that is j + 1 apart gets its distance. Whether there was any.
 fn round(
-    so: &[u8; 256],
-    sn: &[u8; 256],
-    mo: &[u8; 256],
-    mn: &[u8; 256],
+    block: &[u8; 1604],
+    outputs: &[u8; 256],
+    targets: &[u8; 256],
     dist: &mut [u16; 256],
-    n: usize,
-    k: usize,
     j: u16,
 ) -> bool
-    requires { ⌜ Valid n k (now so) (now sn) (now mo) (now mn) ⌝ }
+    requires { ⌜ Valid (now block) (now targets) ⌝ }
     requires { ⌜ (j < 256) × (length (now dist) ≡ 256) ⌝ }
     ensures { λ r. ⌜ length (now (dist .exit)) ≡ 256 ⌝ }
-    ensures { λ r. ⌜ ((start i : ℕ) → i < 256 → getD (now (dist .exit)) i 0 ≡ cellOf (tables n k start (now (so .entry)) (now (sn .entry)) (now (mo .entry)) (now (mn .entry))) (now (dist .entry)) j i) ⌝ }
+    ensures { λ r. ⌜ ((start i : ℕ) → i < 256 → getD (now (dist .exit)) i 0 ≡ cellOf (tables (now (block .entry)) start (now (outputs .entry)) (now (targets .entry))) (now (dist .entry)) j i) ⌝ }
     ensures { λ r. ⌜ (r ≡ false → (i : ℕ) → getD (now (dist .exit)) i 0 ≡ getD (now (dist .entry)) i 0) ⌝ }
 {
+    let n = wide(states(block));
     let mut changed = false;
     let mut i = 0;
     while i < 16 * n {
-        let d = cell(so, sn, mo, mn, dist, n, k, i, j);
+        let d = cell(block, outputs, targets, dist, i, j);
         if d != dist[i] {
             dist[i] = d;
             changed = true;
@@ -163,34 +158,31 @@ fn round(
 
 // Writes the smallest of the shortest distinguishing sequences, of d inputs, along falling distances.
 fn follow(
-    so: &[u8; 256],
-    sn: &[u8; 256],
-    mo: &[u8; 256],
-    mn: &[u8; 256],
+    block: &[u8; 1604],
+    outputs: &[u8; 256],
+    targets: &[u8; 256],
     dist: &[u16; 256],
-    n: usize,
-    k: usize,
-    start: usize,
+    start: u8,
     d: u16,
     buf: &mut [u8],
 )
-    requires { ⌜ Valid n k (now so) (now sn) (now mo) (now mn) ⌝ }
-    requires { ⌜ start < n ⌝ }
-    requires { ⌜ Marks (tables n k start (now so) (now sn) (now mo) (now mn)) (now dist) (d - 1) ⌝ }
-    requires { ⌜ Exact (tables n k start (now so) (now sn) (now mo) (now mn)) d 0 start ⌝ }
+    requires { ⌜ Valid (now block) (now targets) ⌝ }
+    requires { ⌜ start < statesOf (now block) ⌝ }
+    requires { ⌜ Marks (tables (now block) start (now outputs) (now targets)) (now dist) (d - 1) ⌝ }
+    requires { ⌜ Exact (tables (now block) start (now outputs) (now targets)) d 0 start ⌝ }
     requires { ⌜ d ≤ length (now buf) ⌝ }
-    ensures { λ r. ⌜ now (buf .exit) ≡ overlay (shortest (tables n k start (now (so .entry)) (now (sn .entry)) (now (mo .entry)) (now (mn .entry))) d 0 start) (now (buf .entry)) ⌝ }
+    ensures { λ r. ⌜ now (buf .exit) ≡ overlay (shortest (tables (now (block .entry)) start (now (outputs .entry)) (now (targets .entry))) d 0 start) (now (buf .entry)) ⌝ }
 {
-    let mut p: usize = 0;
-    let mut q: usize = start;
+    let mut p: u8 = 0;
+    let mut q = start;
     let mut i: usize = 0;
     let mut left = d;
     while left > 0 {
         left -= 1;
-        let x = first_showing(so, sn, mo, mn, dist, n, k, p, q, left);
-        buf[i] = x as u8;
-        p = wide(sn[p * 16 + x]);
-        q = wide(mn[q * 16 + x]);
+        let x = first_showing(block, outputs, targets, dist, p, q, left);
+        buf[i] = x;
+        p = rule_target(block, place(p, x));
+        q = targets[place(q, x)];
         i += 1;
     }
 }
@@ -205,31 +197,28 @@ fn unmarked() -> [u16; 256]
 // Conforming, or the shortest, then smallest, distinguishing sequence, written at the front of buf. Each turn asks whether the
 // states to start from are j + 1 apart before it finds out which others are.
 pub fn distinguish<'a, 'b>(
-    so: &'a [u8; 256],
-    sn: &'a [u8; 256],
-    mo: &'b [u8; 256],
-    mn: &'b [u8; 256],
-    n: usize,
-    k: usize,
-    start: usize,
+    block: &'a [u8; 1604],
+    outputs: &'b [u8; 256],
+    targets: &'b [u8; 256],
+    start: u8,
     buf: &mut [u8],
 ) -> Difference
-    requires { ⌜ Valid n k (now so) (now sn) (now mo) (now mn) ⌝ }
-    requires { ⌜ start < n ⌝ }
-    requires { ⌜ n * n ≤ length (now buf) ⌝ }
-    ensures { λ r. ⌜ r ≡ differenceOf (comparePair (tables n k start (now (so .entry)) (now (sn .entry)) (now (mo .entry)) (now (mn .entry)))) ⌝ }
-    ensures { λ r. ⌜ now (buf .exit) ≡ overlay (found (comparePair (tables n k start (now (so .entry)) (now (sn .entry)) (now (mo .entry)) (now (mn .entry))))) (now (buf .entry)) ⌝ }
+    requires { ⌜ Valid (now block) (now targets) ⌝ }
+    requires { ⌜ start < statesOf (now block) ⌝ }
+    requires { ⌜ statesOf (now block) * statesOf (now block) ≤ length (now buf) ⌝ }
+    ensures { λ r. ⌜ r ≡ differenceOf (comparePair (tables (now (block .entry)) start (now (outputs .entry)) (now (targets .entry)))) ⌝ }
+    ensures { λ r. ⌜ now (buf .exit) ≡ overlay (found (comparePair (tables (now (block .entry)) start (now (outputs .entry)) (now (targets .entry))))) (now (buf .entry)) ⌝ }
 {
     let mut dist = unmarked();
-    let top = bound(n);
+    let top = bound(wide(states(block)));
     let mut j: u16 = 0;
     while j < top {
-        if first_showing(so, sn, mo, mn, &dist, n, k, 0, start, j) < k {
+        if first_showing(block, outputs, targets, &dist, 0, start, j) < inputs(block) {
             let d = j + 1;
-            follow(so, sn, mo, mn, &dist, n, k, start, d, buf);
+            follow(block, outputs, targets, &dist, start, d, buf);
             return Difference::Shown(d as usize);
         }
-        if !round(so, sn, mo, mn, &mut dist, n, k, j) {
+        if !round(block, outputs, targets, &mut dist, j) {
             return Difference::Nothing;
         }
         j += 1;

@@ -1,8 +1,6 @@
 -- What the proofs of the functions share.
 mod RespondLaw
-mod SuiteTables
 mod Operating
-mod SuiteBytes
+mod SuiteLaw
 mod Opened
-mod PackedLaw
 mod JudgingLaw

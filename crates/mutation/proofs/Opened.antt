@@ -14,7 +14,7 @@ use Rattle.sheet.specs.declared.Loaded.{Loaded}
 use Rattle.sheet.specs.Sheet.{Sheet}
 use Rattle.sheet.specs.Reading.{accepted, refused, Reading, reading, summaryOf}
 use Rattle.sheet.specs.Tables.{loadedOf}
-use Rattle.sheet.specs.laws.Accepted.{well-formed}
+use Rattle.sheet.specs.laws.Accepted.{well-formed, short-enough}
 use Rattle.sheet.specs.laws.Encoded.{encoded}
 use Rattle.model.specs.Suite.{Place, firstFailedOf, compareOf}
 use Rattle.model.specs.Operations.{refuseIf, withMutant, running, failing, comparing, compareOn, runOn}
@@ -45,7 +45,7 @@ opened s l size e h = go (reading s) refl e
         record {
           sheet = sh;
           is = er;
-          holds = record { read = record { formed = well-formed s sh er; summary = z; tabled = ap (λ (x : Loaded). x .tables) el }; bytes = encoded s sh er };
+          holds = record { read = record { formed = well-formed s sh er; summary = z; tabled = ap (λ (x : Loaded). x .tables) el }; bytes = encoded s sh er; short = short-enough s sh er };
         }
     go (refused number place) er el =
         let a : read.Accepted size ≡ read.Refused number place = sym h ∙ ap (λ (x : Loaded). x .reading) el in

@@ -1,10 +1,14 @@
 -- What the code answers: 01's numbers and values for each case, and the bytes written.
 use Prim.Native.Nat.{ℕ}
+use mathlib.Core.Path.{_≡_}
 use mathlib.Core.Option.{Option, none, some}
 use mathlib.Core.List.{List, []}
 use lib.ListN.{length}
+use Rattle.sheet.specs.Lists.{overlay}
 use Rattle.sheet.specs.Reading.{Result, accepted, refused}
 use Rattle.model.specs.Suite.{Place}
+use Rattle.logs.specs.declared.walk.Wrong.{Wrong}
+use Rattle.logs.specs.declared.walk.Wrong.the-variants as wrong
 use Rattle.machine.specs.declared.distance.Difference.{Difference}
 use Rattle.machine.specs.declared.distance.Difference.the-variants as difference
 use Rattle.machine.specs.Differences.{found}
@@ -24,9 +28,18 @@ abbrev pub ranWrites : Result (List ℕ) → List ℕ
 ranWrites (accepted os) = os
 ranWrites (refused number place) = []
 
+-- what run answers and leaves in the buffer
+pub record Runs (o : Result (List ℕ)) (r : Ran) (old new : List ℕ) : Type 0 where
+  pub answer : r ≡ ranAnswer o
+  pub bytes : new ≡ overlay (ranWrites o) old
+
 abbrev pub failedOf : Option Place → Failed
 failedOf none = fail.Nothing
 failedOf (some f) = fail.At (f .test) (f .position)
+
+abbrev pub failedBy : Wrong → Failed
+failedBy wrong.Nothing = fail.Nothing
+failedBy (wrong.At test position) = fail.At test position
 
 abbrev pub failedAnswer : Result (Option Place) → Failed
 failedAnswer (accepted f) = failedOf f
@@ -48,3 +61,8 @@ comparedAnswer (refused number place) = compared.Refused number place
 abbrev pub comparedWrites : Result (Option (List ℕ)) → List ℕ
 comparedWrites (accepted o) = found o
 comparedWrites (refused number place) = []
+
+-- what compare answers and leaves in the buffer
+pub record Compares (o : Result (Option (List ℕ))) (r : Compared) (old new : List ℕ) : Type 0 where
+  pub answer : r ≡ comparedAnswer o
+  pub bytes : new ≡ overlay (comparedWrites o) old

@@ -10,6 +10,8 @@ use Rattle.model.specs.Mutant.{slots}
 use Rattle.model.specs.Suite.{Judgement, complete, survivor}
 use Rattle.model.specs.Implementation.{Guaranteed}
 use Rattle.model.specs.Verdict.{Complete, FirstSurvivor, ShortestOf}
+use Rattle.machine.specs.declared.distance.Difference.{Difference}
+use Rattle.machine.specs.declared.distance.Difference.the-variants as difference
 use Rattle.mutation.specs.declared.verdict.Judged.{Judged}
 use Rattle.mutation.specs.declared.verdict.Judged.the-variants as judged
 
@@ -17,6 +19,11 @@ use Rattle.mutation.specs.declared.verdict.Judged.the-variants as judged
 abbrev pub judgementAnswer : Judgement → Judged
 judgementAnswer complete = judged.Complete
 judgementAnswer (survivor b xs) = judged.Survivor (length xs)
+
+-- by what tells the survivor from the specification
+abbrev pub judgedBy : Difference → Judged
+judgedBy difference.Nothing = judged.Complete
+judgedBy (difference.Shown d) = judged.Survivor d
 
 abbrev pub judgedAnswer : Result Judgement → Judged
 judgedAnswer (accepted j) = judgementAnswer j

@@ -1,4 +1,4 @@
 pub mod Answers
 pub mod Operate
 pub mod Judging
-pub mod Tests
+pub mod Suites

@@ -1,9 +1,9 @@
 -- What the answers of First failed test and Compare tell; an accepted sheet as it was read.
-use Prim.Native.Nat.{ℕ, _*_, _≤_}
+use Prim.Native.Nat.{ℕ, _*_, _≤_, _<_}
 use mathlib.Core.Path.{_≡_}
 use mathlib.Core.Option.{none, some}
 use mathlib.Core.List.{List}
-use lib.ListN.{take}
+use lib.ListN.{length, getD, take}
 use Rattle.sheet.specs.declared.Summary.{Summary}
 use Rattle.sheet.specs.declared.Tables.{Tables}
 use Rattle.sheet.specs.Sheet.{Sheet}
@@ -11,7 +11,9 @@ use Rattle.sheet.specs.Encode.{encode}
 use Rattle.sheet.specs.Reading.{accepted, reading}
 use Rattle.model.specs.Mutant.{IsMutant}
 use Rattle.model.specs.Verdict.{FailedMeans, ComparedMeans}
-use Rattle.machine.specs.Fits.{Read}
+use Rattle.block.specs.Layout.{statesOf, inputsOf}
+use Rattle.block.specs.Tabled.{Read}
+use Rattle.machine.specs.Tables.{Valid}
 use Rattle.mutation.specs.declared.Failed.{Failed}
 use Rattle.mutation.specs.declared.Failed.the-variants as failed
 use Rattle.mutation.specs.declared.Compared.{Compared}
@@ -21,6 +23,13 @@ use Rattle.mutation.specs.declared.Compared.the-variants as compared
 pub record ReadFrom (sh : Sheet) (size : Summary) (tables : Tables) (s : List ℕ) : Type 0 where
   pub read : Read sh size tables
   pub bytes : encode sh ≡ s
+  pub short : length s ≤ 16384
+
+-- what running asks: the machine stays among the states of a block, starts there, and the inputs are the block's
+pub record Runnable (m targets : List ℕ) (start : ℕ) (inputs : List ℕ) : Type 0 where
+  pub valid : Valid m targets
+  pub low : start < statesOf m
+  pub below : (i : ℕ) → i < length inputs → getD inputs i 0 < inputsOf m
 
 -- the answer of first failed test for a mutant: no test fails, or this is the first that does and its first wrong output
 abbrev pub FailedSays : Sheet → List ℕ → Failed → Type 0

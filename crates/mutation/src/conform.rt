@@ -1,19 +1,20 @@
 // Compare, over tables.
 ghost use mathlib.Core.Path.{_≡_};
 ghost use lib.ListN.{length};
-ghost use Rattle.sheet.specs.Lists.{overlay};
 ghost use Rattle.sheet.specs.Sheet.{Sheet};
 ghost use Rattle.model.specs.Operations.{compareOn};
-ghost use Rattle.machine.specs.Fits.{Read};
-ghost use Rattle.mutation.specs.Answers.{comparedBy, comparedAnswer, comparedWrites};
+ghost use Rattle.block.specs.Tabled.{Read};
+ghost use Rattle.mutation.specs.Answers.{comparedBy, Compares};
 use crate::Compared;
+use block::fresh;
+use block::states;
+use block::tabulate;
+use block::wide;
 use machine::Difference;
 use machine::Fit;
 use machine::bound;
 use machine::distinguish;
-use machine::initial;
 use machine::machine_of;
-use machine::wide;
 use sheet::Summary;
 use sheet::Tables;
 
@@ -35,26 +36,23 @@ pub(crate) fn compare_accepted(
     buffer: &mut [u8],
 ) -> Compared
     requires { ⌜ ((sh : Sheet) × Read sh size tables) ⌝ }
-    ensures { λ r. ⌜ ((sh : Sheet) → Read sh size tables → r ≡ comparedAnswer (compareOn sh (now (mutant .entry)) (length (now (buffer .entry))))) ⌝ }
-    ensures { λ r. ⌜ ((sh : Sheet) → Read sh size tables → now (buffer .exit) ≡ overlay (comparedWrites (compareOn sh (now (mutant .entry)) (length (now (buffer .entry))))) (now (buffer .entry))) ⌝ }
+    ensures { λ r. ⌜ ((sh : Sheet) → Read sh size tables → Compares (compareOn sh (now (mutant .entry)) (length (now (buffer .entry)))) r (now (buffer .entry)) (now (buffer .exit))) ⌝ }
 {
-    let machine = machine_of(size, tables, mutant);
+    let mut block = fresh();
+    tabulate(size, tables, &mut block);
+    let machine = machine_of(&block, mutant);
     let fit = machine.fit;
     if let Fit::Refused(number, place) = fit {
         return Compared::Refused(number, place);
     }
-    let n = wide(size.states);
-    if buffer.len() < bound(n) as usize {
+    if buffer.len() < bound(wide(states(&block))) as usize {
         return Compared::Refused(16, 0);
     }
     let found = distinguish(
-        &tables.output,
-        &tables.target,
+        &block,
         &machine.output,
         &machine.target,
-        n,
-        wide(size.inputs),
-        initial(),
+        machine.start,
         buffer,
     );
     compared(found)

@@ -1,32 +1,32 @@
 // 01's Judge.
-use engine::Notes;
-use engine::fresh_notes;
-use engine::fresh_sets;
-use engine::fresh_values;
-use engine::no_sets;
-use engine::no_values;
+use crate::suite::log_suite;
+use block::fresh;
+use block::slots;
+use block::states;
+use block::tabulate;
+use block::wide;
+use cubes::goal::Goal;
+use machine::Difference;
 use machine::bound;
-use machine::number;
-use machine::wide;
-use partial::block::pack;
+use search::Searched;
+use search::first;
 use sheet::Reading;
 use sheet::Summary;
 use sheet::Tables;
 use sheet::load;
 use sheet::refusal_of;
-use survivor::Searched;
-use survivor::search;
 ghost use mathlib.Core.Path.{_≡_};
-ghost use lib.ListN.{length, replicate};
+ghost use Prim.Native.Nat.{ℕ};
+ghost use lib.ListN.{length};
+ghost use Rattle.sheet.specs.Lists.{overlay};
 ghost use Rattle.sheet.specs.Sheet.{Sheet};
 ghost use Rattle.sheet.specs.Reading.{accepted};
 ghost use Rattle.model.specs.Suite.{judgeOf};
 ghost use Rattle.model.specs.Operations.{judging, judgeOn};
-ghost use Rattle.survivor.specs.declared.survive.Searched.the-variants.{GaveUp};
-ghost use Rattle.sheet.specs.Lists.{overlay};
+ghost use Rattle.search.specs.Shown.{Room};
 ghost use Rattle.mutation.specs.Operate.{ReadFrom};
-ghost use Rattle.survivor.specs.Search.{Searching, Room, Leaves};
-ghost use Rattle.mutation.specs.Judging.{judgedAnswer, boardWrites, sequenceWrites, Judges, Measured, ToldJudged};
+ghost use Rattle.mutation.specs.Suites.{SuiteIn};
+ghost use Rattle.mutation.specs.Judging.{judgedAnswer, judgedBy, boardWrites, sequenceWrites, Judges, Measured, ToldJudged};
 
 // What Judge answers: complete, or the length of the first survivor's shortest distinguishing sequence.
 pub enum Judged {
@@ -35,109 +35,44 @@ pub enum Judged {
     Refused(u8, usize),
 }
 
-// No choice settled.
-fn unsettled() -> [u16; 32]
-    ensures { λ r. ⌜ r ≡ replicate 32 256 ⌝ }
+// A survivor is told from the specification by its sequence.
+fn told_by(found: Difference) -> Judged
+    ensures { λ r. ⌜ r ≡ judgedBy found ⌝ }
+    ensures { λ r. ⌜ ((old new : ℕ) → Measured r old new) ⌝ }
 {
-    [256u16; 32]
-}
-
-// A block for a sheet's tables.
-fn no_block() -> [u8; 1603]
-    ensures { λ r. ⌜ r ≡ replicate 1603 0 ⌝ }
-{
-    [0u8; 1603]
-}
-
-// The first survivor of all by a search with a store of refutations, written to the buffers.
-fn find_thoroughly(
-    block: &[u8; 1603],
-    bytes: &[u8],
-    notes: &mut Notes,
-    n: usize,
-    board: &mut [u8],
-    sequence: &mut [u8],
-) -> Searched
-    requires { ⌜ ((sh : Sheet) × Searching sh (now block) (now bytes) (replicate 32 256) 0 n) ⌝ }
-    requires { ⌜ Room (now block) n (now board) (now sequence) ⌝ }
-    ensures { λ r. ⌜ ((sh : Sheet) → Searching sh (now (block .entry)) (now (bytes .entry)) (replicate 32 256) 0 n → Leaves sh (replicate 32 256) 0 r (now (board .entry)) (now (board .exit)) (now (sequence .entry)) (now (sequence .exit))) ⌝ }
-    ensures { λ r. ⌜ (r ≡ GaveUp → ⊥) ⌝ }
-{
-    let mut sets = fresh_sets();
-    let mut values = fresh_values();
-    let p = unsettled();
-    search(
-        block,
-        bytes,
-        &mut sets,
-        &mut values,
-        notes,
-        p,
-        0,
-        n,
-        board,
-        sequence,
-    )
-}
-
-// The same; first by a quick search, which keeps no refutations and may give up.
-fn find(
-    block: &[u8; 1603],
-    bytes: &[u8],
-    notes: &mut Notes,
-    n: usize,
-    board: &mut [u8],
-    sequence: &mut [u8],
-) -> Searched
-    requires { ⌜ ((sh : Sheet) × Searching sh (now block) (now bytes) (replicate 32 256) 0 n) ⌝ }
-    requires { ⌜ Room (now block) n (now board) (now sequence) ⌝ }
-    ensures { λ r. ⌜ ((sh : Sheet) → Searching sh (now (block .entry)) (now (bytes .entry)) (replicate 32 256) 0 n → Leaves sh (replicate 32 256) 0 r (now (board .entry)) (now (board .exit)) (now (sequence .entry)) (now (sequence .exit))) ⌝ }
-    ensures { λ r. ⌜ (r ≡ GaveUp → ⊥) ⌝ }
-{
-    let mut sets = no_sets();
-    let mut values = no_values();
-    let p = unsettled();
-    let found = search(
-        block,
-        bytes,
-        &mut sets,
-        &mut values,
-        notes,
-        p,
-        0,
-        n,
-        board,
-        sequence,
-    );
     match found {
-        Searched::Nothing => Searched::Nothing,
-        Searched::First(length) => Searched::First(length),
-        Searched::GaveUp => find_thoroughly(block, bytes, notes, n, board, sequence),
+        Difference::Nothing => Judged::Complete,
+        Difference::Shown(length) => Judged::Survivor(length),
     }
 }
 
-// The judgement of a packed sheet with room in both buffers, and how many nodes the engine looked at.
-fn conclude(
-    block: &[u8; 1603],
-    bytes: &[u8],
-    count: usize,
+// The judgement of a tabulated sheet with room in both buffers and for its suite's log, and how many nodes the search looked at.
+fn conclude<'a>(
+    sheet: &[u8],
+    starts: &'a [u16; 256],
+    lengths: &'a [u16; 256],
+    tests: usize,
+    block: &[u8; 1604],
+    log: &mut [u16],
     board: &mut [u8],
     sequence: &mut [u8],
     nodes: &mut u32,
 ) -> Judged
-    requires { ⌜ ((sh : Sheet) × Searching sh (now block) (now bytes) (replicate 32 256) 0 count) ⌝ }
-    requires { ⌜ Room (now block) count (now board) (now sequence) ⌝ }
-    ensures { λ r. ⌜ ((sh : Sheet) → Searching sh (now (block .entry)) (now (bytes .entry)) (replicate 32 256) 0 count → Judges (accepted (judgeOf sh)) r (now (board .entry)) (now (board .exit)) (now (sequence .entry)) (now (sequence .exit))) ⌝ }
+    requires { ⌜ ((sh : Sheet) × SuiteIn sh (now sheet) (now starts) (now lengths) tests (now block) (length (now log))) × Room (now block) (now board) (now sequence) ⌝ }
+    ensures { λ r. ⌜ ((sh : Sheet) → SuiteIn sh (now (sheet .entry)) (now (starts .entry)) (now (lengths .entry)) tests (now (block .entry)) (length (now (log .entry))) → Judges (accepted (judgeOf sh)) r (now (board .entry)) (now (board .exit)) (now (sequence .entry)) (now (sequence .exit))) ⌝ }
     ensures { λ r. ⌜ Measured r (now (nodes .entry)) (now (nodes .exit)) ⌝ }
 {
-    let mut notes = fresh_notes();
-    let found = find(block, bytes, &mut notes, count, board, sequence);
-    *nodes = engine::nodes(&notes);
-    match found {
+    let n = log_suite(sheet, starts, lengths, tests, block, log);
+    match first(
+        block,
+        &log[..n],
+        Goal::Nonconforming,
+        board,
+        sequence,
+        nodes,
+    ) {
         Searched::Nothing => Judged::Complete,
-        Searched::First(length) => Judged::Survivor(length),
-        // ruled out by what `find` promises
-        Searched::GaveUp => Judged::Complete,
+        Searched::First(found) => told_by(found),
     }
 }
 
@@ -154,32 +89,40 @@ fn judge_read(
     ensures { λ r. ⌜ ((sh : Sheet) → ReadFrom sh size tables (now (sheet .entry)) → Judges (judgeOn sh (length (now (board .entry))) (length (now (sequence .entry)))) r (now (board .entry)) (now (board .exit)) (now (sequence .entry)) (now (sequence .exit))) ⌝ }
     ensures { λ r. ⌜ Measured r (now (nodes .entry)) (now (nodes .exit)) ⌝ }
 {
-    let n = wide(size.states);
-    let k = wide(size.inputs);
-    let sites = number(&tables.choices, n, k);
-    let count = sites.count;
-    if board.len() < count {
+    let mut block = fresh();
+    tabulate(size, tables, &mut block);
+    if board.len() < wide(slots(&block)) {
         return Judged::Refused(16, 0);
     }
-    if sequence.len() < bound(n) as usize {
+    if sequence.len() < bound(wide(states(&block))) as usize {
         return Judged::Refused(16, 1);
     }
-    let mut block = no_block();
-    pack(
-        &tables.output,
-        &tables.target,
-        &sites.site,
-        &tables.first,
-        &tables.mutated,
-        &tables.diverted,
-        &sites.slots,
-        size.states,
-        size.inputs,
-        &mut block,
-    );
-    let place = 4 + 5 * size.rules + 5 * size.faults;
-    let bytes = &sheet[place..];
-    conclude(&block, bytes, count, board, sequence, nodes)
+    if sheet.len() <= 1024 {
+        let mut short = [0u16; 1024];
+        return conclude(
+            sheet,
+            &tables.starts,
+            &tables.lengths,
+            size.tests,
+            &block,
+            &mut short,
+            board,
+            sequence,
+            nodes,
+        );
+    }
+    let mut long = [0u16; 8448];
+    conclude(
+        sheet,
+        &tables.starts,
+        &tables.lengths,
+        size.tests,
+        &block,
+        &mut long,
+        board,
+        sequence,
+        nodes,
+    )
 }
 
 // Judge, with the number of nodes that the engine looked at: a measurement. It is as it was on a refusal; which number it is

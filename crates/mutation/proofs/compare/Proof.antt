@@ -52,8 +52,9 @@ returns-2 c =
     let a = entry .args in
     let o = opened (a .sheet .now) (at-load .load .result) (at-reading .reading .given .0 .0) (at-load .load .ensures) (at-reading .reading .given .1) in
     let e = comparing-on (a .sheet .now) (o .sheet) (o .is) (a .mutant .now) (length (a .buffer .now)) in
-    let answer = c .before .before .compare-accepted .ensures .0 (o .sheet) (o .holds .read) ∙ sym (ap comparedAnswer e) in
-    let bytes = c .before .before .compare-accepted .ensures .1 (o .sheet) (o .holds .read) ∙ sym (ap (λ q. overlay (comparedWrites q) (a .buffer .now)) e) in
+    let is = c .before .before .compare-accepted .ensures (o .sheet) (o .holds .read) in
+    let answer = is .answer ∙ sym (ap comparedAnswer e) in
+    let bytes = is .bytes ∙ sym (ap (λ q. overlay (comparedWrites q) (a .buffer .now)) e) in
     (answer, (bytes, told-compared (a .sheet .now) (a .mutant .now) (length (a .buffer .now)) _ (a .buffer .now) _ answer bytes))
 
 pub compare-spec : {M : Type 1} → statement M

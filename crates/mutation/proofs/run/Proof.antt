@@ -52,8 +52,9 @@ returns-2 c =
     let a = entry .args in
     let o = opened (a .sheet .now) (at-load .load .result) (at-reading .reading .given .0 .0) (at-load .load .ensures) (at-reading .reading .given .1) in
     let e = running-on (a .sheet .now) (o .sheet) (o .is) (a .mutant .now) (a .inputs .now) (length (a .buffer .now)) in
-    let answer = c .before .before .run-accepted .ensures .0 (o .sheet) (o .holds .read) ∙ sym (ap ranAnswer e) in
-    let bytes = c .before .before .run-accepted .ensures .1 (o .sheet) (o .holds .read) ∙ sym (ap (λ q. overlay (ranWrites q) (a .buffer .now)) e) in
+    let is = c .before .before .run-accepted .ensures (o .sheet) (o .holds .read) in
+    let answer = is .answer ∙ sym (ap ranAnswer e) in
+    let bytes = is .bytes ∙ sym (ap (λ q. overlay (ranWrites q) (a .buffer .now)) e) in
     (answer, bytes)
 
 pub run-spec : {M : Type 1} → statement M

@@ -1,10 +1,8 @@
 -- `cell`: each way out is one of the cases of a cell.
 use mathlib.Core.Path.{sym, _∙_}
 use native.Mathlib.Numerals.{add-one}
-use native.Mathlib.Omega.{arith}
-use lib.ListN.{getD}
-use Rattle.machine.specs.Tables.{tables, near}
 use Rattle.machine.proofs.MarksLaw.{cell-old, cell-no-q, cell-new, cell-none}
+use native.Mathlib.Omega.{arith}
 use borrow.Author.Needs.{needs}
 use Rattle.machine.proofs.distance.cell.Statement.{statement}
 use Rattle.machine.proofs.distance.cell.Tie as tie
@@ -13,45 +11,49 @@ mul-d : tie.Need-mul-d
 mul-d c = omega arith
 
 element-copy-out-d : tie.Need-element-copy-out-d
-element-copy-out-d c = omega arith
+element-copy-out-d c = search needs
 
 returns : tie.Need-returns
-unfolding tables
-returns c = λ start.
-    let a = c .before .before .args in
-    sym (cell-old (tables (a .n) (a .k) start (a .so .now) (a .sn .now) (a .mo .now) (a .mn .now)) (near (a .dist .now) (a .j)) (a .j) (a .i) (getD (a .dist .now) (a .i) 0) (c .if1 .taken))
+returns c = λ start. sym (cell-old _ _ _ _ _ (c .if1 .taken))
+
+cast-p : tie.Need-cast-p
+cast-p c = search needs
+
+cast-q : tie.Need-cast-q
+cast-q c = search needs
+
+states-requires : tie.Need-states-requires
+states-requires c κs = search needs
 
 returns-2 : tie.Need-returns-2
-unfolding tables
-returns-2 c = λ start.
-    let a = c .before .before .before .args in
-    sym (cell-no-q (tables (a .n) (a .k) start (a .so .now) (a .sn .now) (a .mo .now) (a .mn .now)) (near (a .dist .now) (a .j)) (a .j) (a .i) (getD (a .dist .now) (a .i) 0) (c .before .if1 .left) (c .before .before .before .pre .1 .0) (c .if2 .taken))
+returns-2 c =
+    let entry = c .before .before .before .before in
+    λ start. sym (cell-no-q _ _ _ _ _ (c .before .before .if1 .left) (entry .pre .1 .0) (omega (arith, c .if2 .taken, c .before .states .ensures)))
 
 first-showing-requires : tie.Need-first-showing-requires
 first-showing-requires c κs = search needs
+
+inputs-requires : tie.Need-inputs-requires
+inputs-requires c κs = search needs
 
 add-result : tie.Need-add-result
 add-result c = search needs
 
 returns-3 : tie.Need-returns-3
-unfolding tables
 returns-3 c =
-    let at-if1 = c .before .before .before in
+    let at-if2 = c .before .before .before in
+    let at-states = at-if2 .before in
+    let at-if1 = at-states .before in
     let entry = at-if1 .before .before in
-    λ start.
-    let a = entry .args in
-    let e = c .before .first-showing .ensures start in
-    add-one (a .j) ∙ sym (cell-new (tables (a .n) (a .k) start (a .so .now) (a .sn .now) (a .mo .now) (a .mn .now)) (near (a .dist .now) (a .j)) (a .j) (a .i) (getD (a .dist .now) (a .i) 0) (at-if1 .if1 .left) (entry .pre .1 .0) (c .before .before .if2 .left) (rw e at (c .if3 .taken)))
+    λ start. add-one _ ∙ sym (cell-new _ _ _ _ _ (at-if1 .if1 .left) (entry .pre .1 .0) (omega (arith, at-if2 .if2 .left, at-states .states .ensures)) (rw (c .before .before .first-showing .ensures start, c .before .inputs .ensures) at (c .if3 .taken)))
 
 returns-4 : tie.Need-returns-4
-unfolding tables
 returns-4 c =
-    let at-if1 = c .before .before .before in
+    let at-if2 = c .before .before .before in
+    let at-states = at-if2 .before in
+    let at-if1 = at-states .before in
     let entry = at-if1 .before .before in
-    λ start.
-    let a = entry .args in
-    let e = c .before .first-showing .ensures start in
-    sym (cell-none (tables (a .n) (a .k) start (a .so .now) (a .sn .now) (a .mo .now) (a .mn .now)) (near (a .dist .now) (a .j)) (a .j) (a .i) (getD (a .dist .now) (a .i) 0) (at-if1 .if1 .left) (entry .pre .1 .0) (c .before .before .if2 .left) (rw e at (c .if3 .left)))
+    λ start. sym (cell-none _ _ _ _ _ (at-if1 .if1 .left) (entry .pre .1 .0) (omega (arith, at-if2 .if2 .left, at-states .states .ensures)) (rw (c .before .before .first-showing .ensures start, c .before .inputs .ensures) at (c .if3 .left)))
 
 pub cell-spec : {M : Type 1} → statement M
 cell-spec =
@@ -60,8 +62,12 @@ cell-spec =
     mul-d
     element-copy-out-d
     returns
+    cast-p
+    cast-q
+    states-requires
     returns-2
     first-showing-requires
+    inputs-requires
     add-result
     returns-3
     returns-4)

@@ -1,33 +1,39 @@
--- `first_showing`: no input below x shows it; so the first that does is the least, and k is where none does.
+-- `first_showing`: no input below x shows it; so the first that does is the least, and how many there are is where none does.
 use Prim.Native.Nat.{ℕ, _≤_, _<_, _-_}
 use mathlib.Core.Path.{_≡_, sym, _∙_}
 use mathlib.Core.Bool.{false}
 use native.Mathlib.Omega.{arith}
 use borrow.Author.Count.{below-more}
 use Rattle.model.specs.Compare.{shows}
-use Rattle.machine.specs.Tables.{tables, near}
 use Rattle.model.specs.laws.LeastLaw.{least-unique}
+use Rattle.block.specs.Layout.{inputsOf}
+use Rattle.machine.specs.Tables.{tables, near}
+use borrow.Author.Needs.{needs}
 use Rattle.machine.proofs.distance.first_showing.Statement.{statement}
 use Rattle.machine.proofs.distance.first_showing.Tie as tie
 
 abbrev Inv-loop : tie.InvT-loop
-Inv-loop so sn mo mn dist n k p q j x₀ x =
-    (x ≤ k) × ((start i : ℕ) → i < x → shows (tables n k start so sn mo mn) (near dist j) p q i ≡ false)
+Inv-loop block outputs targets dist p q j k x₀ x =
+    (k ≡ inputsOf block) × (x ≤ k) × ((start i : ℕ) → i < x → shows (tables block start outputs targets) (near dist j) p q i ≡ false)
 
 abbrev μ-loop : tie.MeasureT-loop
-μ-loop so sn mo mn dist n k p q j x₀ x = k - x
+μ-loop block outputs targets dist p q j k x₀ x = k - x
+
+inputs-requires : tie.Need-inputs-requires Inv-loop μ-loop
+inputs-requires c κs = search needs
 
 loop-holds : tie.Need-loop-holds Inv-loop μ-loop
-loop-holds c = (omega arith, λ start i l. absurd (omega arith))
+loop-holds c = (c .inputs .ensures, omega arith, λ start i l. absurd (omega arith))
 
 shows-requires : tie.Need-shows-requires Inv-loop μ-loop
-shows-requires c κs = (c .before .before .pre .0, (c .before .before .pre .1 .0, c .before .before .pre .1 .1, c .loop-test .taken))
+shows-requires c κs =
+    let entry = c .before .before .before in
+    (entry .pre .0, (entry .pre .1 .0, entry .pre .1 .1, omega arith))
 
 returns : tie.Need-returns Inv-loop μ-loop
-returns c = λ start.
-    let a = c .before .before .before .before .args in
-    let l = c .before .before .before .loop in
-    sym (least-unique (a .k) (shows (tables (a .n) (a .k) start (a .so .now) (a .sn .now) (a .mo .now) (a .mn .now)) (near (a .dist .now) (a .j)) (a .p) (a .q)) (l .x) (l .inv .0) (l .inv .1 start) (λ _. sym (c .before .shows .ensures start) ∙ c .if1 .taken))
+returns c =
+    let at-loop = c .before .before .before in
+    λ start. sym (least-unique _ _ (at-loop .loop .x) (omega arith) (at-loop .loop .inv .2 start) (λ _. sym (c .before .shows .ensures start) ∙ c .if1 .taken))
 
 add-x : tie.Need-add-x Inv-loop μ-loop
 add-x c = omega arith
@@ -36,13 +42,12 @@ loop-less : tie.Need-loop-less Inv-loop μ-loop
 loop-less c = omega arith
 
 loop-again : tie.Need-loop-again Inv-loop μ-loop
-loop-again c = (omega arith, λ start. below-more _ _ (c .before .before .before .loop .inv .1 start) (sym (c .before .shows .ensures start) ∙ c .if1 .left))
+loop-again c =
+    let at-loop = c .before .before .before in
+    (at-loop .loop .inv .0, omega arith, λ start. below-more _ _ (at-loop .loop .inv .2 start) (sym (c .before .shows .ensures start) ∙ c .if1 .left))
 
 returns-2 : tie.Need-returns-2 Inv-loop μ-loop
-returns-2 c = λ start.
-    let a = c .before .before .args in
-    let l = c .before .loop in
-    sym (least-unique (a .k) (shows (tables (a .n) (a .k) start (a .so .now) (a .sn .now) (a .mo .now) (a .mn .now)) (near (a .dist .now) (a .j)) (a .p) (a .q)) (l .x) (l .inv .0) (l .inv .1 start) (λ lt. absurd (omega arith)))
+returns-2 c = λ start. sym (least-unique _ _ (c .before .loop .x) (omega arith) (c .before .loop .inv .2 start) (λ l. absurd (omega arith)))
 
 pub first-showing-spec : {M : Type 1} → statement M
 first-showing-spec =
@@ -50,6 +55,7 @@ first-showing-spec =
     (tie.spec
     Inv-loop
     μ-loop
+    inputs-requires
     loop-holds
     shows-requires
     returns

@@ -6,39 +6,57 @@ use mathlib.Core.Logic.{⊎-elim}
 use native.Mathlib.Omega.{arith}
 use lib.ListN.{length, length-set, getD}
 use Rattle.sheet.specs.laws.Basics.{never}
+use Rattle.block.specs.Layout.{statesOf}
 use Rattle.machine.specs.Tables.{tables}
 use Rattle.machine.proofs.MarksLaw.{Done, done-none, done-more, done-same, done-all}
+use borrow.Author.Needs.{needs}
 use Rattle.machine.proofs.distance.round.Statement.{statement}
 use Rattle.machine.proofs.distance.round.Tie as tie
 
 abbrev Inv-loop : tie.InvT-loop
-Inv-loop so sn mo mn dist₀ n k j changed₀ i₀ dist changed i =
-    (length dist ≡ 256) × ((start : ℕ) → Done (tables n k start so sn mo mn) dist₀ j dist i)
+Inv-loop block outputs targets dist₀ j n changed₀ i₀ dist changed i =
+    (n ≡ statesOf block) × (length dist ≡ 256) × ((start : ℕ) → Done (tables block start outputs targets) dist₀ j dist i)
     × (changed ≡ false → (t : ℕ) → getD dist t 0 ≡ getD dist₀ t 0)
 
 abbrev μ-loop : tie.MeasureT-loop
-μ-loop so sn mo mn dist₀ n k j changed₀ i₀ dist changed i = 16 * n - i
+μ-loop block outputs targets dist₀ j n changed₀ i₀ dist changed i = 16 * n - i
+
+states-requires : tie.Need-states-requires Inv-loop μ-loop
+states-requires c κs = search needs
+
+wide-requires : tie.Need-wide-requires Inv-loop μ-loop
+wide-requires c κs = search needs
 
 loop-holds : tie.Need-loop-holds Inv-loop μ-loop
-loop-holds c = (c .pre .1 .1, λ start. done-none _ _ _, λ _ t. refl)
+loop-holds c = (c .wide .ensures .0 ∙ c .before .states .ensures, c .before .before .pre .1 .1, λ start. done-none _ _ _, λ _ t. refl)
 
 mul-loop : tie.Need-mul-loop Inv-loop μ-loop
 mul-loop c = omega arith
 
 cell-requires : tie.Need-cell-requires Inv-loop μ-loop
-cell-requires c κs = (c .before .before .before .pre .0, (omega arith, omega arith))
+cell-requires c κs =
+    let entry = c .before .before .before .before .before in
+    (entry .pre .0, (omega arith, omega arith))
 
 mul-if1 : tie.Need-mul-if1 Inv-loop μ-loop
-mul-if1 c = omega arith
+mul-if1 c =
+    let entry = c .before .before .before .before .before .before in
+    omega (arith, entry .pre .0 .formed .few-states)
 
 element-copy-out-if1 : tie.Need-element-copy-out-if1 Inv-loop μ-loop
-element-copy-out-if1 c = omega arith
+element-copy-out-if1 c =
+    let entry = c .before .before .before .before .before .before in
+    omega (arith, entry .pre .0 .formed .few-states)
 
 mul-dist : tie.Need-mul-dist Inv-loop μ-loop
-mul-dist c = omega arith
+mul-dist c =
+    let entry = c .before .before .before .before .before .before .before .before in
+    omega (arith, entry .pre .0 .formed .few-states)
 
 element-write-dist : tie.Need-element-write-dist Inv-loop μ-loop
-element-write-dist c = omega arith
+element-write-dist c =
+    let entry = c .before .before .before .before .before .before .before .before in
+    omega (arith, entry .pre .0 .formed .few-states)
 
 add-i : tie.Need-add-i Inv-loop μ-loop
 add-i c = omega arith
@@ -48,25 +66,28 @@ loop-less c = omega arith
 
 loop-again : tie.Need-loop-again Inv-loop μ-loop
 loop-again c =
-    let l = c .before .before .before .before .before .loop in
+    let at-loop = c .before .before .before .before .before in
+    let entry = at-loop .before .before .before in
+    let l = at-loop .loop in
     let e = c .before .before .cell .ensures in
-    let lt : l .i < length (l .dist) = omega arith in
+    let lt : l .i < length (l .dist) = omega (arith, entry .pre .0 .formed .few-states) in
     ⊎-elim
     (λ w. (
-      rw (w .1) (simp length-set (l .inv .0)),
-      λ start. rw (w .1) (done-more _ _ _ _ _ (l .inv .1 start) _ lt (e start)),
+      l .inv .0,
+      rw (w .1) (simp length-set (l .inv .1)),
+      λ start. rw (w .1) (done-more _ _ _ _ _ (l .inv .2 start) _ lt (e start)),
       λ f. never (cc),
     ))
     (λ w. (
-      rw (w .1) (l .inv .0),
-      λ start. rw (w .1) (done-same _ _ _ _ _ (l .inv .1 start) lt (sym (w .0 .left) ∙ e start)),
-      λ f t. rw (w .1) (l .inv .2 (sym (w .2) ∙ f) t),
+      l .inv .0,
+      rw (w .1) (l .inv .1),
+      λ start. rw (w .1) (done-same _ _ _ _ _ (l .inv .2 start) lt (sym (w .0 .left) ∙ e start)),
+      λ f t. rw (w .1) (l .inv .3 (sym (w .2) ∙ f) t),
     ))
     (c .if1 .came)
 
 returns : tie.Need-returns Inv-loop μ-loop
-unfolding tables
-returns c = let l = c .before .loop .inv in (l .0, (λ start t _. done-all _ _ _ _ _ t (l .1 start) (c .loop-test .left), l .2))
+returns c = (c .before .loop .inv .1, (λ start t _. done-all _ _ _ _ _ t (c .before .loop .inv .2 start) (omega arith), c .before .loop .inv .3))
 
 pub round-spec : {M : Type 1} → statement M
 round-spec =
@@ -74,6 +95,8 @@ round-spec =
     (tie.spec
     Inv-loop
     μ-loop
+    states-requires
+    wide-requires
     loop-holds
     mul-loop
     cell-requires

@@ -1,108 +1,81 @@
--- `shows`: each answer is a law of `shows` on tables; the two next states are below n, so that the index is below 256.
-use Prim.Native.Nat.{_+_, _*_, _<_}
-use mathlib.Core.Path.{sym}
-use native.Mathlib.Omega.{arith}
+-- `shows`: each answer is a law of `shows` on tables; the two next states are states.
+use Rattle.machine.proofs.TablesLaw.{shows-none, shows-differ, shows-same, next-low}
 use borrow.Author.Needs.{needs}
-use lib.ListN.{getD}
-use Rattle.machine.specs.Tables.{near}
-use Rattle.machine.proofs.TablesLaw.{shows-none, shows-differ, shows-same, next-below, move-next-below}
 use Rattle.machine.proofs.distance.shows.Statement.{statement}
 use Rattle.machine.proofs.distance.shows.Tie as tie
 
-mul-a : tie.Need-mul-a
-mul-a c = search needs
+place-requires : tie.Need-place-requires
+place-requires c κs = search needs
 
-add-a : tie.Need-add-a
-add-a c = search needs
+place-requires-2 : tie.Need-place-requires-2
+place-requires-2 c κs = search needs
 
-mul-b : tie.Need-mul-b
-mul-b c = search needs
-
-add-b : tie.Need-add-b
-add-b c = search needs
-
-element-copy-out-if1 : tie.Need-element-copy-out-if1
-element-copy-out-if1 c = search needs
+rule-target-requires : tie.Need-rule-target-requires
+rule-target-requires c κs = search needs
 
 returns : tie.Need-returns
-returns c = λ start. let s = c .before .before in let a = s .args in sym (shows-none (a .n) (a .k) start (a .so .now) (a .sn .now) (a .mo .now) (a .mn .now) (a .p) (a .q) (a .x) (s .pre .1 .0) (s .pre .1 .1) (s .pre .1 .2) (near (a .dist .now) (a .j)) (c .if1 .taken))
+returns c =
+    let at-place = c .before .before .before in
+    let entry = at-place .before in
+    shows-none (entry .pre .0) (entry .args .outputs .now) (entry .args .dist .now) (entry .args .p) (entry .args .q) (entry .args .x) (entry .args .j) (entry .pre .1 .0) (entry .pre .1 .1) (entry .pre .1 .2) (at-place .place .ensures .0) (c .before .before .place2 .ensures .0) (c .before .rule-target .ensures) (c .if1 .taken)
+
+rule-output-requires : tie.Need-rule-output-requires
+rule-output-requires c κs = search needs
 
 element-copy-out-if2 : tie.Need-element-copy-out-if2
 element-copy-out-if2 c = search needs
 
-element-copy-out-if2-2 : tie.Need-element-copy-out-if2-2
-element-copy-out-if2-2 c = search needs
-
 returns-2 : tie.Need-returns-2
-returns-2 c = λ start. let s = c .before .before .before .before .before in let a = s .args in sym (shows-differ (a .n) (a .k) start (a .so .now) (a .sn .now) (a .mo .now) (a .mn .now) (a .p) (a .q) (a .x) (s .pre .1 .0) (s .pre .1 .1) (s .pre .1 .2) (near (a .dist .now) (a .j)) (c .before .before .before .if1 .left) (c .if2 .taken))
+returns-2 c =
+    let at-if1 = c .before .before .before in
+    let at-rule-target = at-if1 .before in
+    let at-place2 = at-rule-target .before in
+    let at-place = at-place2 .before in
+    let entry = at-place .before in
+    shows-differ (entry .pre .0) (entry .args .outputs .now) (entry .args .dist .now) (entry .args .p) (entry .args .q) (entry .args .x) (entry .args .j) (entry .pre .1 .0) (entry .pre .1 .1) (entry .pre .1 .2) (at-place .place .ensures .0) (at-place2 .place2 .ensures .0) (at-rule-target .rule-target .ensures) (at-if1 .if1 .left) (c .before .before .rule-output .ensures) (c .if2 .taken)
 
-element-copy-out-s : tie.Need-element-copy-out-s
-element-copy-out-s c = search needs
+element-copy-out-place : tie.Need-element-copy-out-place
+element-copy-out-place c = search needs
 
-cast-s : tie.Need-cast-s
-cast-s c =
+place-requires-3 : tie.Need-place-requires-3
+place-requires-3 c κs =
     let at-if1 = c .before .before .before .before in
-    let s = at-if1 .before .before in
-    let a = s .args in
-    omega (arith, s .pre .0 .few-states, next-below (a .n) (a .k) 0 (a .so .now) (a .sn .now) (a .mo .now) (a .mn .now) (a .p) (a .q) (a .x) (s .pre .1 .0) (s .pre .1 .1) (s .pre .1 .2) (s .pre .0) (at-if1 .if1 .left))
-
-element-copy-out-t : tie.Need-element-copy-out-t
-element-copy-out-t c = search needs
-
--- the next states are states
-small : (c : tie.After-t) →
-    let a = c .before .before .before .before .before .before .before .args in
-    (getD (a .sn .now) (a .p * 16 + a .x) 0 < c .before .before .before .before .before .before .before .args .n) × (getD (a .mn .now) (a .q * 16 + a .x) 0 < c .before .before .before .before .before .before .before .args .n)
-small c =
-    let at-if1 = c .before .before .before .before .before in
-    let s = at-if1 .before .before in
-    let a = s .args in (
-      next-below (a .n) (a .k) 0 (a .so .now) (a .sn .now) (a .mo .now) (a .mn .now) (a .p) (a .q) (a .x) (s .pre .1 .0) (s .pre .1 .1) (s .pre .1 .2) (s .pre .0) (at-if1 .if1 .left),
-      move-next-below (a .n) (a .k) 0 (a .so .now) (a .sn .now) (a .mo .now) (a .mn .now) (a .p) (a .q) (a .x) (s .pre .1 .0) (s .pre .1 .1) (s .pre .1 .2) (s .pre .0),
-    )
-
-cast-t : tie.Need-cast-t
-cast-t c = omega (arith, small c .1, c .before .before .before .before .before .before .before .pre .0 .few-states)
+    let at-rule-target = at-if1 .before in
+    let at-place2 = at-rule-target .before in
+    let at-place = at-place2 .before in
+    let entry = at-place .before in
+    next-low (entry .pre .0) (entry .args .outputs .now) (entry .args .dist .now) (entry .args .p) (entry .args .q) (entry .args .x) (entry .args .j) (entry .pre .1 .0) (entry .pre .1 .1) (entry .pre .1 .2) (at-place .place .ensures .0) (at-place2 .place2 .ensures .0) (at-rule-target .rule-target .ensures) (at-if1 .if1 .left)
 
 mul-result : tie.Need-mul-result
-mul-result c = omega (arith, small c)
-
-add-result : tie.Need-add-result
-add-result c = omega (arith, small c)
-
-mul-result-2 : tie.Need-mul-result-2
-mul-result-2 c = omega (arith, small c)
+mul-result c = search needs
 
 element-copy-out-result : tie.Need-element-copy-out-result
-element-copy-out-result c = omega (arith, small c)
+element-copy-out-result c = search needs
 
 returns-3 : tie.Need-returns-3
-unfolding near
 returns-3 c =
     let at-if2 = c .before .before .before in
-    let at-if1 = at-if2 .before .before .before in
-    let place = at-if1 .before .before in
-    λ start. let s = place in let a = s .args in sym (shows-same (a .n) (a .k) start (a .so .now) (a .sn .now) (a .mo .now) (a .mn .now) (a .p) (a .q) (a .x) (s .pre .1 .0) (s .pre .1 .1) (s .pre .1 .2) (near (a .dist .now) (a .j)) (at-if1 .if1 .left) (at-if2 .if2 .left))
+    let at-rule-output = at-if2 .before .before in
+    let at-if1 = at-rule-output .before in
+    let at-rule-target = at-if1 .before in
+    let at-place2 = at-rule-target .before in
+    let at-place = at-place2 .before in
+    let entry = at-place .before in
+    shows-same (entry .pre .0) (entry .args .outputs .now) (entry .args .dist .now) (entry .args .p) (entry .args .q) (entry .args .x) (entry .args .j) (entry .pre .1 .0) (entry .pre .1 .1) (entry .pre .1 .2) (at-place .place .ensures .0) (at-place2 .place2 .ensures .0) (at-rule-target .rule-target .ensures) (at-if1 .if1 .left) (at-rule-output .rule-output .ensures) (at-if2 .if2 .left) (c .before .place3 .ensures .0)
 
 pub shows-spec : {M : Type 1} → statement M
 shows-spec =
     tie.close
     (tie.spec
-    mul-a
-    add-a
-    mul-b
-    add-b
-    element-copy-out-if1
+    place-requires
+    place-requires-2
+    rule-target-requires
     returns
+    rule-output-requires
     element-copy-out-if2
-    element-copy-out-if2-2
     returns-2
-    element-copy-out-s
-    cast-s
-    element-copy-out-t
-    cast-t
+    element-copy-out-place
+    place-requires-3
     mul-result
-    add-result
-    mul-result-2
     element-copy-out-result
     returns-3)

@@ -1,0 +1,4 @@
+mod Packs
+mod SitesLaw
+mod SuspectSites
+mod Tabulates

@@ -1,0 +1,37 @@
+-- Filling the block, cell by cell.
+use mathlib.Core.Path.{_≡_, refl, sym, _∙_, subst}
+use mathlib.Core.List.{List}
+use mathlib.Core.Logic.{_⊎_, inl, inr}
+use Prim.Native.Nat.{ℕ, _+_, _<_, _≤_}
+use native.Mathlib.Omega.{arith}
+use borrow.Author.Count.{below-more}
+use lib.ListN.{length, set, length-set}
+use lib.Seq.{getD-set-same, getD-set-other}
+use Rattle.block.specs.Packing.{Filled, Located}
+
+pub fill-none : {m : List ℕ} (base size : ℕ) (Right : ℕ → ℕ → Type 0) → length m ≡ 1604 → Filled m m base size 0 Right
+fill-none base size Right l = record { low = omega arith; long = l; same = λ k h. absurd (omega arith); others = λ j h. refl }
+
+pub fill-more : {old new : List ℕ} {base size n : ℕ} {Right : ℕ → ℕ → Type 0} (v : ℕ) → base + size ≤ 1604 → Filled old new base size n Right → n < size → Right n v
+    → Filled old (set new (base + n) v) base size (n + 1) Right
+fill-more {old} {new} {base} {size} {n} {Right} v fits f l ok = record {
+  low = omega arith;
+  long = length-set new (base + n) v ∙ f .long;
+  same = below-more _ n (λ k h. subst (λ (y : ℕ). Right k y) (sym (getD-set-other new (base + n) (base + k) v 0 (λ s. omega (arith, s, h)))) (f .same k h))
+      (subst (λ (y : ℕ). Right n y) (sym (getD-set-same new (base + n) v 0 (omega (arith, f .long, f .low, fits)))) ok);
+  others = λ j h. getD-set-other new (base + n) j v 0 (λ s. out j h s) ∙ f .others j h;
+}
+  where
+    out : (j : ℕ) → (j < base) ⊎ (base + size ≤ j) → j ≡ base + n → ⊥
+    out j (inl h) s = omega (arith, h, s)
+    out j (inr h) s = omega (arith, h, s, l)
+
+pub fill-all : {old new : List ℕ} {base size n : ℕ} {Right : ℕ → ℕ → Type 0} → Filled old new base size n Right → size ≤ n → Filled old new base size size Right
+fill-all f l = record { low = omega arith; long = f .long; same = λ k h. f .same k (omega arith); others = f .others }
+
+pub located-none : {m : List ℕ} → length m ≡ 1604 → Located m m
+located-none l = record { long = l; others = λ j h. refl }
+
+pub located-more : {old new : List ℕ} (at v : ℕ) → 1571 ≤ at → Located old new → Located old (set new at v)
+located-more {old} {new} at v l f = record
+    { long = length-set new at v ∙ f .long; others = λ j h. getD-set-other new at j v 0 (λ s. omega (arith, s, h)) ∙ f .others j h }

@@ -1,0 +1,2 @@
+pub mod ChoiceLaw
+pub mod TabledLaw

@@ -1,0 +1,131 @@
+-- The transitions of a pair, and the move of a mutant.
+use mathlib.Core.Path.{_≡_, ap, _∙_}
+use mathlib.Core.Option.{some}
+use mathlib.Core.List.{List}
+use Prim.Native.Nat.{ℕ, _+_, _-_, _/_, _%_, _<_, _≤_}
+use native.Mathlib.Omega.{arith}
+use native.Mathlib.Nat.{mod-lt}
+use native.Mathlib.Decide.{ℕ-discrete, decLt}
+use borrow.Author.Tests.{eq-eqb, ne-eqb, lt-ltb, le-ltb}
+use lib.ListN.{getD}
+use Rattle.model.specs.Machine.{Move}
+use Rattle.sheet.specs.laws.Basics.{never}
+use Rattle.block.specs.Layout.{pair, ruleOutput, ruleTarget, siteAt, firstFault, mutated, diverted, choicesOf, statesOf, inputsOf}
+use Rattle.block.specs.Tabulated.{Wf, choicesAt, choiceOf, chosen, ruleOf, stepOf, startOf, Ranged, StepIs}
+use Rattle.block.specs.declared.layout.Step.{Step}
+
+pub choice-unruled : (m : List ℕ) (k c : ℕ) → ruleTarget m k ≡ 255 → choiceOf m k c ≡ record { output = c / statesOf m; target = c % statesOf m }
+unfolding choiceOf
+choice-unruled m k c e = rw (eq-eqb _ _ e)
+
+pub choice-rule : (m : List ℕ) (k : ℕ) → (ruleTarget m k ≡ 255 → ⊥) → choiceOf m k 0 ≡ record { output = ruleOutput m k; target = ruleTarget m k }
+unfolding choiceOf
+choice-rule m k n = rw (ne-eqb _ _ n)
+
+pub choice-fault : (m : List ℕ) (k c : ℕ) → (ruleTarget m k ≡ 255 → ⊥) → (c ≡ 0 → ⊥)
+    → choiceOf m k c ≡ record { output = mutated m (firstFault m k + c - 1); target = diverted m (firstFault m k + c - 1) }
+unfolding choiceOf
+choice-fault m k c n z = rw (ne-eqb _ _ n, ne-eqb _ _ z)
+
+pub choices-none : (m : List ℕ) (k : ℕ) → siteAt m k ≡ 255 → choicesAt m k ≡ 1
+unfolding choicesAt
+choices-none m k e = rw (eq-eqb _ _ e)
+
+pub choices-some : (m : List ℕ) (k : ℕ) → (siteAt m k ≡ 255 → ⊥) → choicesAt m k ≡ choicesOf m (siteAt m k)
+unfolding choicesAt
+choices-some m k n = rw (ne-eqb _ _ n)
+
+pub chosen-none : (m b : List ℕ) (k : ℕ) → siteAt m k ≡ 255 → chosen m b k ≡ 0
+unfolding chosen
+chosen-none m b k e = rw (eq-eqb _ _ e)
+
+pub chosen-some : (m b : List ℕ) (k : ℕ) → (siteAt m k ≡ 255 → ⊥) → chosen m b k ≡ getD b (siteAt m k) 0
+unfolding chosen
+chosen-some m b k n = rw (ne-eqb _ _ n)
+
+-- ---- a choice in range
+pub choice-few : {m : List ℕ} (k c : ℕ) → Wf m → k < 256 → c < choicesAt m k → c < 256
+choice-few {m} k c wf lk lc = go (ℕ-discrete (siteAt m k) 255)
+  where
+    go : Dec (siteAt m k ≡ 255) → c < 256
+    go (yes e) = omega (arith, choices-none m k e)
+    go (no n) = omega (arith, choices-some m k n, wf .choices (siteAt m k) (wf .sites k lk n))
+
+pub choice-low : {m : List ℕ} (k c : ℕ) → Wf m → k < 256 → c < choicesAt m k → choiceOf m k c .target < statesOf m
+choice-low {m} k c wf lk lc = go (ℕ-discrete (ruleTarget m k) 255) (ℕ-discrete c 0)
+  where
+    go : Dec (ruleTarget m k ≡ 255) → Dec (c ≡ 0) → choiceOf m k c .target < statesOf m
+    go (yes e) z = rw (choice-unruled m k c e) (mod-lt c (wf .some-states))
+    go (no n) (yes z) = rw (z, choice-rule m k n) (wf .rules k lk n)
+    go (no n) (no z) = rw (choice-fault m k c n z) (wf .targets (firstFault m k + c - 1) (omega (arith, wf .faults k c lk n lc, z)))
+
+-- the choice of a pair that is no suspect
+pub choice-lone : (m : List ℕ) (k : ℕ) → siteAt m k ≡ 255 → 0 < choicesAt m k
+choice-lone m k e = omega (arith, choices-none m k e)
+
+-- a choice of a suspect's pair
+pub choice-at : (m : List ℕ) (k i c : ℕ) → siteAt m k ≡ i → i < 32 → c < choicesOf m i → c < choicesAt m k
+choice-at m k i c e l lc = rw (choices-some m k (λ z. omega (arith, e, z)), e) lc
+
+-- the choice of a mutant
+pub chosen-low : {m b : List ℕ} → Wf m → Ranged m b → (k : ℕ) → k < 256 → chosen m b k < choicesAt m k
+chosen-low {m} {b} wf r k l = go (ℕ-discrete (siteAt m k) 255)
+  where
+    go : Dec (siteAt m k ≡ 255) → chosen m b k < choicesAt m k
+    go (yes e) = rw (chosen-none m b k e) (choice-lone m k e)
+    go (no n) = rw (chosen-some m b k n, choices-some m k n) (r .at (siteAt m k) (wf .sites k l n))
+
+-- ---- what `transition` answers
+pub is-unruled : {m : List ℕ} (k c n : ℕ) (r : Step) → k < 256 → ruleTarget m k ≡ 255 → n ≡ statesOf m → (1 ≤ n → c < 256 → (r .output ≡ c / n) × (r .target ≡ c % n)) → StepIs m k c r
+is-unruled {m} k c n r lk e en f = record {
+  output = λ wf lc. rw (choice-unruled m k c e, ← en) (f (omega (arith, en, wf .some-states)) (choice-few k c wf lk lc) .0);
+  target = λ wf lc. rw (choice-unruled m k c e, ← en) (f (omega (arith, en, wf .some-states)) (choice-few k c wf lk lc) .1);
+}
+
+pub is-rule : {m : List ℕ} (k c : ℕ) (r : Step) → (ruleTarget m k ≡ 255 → ⊥) → c ≡ 0 → r .output ≡ ruleOutput m k → r .target ≡ ruleTarget m k → StepIs m k c r
+is-rule {m} k c r n z eo et = record { output = λ wf lc. rw (z, choice-rule m k n) eo; target = λ wf lc. rw (z, choice-rule m k n) et }
+
+pub is-fault : {m : List ℕ} (k c f : ℕ) (r : Step) → (ruleTarget m k ≡ 255 → ⊥) → (c ≡ 0 → ⊥) → f ≡ firstFault m k + c - 1 → r .output ≡ mutated m f → r .target ≡ diverted m f → StepIs m k c r
+is-fault {m} k c f r n z ef eo et = record { output = λ wf lc. rw (choice-fault m k c n z, ← ef) eo; target = λ wf lc. rw (choice-fault m k c n z, ← ef) et }
+
+pub is-none : {m : List ℕ} (k c f : ℕ) (r : Step) → k < 256 → (ruleTarget m k ≡ 255 → ⊥) → (c ≡ 0 → ⊥) → f ≡ firstFault m k + c - 1 → 256 ≤ f → StepIs m k c r
+is-none {m} k c f r lk n z ef l = record
+    { output = λ wf lc. absurd (omega (arith, wf .faults k c lk n lc)); target = λ wf lc. absurd (omega (arith, wf .faults k c lk n lc)) }
+
+-- ---- the move of a mutant
+pub step-inside : (m b : List ℕ) (q x : ℕ) → q < statesOf m → x < inputsOf m → stepOf m b q x ≡ choiceOf m (pair q x) (chosen m b (pair q x))
+unfolding stepOf
+step-inside m b q x lq lx = rw (lt-ltb _ _ lq, lt-ltb _ _ lx)
+
+pub step-closed : (m b : List ℕ) (q x : ℕ) → q < statesOf m → x < inputsOf m → siteAt m (pair q x) ≡ 255 → stepOf m b q x ≡ choiceOf m (pair q x) 0
+step-closed m b q x lq lx e = step-inside m b q x lq lx ∙ ap (λ (c : ℕ). choiceOf m (pair q x) c) (chosen-none m b (pair q x) e)
+
+pub step-open : (m b : List ℕ) (q x i : ℕ) → q < statesOf m → x < inputsOf m → i < 32 → siteAt m (pair q x) ≡ i → stepOf m b q x ≡ choiceOf m (pair q x) (getD b i 0)
+step-open m b q x i lq lx li e =
+    step-inside m b q x lq lx ∙ ap (λ (c : ℕ). choiceOf m (pair q x) c) (chosen-some m b (pair q x) (λ z. omega (arith, e, z)) ∙ ap (λ (j : ℕ). getD b j 0) e)
+
+-- ---- the specified move
+pub record RuleAt (m : List ℕ) (s x : ℕ) (r : Move) : Type 0 where
+  pub low : s < statesOf m
+  pub input : x < inputsOf m
+  pub there : ruleTarget m (pair s x) ≡ 255 → ⊥
+  pub output : r .output ≡ ruleOutput m (pair s x)
+  pub target : r .target ≡ ruleTarget m (pair s x)
+
+pub rule-at : (m : List ℕ) (s x : ℕ) (r : Move) → ruleOf m s x ≡ some r → RuleAt m s x r
+unfolding ruleOf
+rule-at m s x r e = go (decLt s (statesOf m)) (decLt x (inputsOf m)) (ℕ-discrete (ruleTarget m (pair s x)) 255)
+  where
+    go : Dec (s < statesOf m) → Dec (x < inputsOf m) → Dec (ruleTarget m (pair s x) ≡ 255) → RuleAt m s x r
+    go (no n) lx z = let f = rw (le-ltb s (statesOf m) (omega (arith, n))) at e in never (cc)
+    go (yes l) (no n) z = let f = rw (lt-ltb _ _ l, le-ltb x (inputsOf m) (omega (arith, n))) at e in never (cc)
+    go (yes l) (yes lx) (yes z) = let f = rw (lt-ltb _ _ l, lt-ltb _ _ lx, eq-eqb _ _ z) at e in never (cc)
+    go (yes l) (yes lx) (no z) =
+        let f = rw (lt-ltb _ _ l, lt-ltb _ _ lx, ne-eqb _ _ z) at e in
+        let g : _≡_ {A = Move} r (record { output = ruleOutput m (pair s x); target = ruleTarget m (pair s x) }) = cc in
+        record { low = l; input = lx; there = z; output = ap (λ (y : Move). y .output) g; target = ap (λ (y : Move). y .target) g }
+
+-- ---- the start of a mutant
+pub start-low : {m b : List ℕ} → Wf m → Ranged m b → startOf m b < statesOf m
+unfolding startOf
+start-low wf r = omega (arith, wf .some-states)

@@ -1,0 +1,159 @@
+// The tables of a machine and its mutants, in one block of bytes (their places: specs/Layout.antt), and what is read from it.
+ghost use mathlib.Core.Path.{_≡_};
+ghost use Prim.Native.Nat.{_+_, _/_, _%_, _<_, _≤_};
+ghost use Rattle.block.specs.Layout.{pair, ruleOutput, ruleTarget, siteAt, choicesOf, statesOf, inputsOf, slotsOf};
+ghost use Rattle.block.specs.Tabulated.{StepIs, startOf};
+
+pub fn wide(x: u8) -> usize
+    ensures { λ r. ⌜ (r ≡ x) × (r < 256) ⌝ }
+{
+    x as usize
+}
+
+pub fn wide16(x: u16) -> usize
+    ensures { λ r. ⌜ (r ≡ x) × (r < 65536) ⌝ }
+{
+    x as usize
+}
+
+// The place of a state and an input, or of two states.
+pub fn place(s: u8, x: u8) -> usize
+    requires { ⌜ (s < 16) × (x < 16) ⌝ }
+    ensures { λ r. ⌜ (r ≡ pair s x) × (r < 256) ⌝ }
+{
+    (s as usize) * 16 + (x as usize)
+}
+
+// The same, whatever the numbers are.
+pub fn some_place(s: u8, x: u8) -> usize
+    ensures { λ r. ⌜ (r ≡ pair (s % 16) (x % 16)) × (r < 256) ⌝ }
+{
+    ((s % 16) as usize) * 16 + ((x % 16) as usize)
+}
+
+pub fn rule_output(block: &[u8; 1604], k: usize) -> u8
+    requires { ⌜ k < 256 ⌝ }
+    ensures { λ r. ⌜ r ≡ ruleOutput (now (block .entry)) k ⌝ }
+{
+    block[k]
+}
+
+// The rule's next state, 255 where there is no rule.
+pub fn rule_target(block: &[u8; 1604], k: usize) -> u8
+    requires { ⌜ k < 256 ⌝ }
+    ensures { λ r. ⌜ r ≡ ruleTarget (now (block .entry)) k ⌝ }
+{
+    block[256 + k]
+}
+
+// Which suspect a pair is, 255 for none.
+pub fn site(block: &[u8; 1604], k: usize) -> u8
+    requires { ⌜ k < 256 ⌝ }
+    ensures { λ r. ⌜ r ≡ siteAt (now (block .entry)) k ⌝ }
+{
+    block[512 + k]
+}
+
+fn more(x: u8) -> u16
+    ensures { λ r. ⌜ r ≡ x + 1 ⌝ }
+{
+    (x as u16) + 1
+}
+
+// How many choices a suspect has.
+pub fn choices(block: &[u8; 1604], i: u8) -> u16
+    requires { ⌜ i < 32 ⌝ }
+    ensures { λ r. ⌜ r ≡ choicesOf (now (block .entry)) i ⌝ }
+{
+    more(block[1536 + wide(i)])
+}
+
+pub fn states(block: &[u8; 1604]) -> u8
+    ensures { λ r. ⌜ r ≡ statesOf (now (block .entry)) ⌝ }
+{
+    block[1568]
+}
+
+pub fn inputs(block: &[u8; 1604]) -> u8
+    ensures { λ r. ⌜ r ≡ inputsOf (now (block .entry)) ⌝ }
+{
+    block[1569]
+}
+
+// How many choices a mutant has (01: the length of a board).
+pub fn slots(block: &[u8; 1604]) -> u8
+    ensures { λ r. ⌜ r ≡ slotsOf (now (block .entry)) ⌝ }
+{
+    block[1570]
+}
+
+// The state of the mutant with the choices p after a reset.
+pub fn initial(block: &[u8; 1604], p: &[u16; 32]) -> u8
+    ensures { λ r. ⌜ r ≡ startOf (now (block .entry)) (now (p .entry)) ⌝ }
+{
+    0
+}
+
+// The pair of a suspect. That it is the right one is not promised: who relies on it asks `site`.
+pub fn pair_of(block: &[u8; 1604], i: u8) -> usize
+    requires { ⌜ i < 32 ⌝ }
+    ensures { λ r. ⌜ r < 256 ⌝ }
+{
+    wide(block[1571 + wide(i)])
+}
+
+pub struct Step {
+    pub output: u8,
+    pub target: u8,
+}
+
+// Choice c of a pair without a rule.
+fn unruled(states: u8, c: u16) -> Step
+    ensures { λ r. ⌜ (1 ≤ states → c < 256 → (r .output ≡ c / states) × (r .target ≡ c % states)) ⌝ }
+{
+    if states == 0 {
+        return Step {
+            output: 0,
+            target: 0,
+        };
+    }
+    if c >= 256 {
+        return Step {
+            output: 0,
+            target: 0,
+        };
+    }
+    let n = states as u16;
+    Step {
+        output: (c / n) as u8,
+        target: (c % n) as u8,
+    }
+}
+
+// The transition of choice c at the pair k. Any number c is taken, as guesses may name one that there is not.
+pub fn transition(block: &[u8; 1604], k: usize, c: u16) -> Step
+    requires { ⌜ k < 256 ⌝ }
+    ensures { λ r. ⌜ StepIs (now (block .entry)) k c r ⌝ }
+{
+    let target = rule_target(block, k);
+    if target == 255 {
+        return unruled(states(block), c);
+    }
+    if c == 0 {
+        return Step {
+            output: rule_output(block, k),
+            target,
+        };
+    }
+    let f = wide(block[768 + k]) + wide16(c) - 1;
+    if f >= 256 {
+        return Step {
+            output: 0,
+            target: 0,
+        };
+    }
+    Step {
+        output: block[1024 + f],
+        target: block[1280 + f],
+    }
+}

@@ -1,0 +1,23 @@
+// The tables of an accepted sheet and its mutants in one block of bytes, filled once and lent: what the specification and each
+// mutant do. For the crates of mutants above, which show what its functions require.
+mod layout;
+mod packing;
+mod sites;
+
+pub use layout::Step;
+pub use layout::choices;
+pub use layout::initial;
+pub use layout::inputs;
+pub use layout::pair_of;
+pub use layout::place;
+pub use layout::rule_output;
+pub use layout::rule_target;
+pub use layout::site;
+pub use layout::slots;
+pub use layout::some_place;
+pub use layout::states;
+pub use layout::transition;
+pub use layout::wide;
+pub use layout::wide16;
+pub use packing::fresh;
+pub use packing::tabulate;

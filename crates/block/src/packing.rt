@@ -1,0 +1,118 @@
+// Filling the block.
+ghost use mathlib.Core.Path.{_≡_};
+ghost use Prim.Native.Nat.{_+_, _<_, _≤_};
+ghost use lib.ListN.{length};
+ghost use Rattle.sheet.specs.Sheet.{Sheet};
+ghost use Rattle.block.specs.Packing.{Copied, FirstCopied, ChoicesCopied, Located};
+ghost use Rattle.block.specs.Tabled.{Read, Tabled};
+use crate::layout::wide;
+use crate::sites::number;
+use sheet::Summary;
+use sheet::Tables;
+
+// The low byte, where the number is one.
+fn narrow(x: u16) -> u8
+    ensures { λ r. ⌜ (x < 256 → r ≡ x) ⌝ }
+{
+    if x < 256 {
+        return x as u8;
+    }
+    0
+}
+
+// The last of a number of choices.
+fn last(x: u16) -> u8
+    ensures { λ r. ⌜ (1 ≤ x → x ≤ 256 → r + 1 ≡ x) ⌝ }
+{
+    if x == 0 {
+        return 0;
+    }
+    narrow(x - 1)
+}
+
+fn copy(block: &mut [u8; 1604], base: usize, from: &[u8; 256])
+    requires { ⌜ (length (now block) ≡ 1604) × (base ≤ 1280) ⌝ }
+    ensures { λ r. ⌜ Copied (now (block .entry)) (now (block .exit)) base (now (from .entry)) 256 ⌝ }
+{
+    let mut k: usize = 0;
+    while k < 256 {
+        let x = from[k];
+        block[base + k] = x;
+        k += 1;
+    }
+}
+
+fn copy_first(block: &mut [u8; 1604], first: &[u16; 256])
+    requires { ⌜ length (now block) ≡ 1604 ⌝ }
+    ensures { λ r. ⌜ FirstCopied (now (block .entry)) (now (block .exit)) (now (first .entry)) 256 ⌝ }
+{
+    let mut k: usize = 0;
+    while k < 256 {
+        let x = narrow(first[k]);
+        block[768 + k] = x;
+        k += 1;
+    }
+}
+
+fn copy_choices(block: &mut [u8; 1604], choices: &[u16; 32])
+    requires { ⌜ length (now block) ≡ 1604 ⌝ }
+    ensures { λ r. ⌜ ChoicesCopied (now (block .entry)) (now (block .exit)) (now (choices .entry)) 32 ⌝ }
+{
+    let mut i: usize = 0;
+    while i < 32 {
+        let x = last(choices[i]);
+        block[1536 + i] = x;
+        i += 1;
+    }
+}
+
+// Where the pair of a suspect is kept; any other number has one place past them.
+fn pair_at(i: usize) -> usize
+    ensures { λ r. ⌜ (1571 ≤ r) × (r < 1604) ⌝ }
+{
+    if i < 32 {
+        return 1571 + i;
+    }
+    1603
+}
+
+// The pair of each suspect.
+fn locate(block: &mut [u8; 1604], site: &[u8; 256])
+    requires { ⌜ length (now block) ≡ 1604 ⌝ }
+    ensures { λ r. ⌜ Located (now (block .entry)) (now (block .exit)) ⌝ }
+{
+    let mut k: usize = 0;
+    while k < 256 {
+        let at = pair_at(wide(site[k]));
+        block[at] = k as u8;
+        k += 1;
+    }
+}
+
+// A block to be filled.
+pub fn fresh() -> [u8; 1604]
+    ensures { λ r. ⌜ length r ≡ 1604 ⌝ }
+{
+    [0u8; 1604]
+}
+
+// Puts the tables of an accepted sheet into the block.
+pub fn tabulate(size: Summary, tables: Tables, block: &mut [u8; 1604])
+    requires { ⌜ length (now block) ≡ 1604 ⌝ }
+    requires { ⌜ ((sh : Sheet) × Read sh size tables) ⌝ }
+    ensures { λ r. ⌜ length (now (block .exit)) ≡ 1604 ⌝ }
+    ensures { λ r. ⌜ ((sh : Sheet) → Read sh size tables → Tabled sh (now (block .exit))) ⌝ }
+{
+    let sites = number(&tables.choices, wide(size.states), wide(size.inputs));
+    copy(block, 0, &tables.output);
+    copy(block, 256, &tables.target);
+    copy(block, 512, &sites.site);
+    copy_first(block, &tables.first);
+    copy(block, 1024, &tables.mutated);
+    copy(block, 1280, &tables.diverted);
+    copy_choices(block, &sites.slots);
+    locate(block, &sites.site);
+    block[1568] = size.states;
+    block[1569] = size.inputs;
+    block[1570] = sites.count;
+}

@@ -1,0 +1,63 @@
+use borrow.Author.Needs.{needs}
+use native.Mathlib.Omega.{arith}
+use mathlib.Core.Path.{sym, _∙_}
+use Prim.Native.Nat.{_-_}
+use borrow.Author.Tests.{not-false}
+use Rattle.cubes.specs.laws.FreeLaw.{PairTo, pair-none, pair-more, pair-skip, pair-not, pair-all}
+use Rattle.cubes.proofs.tables.enter_pair.Statement.{statement}
+use Rattle.cubes.proofs.tables.enter_pair.Tie as tie
+
+abbrev Inv-loop : tie.InvT-loop
+Inv-loop block facts₀ k i end c₀ facts c = PairTo block facts₀ facts k c
+
+abbrev μ-loop : tie.MeasureT-loop
+μ-loop block facts₀ k i end c₀ facts c = end - c
+
+site-requires : tie.Need-site-requires Inv-loop μ-loop
+site-requires c κs = search needs
+
+returns : tie.Need-returns Inv-loop μ-loop
+returns c = pair-skip (c .before .before .pre .2) (sym (c .before .site .ensures) ∙ c .if1 .taken)
+
+choices-requires : tie.Need-choices-requires Inv-loop μ-loop
+choices-requires c κs = omega (arith, c .before .site .ensures, c .before .before .pre .0 .sites (c .before .before .args .k) (c .before .before .pre .1) (rw (c .before .site .ensures) at (c .if1 .left)))
+
+loop-holds : tie.Need-loop-holds Inv-loop μ-loop
+loop-holds c = pair-none (c .before .before .before .pre .2)
+
+enter-requires : tie.Need-enter-requires Inv-loop μ-loop
+enter-requires c κs =
+    let i = c .before .before .before .before .before .site .ensures in
+    (c .before .before .before .before .before .before .pre .0, c .before .before .before .before .before .before .pre .1, i, omega (arith, i, c .before .before .before .before .before .before .pre .0 .sites (c .before .before .before .before .before .before .args .k) (c .before .before .before .before .before .before .pre .1) (rw i at (c .before .before .before .before .if1 .left))), rw (c .before .before .before .choices .ensures) at (c .before .loop-test .taken), c .before .before .loop .inv .grows .long)
+
+returns-2 : tie.Need-returns-2 Inv-loop μ-loop
+returns-2 c = pair-not _ (c .before .before .before .before .loop .inv) (c .before .enter .ensures)
+
+add-c : tie.Need-add-c Inv-loop μ-loop
+add-c c = search needs
+
+loop-less : tie.Need-loop-less Inv-loop μ-loop
+loop-less c = search needs
+
+loop-again : tie.Need-loop-again Inv-loop μ-loop
+loop-again c = pair-more _ (c .before .before .before .before .loop .inv) (c .before .enter .ensures) (not-false _ (c .if2 .left))
+
+returns-3 : tie.Need-returns-3 Inv-loop μ-loop
+returns-3 c = pair-all (c .before .loop .inv) (c .before .before .before .before .site .ensures) (rw (c .before .before .choices .ensures) at (c .loop-test .left))
+
+pub enter-pair-spec : {M : Type 1} → statement M
+enter-pair-spec =
+    tie.close
+    (tie.spec
+    Inv-loop
+    μ-loop
+    site-requires
+    returns
+    choices-requires
+    loop-holds
+    enter-requires
+    returns-2
+    add-c
+    loop-less
+    loop-again
+    returns-3)

@@ -1,0 +1,7 @@
+pub mod SetLaw
+pub mod LiteralLaw
+pub mod SuspectedLaw
+pub mod ConformLaw
+pub mod WalkLaw
+pub mod JoinLaw
+pub mod FreeLaw

@@ -1,0 +1,77 @@
+-- One bit of a number, and so sets of numbers below 16.
+use mathlib.Core.Logic.{_⊎_, inl, inr}
+use mathlib.Core.Path.{_≡_, refl, sym, ap, _∙_}
+use Prim.Native.Nat.{ℕ, zero, suc, _*_, _/_, _%_, _^_, _<_, max, min}
+use native.Mathlib.Nat.{div-eq-of-lt, mul-div-mul-right, pow-suc, div-one, zero-lt-suc}
+use native.Mathlib.Omega.{arith}
+use native.Mathlib.Decide.{ℕ-discrete}
+use lib.Bits.{bitOr, bitAnd, or-step, and-step, or-shr, and-shr}
+use lib.Pow.{pow-lt, pow-pos, shl-exact}
+use Rattle.cubes.specs.Sets.{Has, HasAll, Joined}
+use Rattle.cubes.specs.Cube.{Shared}
+
+or-odd : (a b : ℕ) → bitOr a b % 2 ≡ max (a % 2) (b % 2)
+or-odd a b = omega (arith, or-step a b)
+
+or-bit : (a b j : ℕ) → bitOr a b / 2 ^ j % 2 ≡ max (a / 2 ^ j % 2) (b / 2 ^ j % 2)
+or-bit a b j = rw (or-shr a b j) (or-odd (a / 2 ^ j) (b / 2 ^ j))
+
+and-odd : (a b : ℕ) → bitAnd a b % 2 ≡ min (a % 2) (b % 2)
+and-odd a b = omega (arith, and-step a b)
+
+and-bit : (a b j : ℕ) → bitAnd a b / 2 ^ j % 2 ≡ min (a / 2 ^ j % 2) (b / 2 ^ j % 2)
+and-bit a b j = rw (and-shr a b j) (and-odd (a / 2 ^ j) (b / 2 ^ j))
+
+one-other : (i j : ℕ) → (j ≡ i → ⊥) → 2 ^ i / 2 ^ j % 2 ≡ 0
+one-other zero zero h = absurd (h refl)
+one-other zero (suc j) h = ap (λ (n : ℕ). n % 2) (div-eq-of-lt (pow-lt (zero-lt-suc j)))
+one-other (suc i) zero h = rw (pow-suc 2 i, div-one) (omega arith)
+one-other (suc i) (suc j) h = rw (pow-suc 2 i, pow-suc 2 j, mul-div-mul-right (2 ^ i) (2 ^ j) (zero-lt-suc 1)) (one-other i j (λ e. h (ap suc e)))
+
+-- the code's `1 << i`
+pub one-shl : (i : ℕ) → i < 16 → (1 * 2 ^ i) % 2 ^ 16 ≡ 2 ^ i
+one-shl i h = shl-exact 1 i 16 (omega arith) (omega arith) ∙ omega arith
+
+-- the empty set has no members
+pub nothing : (j : ℕ) → Has 0 j → ⊥
+unfolding Has
+nothing j h = omega (arith, div-eq-of-lt (pow-pos j))
+
+-- a set of one has no others
+pub alone : {set i j : ℕ} → set ≡ 2 ^ i → Has set j → j ≡ i
+unfolding Has
+alone {set} {i} {j} e h = go (ℕ-discrete j i)
+  where
+    go : Dec (j ≡ i) → j ≡ i
+    go (yes y) = y
+    go (no n) = let f = rw e at h in absurd (omega (arith, one-other i j n, f))
+
+pub all-or : (a b : ℕ) → bitOr a b ≡ b → HasAll a b
+unfolding Has
+all-or a b e j h = let f = rw e at (or-bit a b j) in omega (arith, f)
+
+pub shared-and : (a b : ℕ) → Shared a b (bitAnd a b)
+unfolding Has
+shared-and a b = record {
+  both = λ j g h. omega (arith, and-bit a b j);
+  left = λ j h. omega (arith, and-bit a b j);
+  right = λ j h. omega (arith, and-bit a b j);
+}
+
+pub union-or : (a b : ℕ) → Joined a b (bitOr a b)
+unfolding Has
+union-or a b = record {
+  left = λ j h. omega (arith, or-bit a b j);
+  right = λ j h. omega (arith, or-bit a b j);
+  only = λ j h. go j h (ℕ-discrete (a / 2 ^ j % 2) 1);
+}
+  where
+    go : (j : ℕ) → bitOr a b / 2 ^ j % 2 ≡ 1 → Dec (a / 2 ^ j % 2 ≡ 1) → (a / 2 ^ j % 2 ≡ 1) ⊎ (b / 2 ^ j % 2 ≡ 1)
+    go j h (yes e) = inl e
+    go j h (no n) = inr (omega (arith, or-bit a b j, n))
+
+-- a set of one has it
+pub one-same : (i : ℕ) → Has (2 ^ i) i
+unfolding Has
+one-same zero = refl
+one-same (suc i) = rw (pow-suc 2 i, mul-div-mul-right (2 ^ i) (2 ^ i) (zero-lt-suc 1)) (one-same i)

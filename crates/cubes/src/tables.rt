@@ -1,0 +1,76 @@
+// The facts of a block: by suspect and output the next states, by suspect the outputs.
+use crate::words::one;
+use crate::words::union;
+use block::choices;
+use block::site;
+use block::transition;
+use block::wide;
+ghost use mathlib.Core.Path.{_≡_};
+ghost use mathlib.Core.Bool.{true};
+ghost use Prim.Native.Nat.{_<_};
+ghost use lib.ListN.{length};
+ghost use Rattle.block.specs.Layout.{siteAt, choicesOf};
+ghost use Rattle.block.specs.Tabulated.{Wf};
+ghost use Rattle.cubes.specs.Tables.{Put, Entered, PairEntered, AllEntered};
+
+// By suspect and output, then by suspect; the rest is for others (which states can be exchanged, where tests begin).
+pub type Facts = [u16; 832];
+
+fn put(facts: &mut [u16; 832], at: usize, s: u8)
+    requires { ⌜ (length (now facts) ≡ 832) × (at < 832) × (s < 16) ⌝ }
+    ensures { λ r. ⌜ Put (now (facts .entry)) (now (facts .exit)) at s ⌝ }
+{
+    let set = union(facts[at], one(s));
+    facts[at] = set;
+}
+
+// One choice of a suspect; false where its output is none of the sheet's.
+fn enter(block: &[u8; 1604], facts: &mut [u16; 832], k: usize, i: u8, c: u16) -> bool
+    requires { ⌜ Wf (now block) × (k < 256) × (i ≡ siteAt (now block) k) × (i < 32) × (c < choicesOf (now block) i) × (length (now facts) ≡ 832) ⌝ }
+    ensures { λ r. ⌜ Entered (now (block .entry)) (now (facts .entry)) (now (facts .exit)) k c r ⌝ }
+{
+    let step = transition(block, k, c);
+    let o = step.output;
+    if o >= 16 {
+        return false;
+    }
+    let at = wide(i) * 16 + wide(o);
+    put(facts, at, step.target);
+    put(facts, 512 + wide(i), o);
+    true
+}
+
+// Every choice of a pair.
+fn enter_pair(block: &[u8; 1604], facts: &mut [u16; 832], k: usize) -> bool
+    requires { ⌜ Wf (now block) × (k < 256) × (length (now facts) ≡ 832) ⌝ }
+    ensures { λ r. ⌜ PairEntered (now (block .entry)) (now (facts .entry)) (now (facts .exit)) k r ⌝ }
+{
+    let i = site(block, k);
+    if i == 255 {
+        return true;
+    }
+    let end = choices(block, i);
+    let mut c: u16 = 0;
+    while c < end {
+        if !enter(block, facts, k, i, c) {
+            return false;
+        }
+        c += 1;
+    }
+    true
+}
+
+// Every choice of every suspect; false where an output is none of the sheet's.
+pub fn enter_all(block: &[u8; 1604], facts: &mut [u16; 832]) -> bool
+    requires { ⌜ Wf (now block) × (length (now facts) ≡ 832) ⌝ }
+    ensures { λ r. ⌜ AllEntered (now (block .entry)) (now (facts .exit)) r ⌝ }
+{
+    let mut k: usize = 0;
+    while k < 256 {
+        if !enter_pair(block, facts, k) {
+            return false;
+        }
+        k += 1;
+    }
+    true
+}

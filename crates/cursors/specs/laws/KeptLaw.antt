@@ -1,0 +1,20 @@
+-- Facts that stay while tests are noted.
+use mathlib.Core.Path.{_≡_, refl, _∙_}
+use mathlib.Core.List.{List}
+use Prim.Native.Nat.{ℕ, _≤_}
+use native.Mathlib.Omega.{arith}
+use lib.ListN.{length, set, length-set}
+use lib.Seq.{getD-set-other}
+use Rattle.cursors.specs.Kept.{Kept}
+
+pub kept-none : {facts : List ℕ} → length facts ≡ 832 → Kept facts facts
+kept-none l = record { long = l; same = λ k h. refl }
+
+pub kept-set : {old facts : List ℕ} (at v : ℕ) → 560 ≤ at → Kept old facts → Kept old (set facts at v)
+kept-set {old} {facts} at v l f = record {
+  long = length-set facts at v ∙ f .long;
+  same = λ k h. getD-set-other facts at k v 0 (λ e. omega (arith, e)) ∙ f .same k h;
+}
+
+pub kept-more : {a b c : List ℕ} → Kept a b → Kept b c → Kept a c
+kept-more f g = record { long = g .long; same = λ k h. g .same k h ∙ f .same k h }

@@ -1,0 +1,20 @@
+// What steers the search for refutations by the tests of a log: how far each test has come, which choices it refutes, which suspect is
+// settled next, and how wide a cube fails a test. Nothing but safety is promised: what it proposes is checked by others.
+mod observed;
+mod progress;
+mod proposal;
+mod wanted;
+
+pub use observed::find_tests;
+pub use observed::test_at;
+pub use progress::advance_all;
+pub use progress::start_cursors;
+pub use proposal::propose_fail;
+pub use wanted::FROM_TEST;
+pub use wanted::mark;
+pub use wanted::mark_wants;
+pub use wanted::pick;
+
+// By test: the index in the log of its next observation * 65536 + the mutant's state * 256 + the suspect it waits for (255: through,
+// 254: not begun).
+pub type Cursors = [u32; 256];

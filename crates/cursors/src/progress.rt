@@ -1,0 +1,158 @@
+// How far each test has come under a settled part.
+use crate::observed::input_of;
+use crate::observed::output_of;
+use crate::observed::test_at;
+use crate::observed::tests_of;
+use block::site;
+use block::some_place;
+use block::wide;
+use cubes::starts::starts;
+use leaves::ANY;
+use leaves::among;
+use leaves::joined;
+use leaves::least;
+use leaves::lone;
+
+// What a test waits for where it is no suspect: it has not begun, it is through, or it has failed.
+const NOT_BEGUN: u8 = 254;
+
+const THROUGH: u8 = 255;
+
+const FAILED: u8 = 253;
+
+fn cursor(at: usize, state: u8, wait: u8) -> u32 {
+    ((at % 65536) as u32) * 65536 + (state as u32) * 256 + (wait as u32)
+}
+
+pub fn at_of(c: u32) -> usize {
+    (c / 65536) as usize
+}
+
+fn state_of(c: u32) -> u8 {
+    (c / 256 % 256) as u8
+}
+
+pub fn wait_of(c: u32) -> u8 {
+    (c % 256) as u8
+}
+
+// A test before its first input.
+pub fn begun(facts: &[u16; 832], t: usize, state: u8) -> u32 {
+    cursor(test_at(facts, t) + 1, state, NOT_BEGUN)
+}
+
+// The state of the settled part after a reset, as a cube has it.
+pub fn start(block: &[u8; 1604], cube: &[u32; 32]) -> u8 {
+    least(starts(block, cube))
+}
+
+// Every test before its first input.
+pub fn start_cursors(block: &[u8; 1604], facts: &[u16; 832], cursors: &mut [u32; 256]) {
+    let all = [ANY; 32];
+    let state = start(block, &all);
+    let mut t: usize = 0;
+    while t < 256 {
+        cursors[t] = begun(facts, t, state);
+        t += 1;
+    }
+}
+
+// The next state by a transition; 256 + FAILED where it has another output than the one observed.
+fn go(step: u8, v: u16) -> u16 {
+    if step / 16 != output_of(v) {
+        return 256 + (FAILED as u16);
+    }
+    (step % 16) as u16
+}
+
+// The next state on an observation; 256 + what the test waits for where it does not go on.
+fn go_on(block: &[u8; 1604], p: &[u8; 32], settled: u32, state: u8, v: u16) -> u16 {
+    if v >= 256 {
+        return 256 + (THROUGH as u16);
+    }
+    let k = some_place(state, input_of(v));
+    let i = site(block, k);
+    if i >= 32 {
+        return go(lone(block, k), v);
+    }
+    if !among(settled, i) {
+        return 256 + (i as u16);
+    }
+    go(p[wide(i)], v)
+}
+
+// A test as far as the settled part goes.
+fn advance(block: &[u8; 1604], log: &[u16], p: &[u8; 32], settled: u32, from: u32) -> u32 {
+    let mut state = state_of(from);
+    let mut at = at_of(from);
+    while at < log.len() {
+        let next = go_on(block, p, settled, state, log[at]);
+        if next >= 256 {
+            return cursor(at, state, (next % 256) as u8);
+        }
+        state = next as u8;
+        at += 1;
+    }
+    cursor(at, state, THROUGH)
+}
+
+// The same if it waits for `last`.
+fn advance_if(
+    block: &[u8; 1604],
+    log: &[u16],
+    p: &[u8; 32],
+    settled: u32,
+    from: u32,
+    last: u8,
+) -> u32 {
+    if wait_of(from) != last {
+        return from;
+    }
+    advance(block, log, p, settled, from)
+}
+
+// Takes the tests that wait for `last` on; the first that fails, or 256.
+pub fn advance_all(
+    block: &[u8; 1604],
+    facts: &[u16; 832],
+    log: &[u16],
+    p: &[u8; 32],
+    settled: u32,
+    cursors: &mut [u32; 256],
+    last: u8,
+) -> usize {
+    let end = tests_of(facts);
+    let mut t: usize = 0;
+    while t < 256 {
+        if t >= end {
+            return 256;
+        }
+        let c = advance_if(block, log, p, settled, cursors[t], last);
+        if wait_of(c) == FAILED {
+            return t;
+        }
+        cursors[t] = c;
+        t += 1;
+    }
+    256
+}
+
+// The settled suspects that a test meets, up to its wrong output.
+pub fn met(block: &[u8; 1604], log: &[u16], p: &[u8; 32], settled: u32, from: u32) -> u32 {
+    let mut used: u32 = 0;
+    let mut c = from;
+    let mut n: u8 = 0;
+    while n < 33 {
+        c = advance(block, log, p, used, c);
+        let i = wait_of(c);
+        if i >= 32 {
+            return used;
+        }
+        if !among(settled, i) {
+            return used;
+        }
+        used = joined(used, i);
+        n += 1;
+    }
+    used
+}

@@ -1,0 +1,242 @@
+// A wide cube all of whose mutants may fail a test.
+use crate::observed::input_of;
+use crate::observed::observed;
+use crate::observed::output_of;
+use crate::observed::test_at;
+use crate::progress::begun;
+use crate::progress::met;
+use crate::progress::start;
+use block::site;
+use block::some_place;
+use block::states;
+use block::wide;
+use cubes::literals::going;
+use cubes::starts::starts;
+use leaves::ANY;
+use leaves::add;
+use leaves::cell;
+use leaves::common;
+use leaves::exact;
+use leaves::least;
+use leaves::less;
+use leaves::literal;
+use leaves::lone;
+use leaves::without_least;
+ghost use Prim.Native.Nat.{_<_, _≤_};
+
+// How many inputs follow a reset.
+fn length_of(log: &[u16], from: usize) -> usize
+    requires { ⌜ from ≤ 65536 ⌝ }
+    ensures { λ r. ⌜ r ≤ 256 ⌝ }
+{
+    let mut l: usize = 0;
+    while l < 256 {
+        if observed(log, from + l) >= 256 {
+            return l;
+        }
+        l += 1;
+    }
+    256
+}
+
+// The states to which a mutant of the cube can go at a pair, if it gives the output o.
+fn arrive(block: &[u8; 1604], facts: &[u16; 832], cube: &[u32; 32], k: usize, o: u8) -> u16
+    requires { ⌜ (k < 256) × (o < 16) ⌝ }
+{
+    let i = site(block, k);
+    if i < 32 {
+        return going(facts, cube[wide(i)], i, o);
+    }
+    let step = lone(block, k);
+    if step / 16 != o {
+        return 0;
+    }
+    add(0, step)
+}
+
+// The states in which an observation fails every mutant of the cube at once, or leads into `bad` only.
+fn backward(block: &[u8; 1604], facts: &[u16; 832], cube: &[u32; 32], bad: u16, v: u16) -> u16 {
+    let end = states(block);
+    let mut set: u16 = 0;
+    let mut s: u8 = 0;
+    while s < end {
+        let go = arrive(block, facts, cube, some_place(s, input_of(v)), output_of(v));
+        if less(go, bad) == 0 {
+            set = add(set, s);
+        }
+        s += 1;
+    }
+    set
+}
+
+// By place of a test the states from which every mutant of the cube fails it, the last place first.
+fn fill_bad(
+    block: &[u8; 1604],
+    facts: &[u16; 832],
+    cube: &[u32; 32],
+    log: &[u16],
+    from: usize,
+    length: usize,
+    bad: &mut [u16; 257],
+)
+    requires { ⌜ (from ≤ 65536) × (length ≤ 256) ⌝ }
+{
+    let mut l = length;
+    while l > 0 {
+        let next = bad[l];
+        l -= 1;
+        bad[l] = backward(block, facts, cube, next, observed(log, from + l));
+    }
+}
+
+// What a suspect is narrowed to, so that it gives its own wrong output, or leads where it may.
+fn narrowed(facts: &[u16; 832], own: u8, i: u8, o: u8, into: u16) -> u32 {
+    if own == o {
+        return literal(o, into);
+    }
+    literal(own, facts[cell(i, own)])
+}
+
+// The output that a literal means.
+fn own_output(l: u32) -> u8 {
+    (l / 65536 % 16) as u8
+}
+
+fn wide32(x: u16) -> u32 {
+    x as u32
+}
+
+// A pair with an observed output: where the cube leads; 65536 where it left the states that are bad after it, and was narrowed. Only
+// what the base settles is narrowed.
+fn narrow_step(
+    block: &[u8; 1604],
+    facts: &[u16; 832],
+    base: &[u32; 32],
+    cube: &mut [u32; 32],
+    k: usize,
+    o: u8,
+    bad: u16,
+) -> u32
+    requires { ⌜ (k < 256) × (o < 16) ⌝ }
+{
+    let go = arrive(block, facts, cube, k, o);
+    let i = site(block, k);
+    if i >= 32 {
+        return wide32(go);
+    }
+    let l = base[wide(i)];
+    if l == ANY {
+        return wide32(go);
+    }
+    if less(go, bad) == 0 {
+        return wide32(go);
+    }
+    cube[wide(i)] = narrowed(facts, own_output(l), i, o, common(go, bad));
+    65536
+}
+
+// The same from each of a set of states.
+fn narrow_states(
+    block: &[u8; 1604],
+    facts: &[u16; 832],
+    base: &[u32; 32],
+    cube: &mut [u32; 32],
+    set: u16,
+    v: u16,
+    bad: u16,
+) -> u32 {
+    let mut next: u32 = 0;
+    let mut left = set;
+    let mut n: u8 = 0;
+    while n < 16 {
+        if left == 0 {
+            return next;
+        }
+        let k = some_place(least(left), input_of(v));
+        next = next | narrow_step(block, facts, base, cube, k, output_of(v), bad);
+        left = without_least(left);
+        n += 1;
+    }
+    next
+}
+
+// The test from its start up to where the cube is narrowed. True if it was.
+fn narrow_once<'a>(
+    block: &[u8; 1604],
+    facts: &[u16; 832],
+    base: &'a [u32; 32],
+    cube: &mut [u32; 32],
+    log: &[u16],
+    from: usize,
+    bad: &'a [u16; 257],
+    length: usize,
+) -> bool
+    requires { ⌜ (from ≤ 65536) × (length ≤ 256) ⌝ }
+{
+    let mut set = starts(block, cube);
+    let mut l: usize = 0;
+    while l < length {
+        let next = narrow_states(
+            block,
+            facts,
+            base,
+            cube,
+            set,
+            observed(log, from + l),
+            bad[l + 1],
+        );
+        if next >= 65536 {
+            return true;
+        }
+        if next == 0 {
+            return false;
+        }
+        set = next as u16;
+        l += 1;
+    }
+    false
+}
+
+// Narrows the cube until nothing is left to narrow.
+fn narrow_all<'a>(
+    block: &[u8; 1604],
+    facts: &[u16; 832],
+    base: &'a [u32; 32],
+    cube: &mut [u32; 32],
+    log: &[u16],
+    from: usize,
+    bad: &'a [u16; 257],
+    length: usize,
+)
+    requires { ⌜ (from ≤ 65536) × (length ≤ 256) ⌝ }
+{
+    let mut rounds: u16 = 0;
+    while rounds < 600 {
+        if !narrow_once(block, facts, base, cube, log, from, bad, length) {
+            return;
+        }
+        rounds += 1;
+    }
+}
+
+// A wide cube around the settled part all of whose mutants fail a test: it speaks only of suspects that the test meets.
+pub fn propose_fail(
+    block: &[u8; 1604],
+    facts: &[u16; 832],
+    log: &[u16],
+    p: &[u8; 32],
+    settled: u32,
+    t: usize,
+    cube: &mut [u32; 32],
+) {
+    let mut base = [0u32; 32];
+    let mut bad = [0u16; 257];
+    exact(p, settled, &mut base);
+    let used = met(block, log, p, settled, begun(facts, t, start(block, &base)));
+    exact(p, used, &mut base);
+    let from = test_at(facts, t) + 1;
+    let length = length_of(log, from);
+    fill_bad(block, facts, &base, log, from, length, &mut bad);
+    exact(p, 0, cube);
+    narrow_all(block, facts, &base, cube, log, from, &bad, length);
+}

@@ -1,0 +1,187 @@
+// What the waiting tests refute, and which suspect is settled next.
+use crate::observed::observed;
+use crate::observed::output_of;
+use crate::observed::tests_of;
+use crate::progress::at_of;
+use crate::progress::wait_of;
+use block::slots;
+use block::wide;
+use block::wide16;
+use leaves::DEAD;
+use leaves::HINTS;
+use leaves::add;
+use leaves::cell;
+use leaves::either;
+use leaves::least;
+use leaves::less;
+use leaves::note;
+use leaves::set_note;
+use leaves::size;
+use leaves::without_least;
+ghost use Prim.Native.Nat.{_<_};
+
+// From here on a hint names a test, and below an entry of the store.
+pub const FROM_TEST: u16 = 32768;
+
+// Notes what refutes the transitions to some states, those of one suspect and output.
+fn set_hints(notes: &mut [u16], k: usize, next: u16, h: u16)
+    requires { ⌜ k < 512 ⌝ }
+{
+    let mut left = next;
+    let mut n: u8 = 0;
+    while n < 16 {
+        if left == 0 {
+            return;
+        }
+        set_note(notes, HINTS + k * 16 + wide(least(left)), h);
+        left = without_least(left);
+        n += 1;
+    }
+}
+
+// Notes next states of a suspect as refuted.
+pub fn mark(notes: &mut [u16], j: u8, o: u8, next: u16, h: u16) {
+    let k = cell(j, o);
+    let old = note(notes, DEAD + k);
+    let new = less(next, old);
+    if new == 0 {
+        return;
+    }
+    set_hints(notes, k, new, h);
+    set_note(notes, DEAD + k, either(old, next));
+}
+
+// The outputs that a suspect has.
+fn outputs_of(facts: &[u16; 832], j: u8) -> u16 {
+    facts[512 + wide(j % 32)]
+}
+
+// Notes the choices of a suspect with another output than a test wants.
+fn mark_test(facts: &[u16; 832], notes: &mut [u16], j: u8, want: u8, h: u16) {
+    let mut left = less(outputs_of(facts, j), add(0, want));
+    let mut n: u8 = 0;
+    while n < 16 {
+        if left == 0 {
+            return;
+        }
+        let o = least(left);
+        mark(notes, j, o, facts[cell(j, o)], h);
+        left = without_least(left);
+        n += 1;
+    }
+}
+
+fn one_more(waiting: &mut [u16; 32], j: u8) {
+    let i = wide(j % 32);
+    if waiting[i] < 256 {
+        waiting[i] += 1;
+    }
+}
+
+// Notes the choices that a test refutes, if it waits, and counts it.
+fn mark_want(
+    facts: &[u16; 832],
+    log: &[u16],
+    c: u32,
+    notes: &mut [u16],
+    waiting: &mut [u16; 32],
+    h: u16,
+) {
+    let j = wait_of(c);
+    if j >= 32 {
+        return;
+    }
+    one_more(waiting, j);
+    mark_test(facts, notes, j, output_of(observed(log, at_of(c))), h);
+}
+
+// Notes the choices that waiting tests refute, and counts the tests that wait for each suspect.
+pub fn mark_wants(
+    facts: &[u16; 832],
+    log: &[u16],
+    cursors: &[u32; 256],
+    notes: &mut [u16],
+    waiting: &mut [u16; 32],
+) {
+    let end = tests_of(facts);
+    let mut t: u16 = 0;
+    while t < 256 {
+        if wide16(t) >= end {
+            return;
+        }
+        mark_want(
+            facts,
+            log,
+            cursors[wide16(t)],
+            notes,
+            waiting,
+            FROM_TEST + t,
+        );
+        t += 1;
+    }
+}
+
+// How many choices of a suspect are not known to be refuted.
+fn alive(facts: &[u16; 832], notes: &[u16], j: u8) -> u32
+    ensures { λ r. ⌜ r < 512 ⌝ }
+{
+    let mut sum: u32 = 0;
+    let mut left = outputs_of(facts, j);
+    let mut n: u8 = 0;
+    while n < 16 {
+        if left == 0 {
+            return sum;
+        }
+        let k = cell(j, least(left));
+        sum += size(less(facts[k], note(notes, DEAD + k)));
+        left = without_least(left);
+        n += 1;
+    }
+    sum
+}
+
+fn times(a: u32, b: u16) -> u64
+    requires { ⌜ a < 512 ⌝ }
+{
+    (a as u64) * (b as u64)
+}
+
+// The suspect that is best so far: its choices left and the tests that wait for it.
+struct Best {
+    at: u8,
+    left: u32,
+    tests: u16,
+}
+
+// The better one: fewer choices left for each test that waits for it.
+fn better(facts: &[u16; 832], notes: &[u16], best: Best, j: u8, tests: u16) -> Best {
+    if tests == 0 {
+        return best;
+    }
+    let left = alive(facts, notes, j);
+    if best.at != 255 {
+        if times(left, best.tests) >= times(best.left % 512, tests) {
+            return best;
+        }
+    }
+    Best { at: j, left, tests }
+}
+
+// The suspect with the fewest choices left for each test that waits for it, or 255.
+pub fn pick(block: &[u8; 1604], facts: &[u16; 832], notes: &[u16], waiting: &[u16; 32]) -> u8 {
+    let end = slots(block);
+    let mut best = Best {
+        at: 255,
+        left: 0,
+        tests: 0,
+    };
+    let mut j: u8 = 0;
+    while j < 32 {
+        if j >= end {
+            return best.at;
+        }
+        best = better(facts, notes, best, j, waiting[wide(j)]);
+        j += 1;
+    }
+    best.at
+}

@@ -1,3 +1,0 @@
-mod Shrinks
-mod Tries
-mod Stores

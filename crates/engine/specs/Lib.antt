@@ -1,3 +1,0 @@
-pub mod Shrink
-pub mod Refute
-pub mod Store

@@ -1,0 +1,55 @@
+-- A tabulated mutant along a log: what holds after i observations that it gives.
+use Prim.Native.Nat.{ℕ, _+_, _-_, _/_, _%_, _≤_, _<_}
+use native.Mathlib.Numerals.{add-one}
+use native.Mathlib.Omega.{arith}
+use mathlib.Core.Path.{_≡_, refl, sym, _∙_}
+use mathlib.Core.Option.{none, some}
+use mathlib.Core.List.{List}
+use borrow.Author.Tests.{eq-eqb, ne-eqb}
+use lib.ListN.{length, getD, drop, drop-of-length-le}
+use lib.Seq.{drop-cons}
+use Rattle.model.specs.Log.{failedIn}
+use Rattle.block.specs.Layout.{pair}
+use Rattle.block.specs.Logged.{observation, observations}
+use Rattle.logs.specs.Walked.{movesIn}
+
+pub record Walking (outs nexts : List ℕ) (start : ℕ) (log : List ℕ) (s begun position i : ℕ) : Type 0 where
+  pub inside : i ≤ length log
+  pub tests : begun ≤ i
+  pub inputs : position ≤ i
+  pub is : failedIn (movesIn outs nexts) start start 0 0 (observations log) ≡ failedIn (movesIn outs nexts) start s begun position (observations (drop i log))
+
+pub walk-start : (outs nexts : List ℕ) (start : ℕ) (log : List ℕ) → Walking outs nexts start log start 0 0 0
+walk-start outs nexts start log = record { inside = omega arith; tests = omega arith; inputs = omega arith; is = refl }
+
+module _ {outs nexts : List ℕ} {start : ℕ} {log : List ℕ} {s begun position i : ℕ} (w : Walking outs nexts start log s begun position i) where
+  pub walk-end : length log ≤ i → failedIn (movesIn outs nexts) start start 0 0 (observations log) ≡ none
+  unfolding failedIn
+  walk-end l = w .is ∙ rw (drop-of-length-le log l) refl
+
+  module _ (l : i < length log) where
+    pub walk-reset : getD log i 0 ≡ 256 → Walking outs nexts start log start (begun + 1) 0 (i + 1)
+    unfolding failedIn observation
+    walk-reset e = record {
+      inside = omega arith;
+      tests = omega (arith, w .tests);
+      inputs = omega arith;
+      is = w .is ∙ rw (drop-cons log i 0 l, e, add-one, add-one) refl;
+    }
+
+    module _ {k x o : ℕ} (n : getD log i 0 ≡ 256 → ⊥) (ek : k ≡ pair (s % 16) (x % 16)) (ex : x ≡ getD log i 0 / 16 % 16) (eo : o ≡ getD log i 0 % 16) where
+      same : pair (s % 16) (getD log i 0 / 16 % 16) ≡ k
+      same = omega arith
+
+      pub walk-right : getD outs k 0 ≡ o → Walking outs nexts start log (getD nexts k 0) begun (position + 1) (i + 1)
+      unfolding failedIn observation movesIn
+      walk-right e = record {
+        inside = omega arith;
+        tests = omega (arith, w .tests);
+        inputs = omega (arith, w .inputs);
+        is = w .is ∙ rw (drop-cons log i 0 l, ne-eqb _ _ n, same, eq-eqb _ _ (e ∙ eo), add-one, add-one) refl;
+      }
+
+      pub walk-wrong : (getD outs k 0 ≡ o → ⊥) → failedIn (movesIn outs nexts) start start 0 0 (observations log) ≡ some (record { test = begun - 1; position = position })
+      unfolding failedIn observation movesIn
+      walk-wrong h = w .is ∙ rw (drop-cons log i 0 l, ne-eqb _ _ n, same, ne-eqb _ _ (λ z. h (z ∙ sym eo))) refl

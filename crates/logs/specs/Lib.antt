@@ -1,0 +1,4 @@
+pub mod Tests
+pub mod Written
+pub mod Walked
+pub mod laws

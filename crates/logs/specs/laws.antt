@@ -1,0 +1,2 @@
+pub mod TestsLaw
+pub mod WalkedLaw

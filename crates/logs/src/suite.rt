@@ -1,0 +1,74 @@
+// The test suite of a sheet as a log: 256 for a reset, an input * 16 + the specified output.
+use block::place;
+use block::rule_output;
+use block::rule_target;
+use block::wide16;
+ghost use mathlib.Core.Path.{_≡_};
+ghost use Prim.Native.Nat.{_+_, _<_, _≤_};
+ghost use mathlib.Core.List.{[], _∷_};
+ghost use lib.ListN.{length};
+ghost use Rattle.model.specs.Log.{reset, seen, testLog, testsLog};
+ghost use Rattle.block.specs.Tabulated.{ruleOf};
+ghost use Rattle.block.specs.Logged.{observation};
+ghost use Rattle.logs.specs.Tests.{inputsAt, testsAt, TestAt, TestsAt};
+ghost use Rattle.logs.specs.Written.{Written, Recorded};
+
+fn observed(x: u8, o: u8) -> u16
+    requires { ⌜ (x < 16) × (o < 16) ⌝ }
+    ensures { λ r. ⌜ observation r ≡ seen x o ⌝ }
+{
+    (x as u16) * 16 + (o as u16)
+}
+
+// Writes a reset and the inputs of the test whose PRESS commands start at `start`, from a place of the log on; gives the place after
+// them.
+fn record_test(
+    sheet: &[u8],
+    start: usize,
+    inputs: usize,
+    block: &[u8; 1604],
+    log: &mut [u16],
+    from: usize,
+) -> usize
+    requires { ⌜ TestAt (ruleOf (now block)) (now sheet) start inputs ⌝ }
+    requires { ⌜ from + length (reset ∷ testLog (ruleOf (now block)) 0 (inputsAt (now sheet) start inputs)) ≤ length (now log) ⌝ }
+    ensures { λ r. ⌜ Written (now (log .entry)) (now (log .exit)) from r (reset ∷ testLog (ruleOf (now (block .entry))) 0 (inputsAt (now (sheet .entry)) start inputs)) [] ⌝ }
+{
+    log[from] = 256;
+    let mut to = from + 1;
+    let mut at = start;
+    let mut left = inputs;
+    let mut s: u8 = 0;
+    while left > 0 {
+        let x = sheet[at + 1];
+        let k = place(s, x);
+        log[to] = observed(x, rule_output(block, k));
+        s = rule_target(block, k);
+        to += 1;
+        at += 2;
+        left -= 1;
+    }
+    to
+}
+
+// Writes the log of the tests at the log's front; gives its length.
+pub fn record_suite(
+    sheet: &[u8],
+    starts: &[u16; 256],
+    lengths: &[u16; 256],
+    tests: usize,
+    block: &[u8; 1604],
+    log: &mut [u16],
+) -> usize
+    requires { ⌜ TestsAt (ruleOf (now block)) (now sheet) (now starts) (now lengths) tests ⌝ }
+    requires { ⌜ length (testsLog (ruleOf (now block)) (testsAt (now sheet) (now starts) (now lengths) tests)) ≤ length (now log) ⌝ }
+    ensures { λ r. ⌜ Recorded (now (log .entry)) (now (log .exit)) r (testsLog (ruleOf (now (block .entry))) (testsAt (now (sheet .entry)) (now (starts .entry)) (now (lengths .entry)) tests)) ⌝ }
+{
+    let mut to: usize = 0;
+    let mut t: usize = 0;
+    while t < tests {
+        to = record_test(sheet, wide16(starts[t]), wide16(lengths[t]), block, log, to);
+        t += 1;
+    }
+    to
+}

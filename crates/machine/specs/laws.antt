@@ -1,0 +1,2 @@
+pub mod LaidLaw
+pub mod FitsLaw

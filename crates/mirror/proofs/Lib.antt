@@ -1,0 +1,4 @@
+pub mod Others
+pub mod Exchanges
+pub mod Images
+pub mod Reflections

@@ -1,0 +1,220 @@
+// Which states can be exchanged: with them exchanged every mutant is another mutant, with the same outputs.
+use block::choices;
+use block::inputs;
+use block::place;
+use block::rule_target;
+use block::site;
+use block::states;
+use block::transition;
+use block::wide;
+use cubes::starts::starts;
+use cubes::words::holds;
+use cubes::words::one;
+use cubes::words::union;
+ghost use mathlib.Core.Path.{_≡_};
+ghost use mathlib.Core.Bool.{true};
+ghost use Prim.Native.Nat.{_<_, _%_};
+ghost use lib.ListN.{length};
+ghost use Rattle.block.specs.Layout.{statesOf};
+ghost use Rattle.block.specs.Tabulated.{Wf, choicesAt};
+ghost use Rattle.mirror.specs.Mirror.{other, Each, Below, OffersStep, Answered, Exchanges, RowExchanges, Movable, FixedOk, Exchangeable, Exchanged};
+
+// The state s, with a and b exchanged.
+fn other(s: u8, a: u8, b: u8) -> u8
+    ensures { λ r. ⌜ r ≡ other a b s ⌝ }
+{
+    if s == a {
+        return b;
+    }
+    if s == b {
+        return a;
+    }
+    s
+}
+
+// How many choices a pair has.
+fn choices_at(block: &[u8; 1604], k: usize) -> u16
+    requires { ⌜ Wf (now block) × (k < 256) ⌝ }
+    ensures { λ r. ⌜ r ≡ choicesAt (now (block .entry)) k ⌝ }
+{
+    let i = site(block, k);
+    if i == 255 {
+        return 1;
+    }
+    choices(block, i)
+}
+
+// Whether choice d of the pair j is the transition.
+fn is_choice(block: &[u8; 1604], j: usize, d: u16, o: u8, t: u8) -> bool
+    requires { ⌜ Wf (now block) × (j < 256) × (d < choicesAt (now block) j) ⌝ }
+    ensures { λ r. ⌜ (r ≡ true → OffersStep (now (block .entry)) j o t) ⌝ }
+{
+    let step = transition(block, j, d);
+    if step.output != o {
+        return false;
+    }
+    step.target == t
+}
+
+// Whether a choice of the pair j is the transition.
+fn offered(block: &[u8; 1604], j: usize, o: u8, t: u8) -> bool
+    requires { ⌜ Wf (now block) × (j < 256) ⌝ }
+    ensures { λ r. ⌜ (r ≡ true → OffersStep (now (block .entry)) j o t) ⌝ }
+{
+    let end = choices_at(block, j);
+    let mut d: u16 = 0;
+    while d < end {
+        if is_choice(block, j, d, o, t) {
+            return true;
+        }
+        d += 1;
+    }
+    false
+}
+
+// Whether choice c of the pair k, exchanged, is one of the pair j.
+fn answered(block: &[u8; 1604], k: usize, j: usize, a: u8, b: u8, c: u16) -> bool
+    requires { ⌜ Wf (now block) × (k < 256) × (j < 256) × (c < choicesAt (now block) k) ⌝ }
+    ensures { λ r. ⌜ (r ≡ true → Answered (now (block .entry)) a b k j c) ⌝ }
+{
+    let step = transition(block, k, c);
+    offered(block, j, step.output, other(step.target, a, b))
+}
+
+// Whether this holds of every choice of the pair k.
+fn all_answered(block: &[u8; 1604], k: usize, j: usize, a: u8, b: u8) -> bool
+    requires { ⌜ Wf (now block) × (k < 256) × (j < 256) ⌝ }
+    ensures { λ r. ⌜ (r ≡ true → Exchanges (now (block .entry)) a b k j) ⌝ }
+{
+    let end = choices_at(block, k);
+    let mut c: u16 = 0;
+    while c < end {
+        if !answered(block, k, j, a, b, c) {
+            return false;
+        }
+        c += 1;
+    }
+    true
+}
+
+// The same of two pairs without a rule, which have every next state with each output.
+fn unruled_alike(block: &[u8; 1604], k: usize, j: usize) -> bool
+    requires { ⌜ Wf (now block) × (k < 256) × (j < 256) ⌝ }
+    ensures { λ r. ⌜ (r ≡ true → (choicesAt (now (block .entry)) k ≡ choicesAt (now (block .entry)) j) × (choicesAt (now (block .entry)) k % statesOf (now (block .entry)) ≡ 0)) ⌝ }
+{
+    let c = choices_at(block, k);
+    if c != choices_at(block, j) {
+        return false;
+    }
+    c % (states(block) as u16) == 0
+}
+
+fn pair_exchanges(block: &[u8; 1604], k: usize, j: usize, a: u8, b: u8) -> bool
+    requires { ⌜ Wf (now block) × (k < 256) × (j < 256) × (a < statesOf (now block)) × (b < statesOf (now block)) ⌝ }
+    ensures { λ r. ⌜ (r ≡ true → Exchanges (now (block .entry)) a b k j) ⌝ }
+{
+    if rule_target(block, k) != 255 {
+        return all_answered(block, k, j, a, b);
+    }
+    if rule_target(block, j) != 255 {
+        return false;
+    }
+    unruled_alike(block, k, j)
+}
+
+// Every pair of the state s and its image.
+fn row_exchanges(block: &[u8; 1604], s: u8, a: u8, b: u8) -> bool
+    requires { ⌜ Wf (now block) × (s < statesOf (now block)) × (a < statesOf (now block)) × (b < statesOf (now block)) ⌝ }
+    ensures { λ r. ⌜ (r ≡ true → RowExchanges (now (block .entry)) a b s) ⌝ }
+{
+    let q = other(s, a, b);
+    let end = inputs(block);
+    let mut x: u8 = 0;
+    while x < end {
+        if !pair_exchanges(block, place(s, x), place(q, x), a, b) {
+            return false;
+        }
+        x += 1;
+    }
+    true
+}
+
+// Every pair and its image; those of a first, as most states differ there.
+fn all_exchange(block: &[u8; 1604], a: u8, b: u8) -> bool
+    requires { ⌜ Wf (now block) × (a < statesOf (now block)) × (b < statesOf (now block)) ⌝ }
+    ensures { λ r. ⌜ (r ≡ true → Below (λ s. RowExchanges (now (block .entry)) a b s) (statesOf (now (block .entry)))) ⌝ }
+{
+    if !row_exchanges(block, a, a, b) {
+        return false;
+    }
+    let end = states(block);
+    let mut s: u8 = 0;
+    while s < end {
+        if !row_exchanges(block, s, a, b) {
+            return false;
+        }
+        s += 1;
+    }
+    true
+}
+
+// The states that no exchange may move: where mutants start, and 0.
+fn fixed(block: &[u8; 1604]) -> u16
+    requires { ⌜ Wf (now block) ⌝ }
+    ensures { λ r. ⌜ FixedOk (now (block .entry)) r ⌝ }
+{
+    let all = [4294967295u32; 32];
+    union(one(0), starts(block, &all))
+}
+
+// The state b, if it can be exchanged with a.
+fn partner(block: &[u8; 1604], fixed: u16, a: u8, b: u8) -> u16
+    requires { ⌜ Wf (now block) × FixedOk (now block) fixed × (a < statesOf (now block)) × (b < statesOf (now block)) × Movable (now block) a ⌝ }
+    ensures { λ r. ⌜ Each (λ t. Exchangeable (now (block .entry)) a t) r ⌝ }
+{
+    if a == b {
+        return 0;
+    }
+    if holds(fixed, b) {
+        return 0;
+    }
+    if !all_exchange(block, a, b) {
+        return 0;
+    }
+    one(b)
+}
+
+// The states that can be exchanged with a.
+fn partners(block: &[u8; 1604], fixed: u16, a: u8) -> u16
+    requires { ⌜ Wf (now block) × FixedOk (now block) fixed × (a < 16) ⌝ }
+    ensures { λ r. ⌜ Each (λ t. Exchangeable (now (block .entry)) a t) r ⌝ }
+{
+    let end = states(block);
+    if a >= end {
+        return 0;
+    }
+    if holds(fixed, a) {
+        return 0;
+    }
+    let mut set: u16 = 0;
+    let mut b: u8 = 0;
+    while b < end {
+        set = union(set, partner(block, fixed, a, b));
+        b += 1;
+    }
+    set
+}
+
+// Fills in, by state a at 544 + a of the facts, the states that can be exchanged with it.
+pub fn exchange_all(block: &[u8; 1604], facts: &mut [u16; 832])
+    requires { ⌜ Wf (now block) × (length (now facts) ≡ 832) ⌝ }
+    ensures { λ r. ⌜ Exchanged (now (block .entry)) (now (facts .entry)) (now (facts .exit)) ⌝ }
+{
+    let keep = fixed(block);
+    let mut a: u8 = 0;
+    while a < 16 {
+        let set = partners(block, keep, a);
+        facts[544 + wide(a)] = set;
+        a += 1;
+    }
+}

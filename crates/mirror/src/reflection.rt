@@ -1,0 +1,156 @@
+// What a cube without a mutant sought tells of the states that can be exchanged with the one in hand.
+use block::inputs;
+use block::place;
+use block::site;
+use block::wide;
+use cubes::gather::note;
+use cubes::literals::lit_next;
+use cubes::literals::means;
+use cubes::words::holds;
+use cubes::words::one;
+use cubes::words::union;
+ghost use mathlib.Core.Path.{_≡_};
+ghost use mathlib.Core.Bool.{true};
+ghost use Prim.Native.Nat.{_<_, _/_, _%_};
+ghost use lib.ListN.{length, getD};
+ghost use Rattle.block.specs.Layout.{siteAt};
+ghost use Rattle.block.specs.Tabulated.{Wf};
+ghost use Rattle.mirror.specs.Mirror.{Each, Exchangeable, SwapsOk};
+ghost use Rattle.mirror.specs.Reflect.{Quiet, Silent, Blind, BlindBut, Mirrors, ReflectedOk};
+
+// Whether the cube does not speak of the pair k.
+fn quiet(block: &[u8; 1604], cube: &[u32; 32], k: usize) -> bool
+    requires { ⌜ Wf (now block) × (k < 256) ⌝ }
+    ensures { λ r. ⌜ (r ≡ true → Quiet (now (block .entry)) (now (cube .entry)) k) ⌝ }
+{
+    let i = site(block, k);
+    if i == 255 {
+        return true;
+    }
+    cube[wide(i)] == 4294967295
+}
+
+// Nor of any pair of the state s.
+fn silent(block: &[u8; 1604], cube: &[u32; 32], s: u8) -> bool
+    requires { ⌜ Wf (now block) × (s < 16) ⌝ }
+    ensures { λ r. ⌜ (r ≡ true → Silent (now (block .entry)) (now (cube .entry)) s) ⌝ }
+{
+    let end = inputs(block);
+    let mut x: u8 = 0;
+    while x < end {
+        if !quiet(block, cube, place(s, x)) {
+            return false;
+        }
+        x += 1;
+    }
+    true
+}
+
+// Whether the literal does not tell the next states a and b apart.
+fn blind(l: u32, a: u8, b: u8) -> bool
+    requires { ⌜ (a < 16) × (b < 16) ⌝ }
+    ensures { λ r. ⌜ (r ≡ true → Blind a b l) ⌝ }
+{
+    if l == 4294967295 {
+        return true;
+    }
+    let set = lit_next(l);
+    if holds(set, a) {
+        return holds(set, b);
+    }
+    !holds(set, b)
+}
+
+// The same of the literal of j, unless it is i.
+fn blind_at(cube: &[u32; 32], i: u8, a: u8, b: u8, j: usize) -> bool
+    requires { ⌜ (a < 16) × (b < 16) × (j < 32) ⌝ }
+    ensures { λ r. ⌜ (r ≡ true → (j ≡ i → ⊥) → Blind a b (getD (now (cube .entry)) j 0)) ⌝ }
+{
+    if j == wide(i) {
+        return true;
+    }
+    blind(cube[j], a, b)
+}
+
+// Every literal but that of i.
+fn blind_but(cube: &[u32; 32], i: u8, a: u8, b: u8) -> bool
+    requires { ⌜ (a < 16) × (b < 16) ⌝ }
+    ensures { λ r. ⌜ (r ≡ true → BlindBut (now (cube .entry)) i a b) ⌝ }
+{
+    let mut j: usize = 0;
+    while j < 32 {
+        if !blind_at(cube, i, a, b, j) {
+            return false;
+        }
+        j += 1;
+    }
+    true
+}
+
+// The state b, if it is in the set and the cube does not tell it from a.
+fn image(block: &[u8; 1604], cube: &[u32; 32], i: u8, set: u16, a: u8, b: u8) -> u16
+    requires { ⌜ Wf (now block) × Each (λ t. Exchangeable (now block) a t) set × (a < 16) × (b < 16) ⌝ }
+    ensures { λ r. ⌜ Each (λ t. Mirrors (now (block .entry)) (now (cube .entry)) i a t) r ⌝ }
+{
+    if !holds(set, b) {
+        return 0;
+    }
+    if !silent(block, cube, b) {
+        return 0;
+    }
+    if !blind_but(cube, i, a, b) {
+        return 0;
+    }
+    one(b)
+}
+
+// The states of the set that the cube does not tell from a.
+fn images(block: &[u8; 1604], cube: &[u32; 32], i: u8, set: u16, a: u8) -> u16
+    requires { ⌜ Wf (now block) × Each (λ t. Exchangeable (now block) a t) set × (a < 16) ⌝ }
+    ensures { λ r. ⌜ Each (λ t. Mirrors (now (block .entry)) (now (cube .entry)) i a t) r ⌝ }
+{
+    let mut found: u16 = 0;
+    let mut b: u8 = 0;
+    while b < 16 {
+        found = union(found, image(block, cube, i, set, a, b));
+        b += 1;
+    }
+    found
+}
+
+fn literal(o: u8, set: u16) -> u32
+    ensures { λ r. ⌜ (r < 16777216) × (r / 65536 ≡ o) × (r % 65536 ≡ set) ⌝ }
+{
+    (o as u32) * 65536 + (set as u32)
+}
+
+// Adds to `done` the transitions of the pair k with the output o to states that the cube, in which no mutant is sought and which
+// means the transition to a, does not tell from a.
+pub fn reflect(
+    block: &[u8; 1604],
+    facts: &[u16; 832],
+    cube: &[u32; 32],
+    k: usize,
+    a: u8,
+    o: u8,
+    done: &mut [u16; 16],
+)
+    requires { ⌜ Wf (now block) × SwapsOk (now block) (now facts) × (k < 256) × (siteAt (now block) k ≡ 255 → ⊥) × (length (now done) ≡ 16) ⌝ }
+    ensures { λ r. ⌜ ReflectedOk (now (block .entry)) (now (cube .entry)) (now (done .entry)) (now (done .exit)) k ⌝ }
+{
+    if a >= 16 {
+        return;
+    }
+    let set = facts[544 + wide(a)];
+    if set == 0 {
+        return;
+    }
+    let i = site(block, k);
+    if !means(cube[wide(i)], o, a) {
+        return;
+    }
+    if !silent(block, cube, a) {
+        return;
+    }
+    note(done, literal(o, images(block, cube, i, set, a)));
+}

@@ -1,0 +1,274 @@
+// A wide cube that may conform, and the pairs of states that may be closed under it.
+use crate::cells::Cell;
+use crate::cells::look;
+use block::inputs;
+use block::states;
+use block::wide;
+use cubes::starts::starts;
+use leaves::add;
+use leaves::common;
+use leaves::either;
+use leaves::exact;
+use leaves::in_set;
+use leaves::least;
+use leaves::less;
+use leaves::literal;
+use leaves::low;
+use leaves::packed;
+use leaves::without_least;
+
+// Whether no wrong output and only safe pairs follow a pair on an input.
+fn cell_safe(
+    block: &[u8; 1604],
+    facts: &[u16; 832],
+    cube: &[u32; 32],
+    safe: &[u16; 16],
+    z: u8,
+    x: u8,
+) -> bool {
+    let cell = look(block, facts, cube, z, x);
+    if !cell.sound {
+        return false;
+    }
+    less(cell.go, safe[wide(low(cell.next))]) == 0
+}
+
+// The same on every input.
+fn pair_safe(
+    block: &[u8; 1604],
+    facts: &[u16; 832],
+    cube: &[u32; 32],
+    safe: &[u16; 16],
+    z: u8,
+) -> bool {
+    let end = inputs(block);
+    let mut x: u8 = 0;
+    while x < end {
+        if !cell_safe(block, facts, cube, safe, z, x) {
+            return false;
+        }
+        x += 1;
+    }
+    true
+}
+
+// Takes a pair of states that is not safe away; whether it did.
+fn sift_pair(
+    block: &[u8; 1604],
+    facts: &[u16; 832],
+    cube: &[u32; 32],
+    safe: &mut [u16; 16],
+    z: u8,
+) -> bool {
+    let row = wide(z / 16);
+    if z % 16 >= states(block) {
+        return false;
+    }
+    if !in_set(safe[row], z) {
+        return false;
+    }
+    if pair_safe(block, facts, cube, safe, z) {
+        return false;
+    }
+    safe[row] = less(safe[row], add(0, z));
+    true
+}
+
+fn pair_at(h: u16) -> u8 {
+    (h % 256) as u8
+}
+
+fn rows_end(block: &[u8; 1604]) -> u16 {
+    (states(block) as u16) * 16
+}
+
+// Takes pairs that are not safe away, each looked at once; whether there was one.
+fn sift(block: &[u8; 1604], facts: &[u16; 832], cube: &[u32; 32], safe: &mut [u16; 16]) -> bool {
+    let end = rows_end(block);
+    let mut changed = false;
+    let mut h: u16 = 0;
+    while h < end {
+        if sift_pair(block, facts, cube, safe, pair_at(h)) {
+            changed = true;
+        }
+        h += 1;
+    }
+    changed
+}
+
+// Of some pairs of states the most that are closed under the cube without a wrong output.
+fn safe_pairs(block: &[u8; 1604], facts: &[u16; 832], cube: &[u32; 32], safe: &mut [u16; 16]) {
+    let mut rounds: u16 = 0;
+    while rounds < 300 {
+        if !sift(block, facts, cube, safe) {
+            return;
+        }
+        rounds += 1;
+    }
+}
+
+// A walk over pairs: the rows in which there may be new ones, none if it ended at a wrong output, as a strict one does; whether
+// the cube stayed as it was.
+struct Rows {
+    rows: u16,
+    good: bool,
+    strict: bool,
+}
+
+// Whether a suspect is to be narrowed, so that it goes only to some states and with the right output.
+fn narrows(cell: Cell, go: u16) -> bool {
+    if cell.site >= 32 {
+        return false;
+    }
+    cell.go != go || !cell.sound
+}
+
+// Spreads over one input, and narrows the cube where it would leave the safe pairs.
+fn spread_cell(
+    block: &[u8; 1604],
+    facts: &[u16; 832],
+    safe: &[u16; 16],
+    cube: &mut [u32; 32],
+    pairs: &mut [u16; 16],
+    w: Rows,
+    z: u8,
+    x: u8,
+) -> Rows {
+    let cell = look(block, facts, cube, z, x);
+    if cell.next == 255 {
+        return w;
+    }
+    if w.strict && !cell.sound {
+        return Rows {
+            rows: 0,
+            good: false,
+            strict: true,
+        };
+    }
+    let next = low(cell.next);
+    let go = common(cell.go, safe[wide(next)]);
+    let mut good = w.good;
+    if narrows(cell, go) {
+        cube[wide(cell.site % 32)] = literal(cell.output, go);
+        good = false;
+    }
+    pairs[wide(next)] = either(pairs[wide(next)], go);
+    Rows {
+        rows: add(w.rows, next),
+        good,
+        strict: w.strict,
+    }
+}
+
+// Spreads over the inputs at a pair.
+fn spread_pair(
+    block: &[u8; 1604],
+    facts: &[u16; 832],
+    safe: &[u16; 16],
+    cube: &mut [u32; 32],
+    pairs: &mut [u16; 16],
+    from: Rows,
+    z: u8,
+) -> Rows {
+    let end = inputs(block);
+    let mut w = from;
+    let mut x: u8 = 0;
+    while x < end {
+        w = spread_cell(block, facts, safe, cube, pairs, w, z, x);
+        if w.rows == 0 {
+            return w;
+        }
+        x += 1;
+    }
+    w
+}
+
+// Spreads over the next pair that is new; a row without one is done with.
+fn spread_next(
+    block: &[u8; 1604],
+    facts: &[u16; 832],
+    safe: &[u16; 16],
+    cube: &mut [u32; 32],
+    pairs: &mut [u16; 16],
+    done: &mut [u16; 16],
+    w: Rows,
+) -> Rows {
+    let a = least(w.rows);
+    let new = less(pairs[wide(a)], done[wide(a)]);
+    if new == 0 {
+        return Rows {
+            rows: without_least(w.rows),
+            good: w.good,
+            strict: w.strict,
+        };
+    }
+    let b = least(new);
+    done[wide(a)] = add(done[wide(a)], b);
+    spread_pair(block, facts, safe, cube, pairs, w, packed(a, b))
+}
+
+// Spreads over the pairs of states reachable under a cube, and narrows it where they would leave the safe ones; false if it
+// was narrowed. Strict: false as soon as an output can be wrong.
+fn spread(
+    block: &[u8; 1604],
+    facts: &[u16; 832],
+    safe: &[u16; 16],
+    cube: &mut [u32; 32],
+    pairs: &mut [u16; 16],
+    strict: bool,
+) -> bool {
+    let mut done = [0u16; 16];
+    *pairs = [0u16; 16];
+    pairs[0] = starts(block, cube);
+    let mut w = Rows {
+        rows: add(0, 0),
+        good: true,
+        strict,
+    };
+    let mut turns: u16 = 0;
+    while turns < 5000 {
+        if w.rows == 0 {
+            return w.good;
+        }
+        w = spread_next(block, facts, safe, cube, pairs, &mut done, w);
+        turns += 1;
+    }
+    w.good
+}
+
+// Narrows the cube until the pairs reachable under it are safe.
+fn narrow(
+    block: &[u8; 1604],
+    facts: &[u16; 832],
+    safe: &[u16; 16],
+    cube: &mut [u32; 32],
+    pairs: &mut [u16; 16],
+) {
+    let mut rounds: u16 = 0;
+    while rounds < 600 {
+        if spread(block, facts, safe, cube, pairs, false) {
+            return;
+        }
+        rounds += 1;
+    }
+}
+
+// A wide cube that has the settled part, and its pairs, if the settled part conforms whatever the unsettled suspects do.
+pub fn propose(
+    block: &[u8; 1604],
+    facts: &[u16; 832],
+    p: &[u8; 32],
+    settled: u32,
+    cube: &mut [u32; 32],
+    pairs: &mut [u16; 16],
+) -> bool {
+    let mut safe = [65535u16; 16];
+    exact(p, settled, cube);
+    if !spread(block, facts, &safe, cube, pairs, true) {
+        return false;
+    }
+    safe_pairs(block, facts, cube, &mut safe);
+    exact(p, 0, cube);
+    narrow(block, facts, &safe, cube, pairs);
+    true
+}

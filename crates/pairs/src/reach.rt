@@ -1,0 +1,160 @@
+// No test waits: the first unsettled suspect on the walk of the settled part, or a witness.
+use crate::cells::Cell;
+use crate::cells::look;
+use crate::witness::keep;
+use block::inputs;
+use block::wide;
+use cubes::starts::starts;
+use leaves::ANY;
+use leaves::add;
+use leaves::exact;
+use leaves::in_set;
+use leaves::least;
+use leaves::low;
+use leaves::packed;
+
+// How many pairs of states are listed, the first unsettled suspect met (255: none), and whether an output can be wrong: at
+// which suspect, and which is right.
+struct Reach {
+    end: usize,
+    first: u8,
+    wrong: bool,
+    at: u8,
+    want: u8,
+}
+
+// A wrong output, or an unsettled suspect.
+fn found(w: Reach, cell: Cell) -> Reach {
+    let mut first = w.first;
+    if first == 255 {
+        first = cell.site;
+    }
+    Reach {
+        end: w.end,
+        first,
+        wrong: !cell.sound,
+        at: cell.site,
+        want: cell.output,
+    }
+}
+
+// Lists a pair of states, if it is not listed.
+fn list_pair(seen: &mut [u16; 16], list: &mut [u8; 256], w: Reach, a: u8, b: u8) -> Reach {
+    let row = wide(low(a));
+    if in_set(seen[row], b) {
+        return w;
+    }
+    let end = w.end;
+    if end >= 256 {
+        return w;
+    }
+    seen[row] = add(seen[row], b);
+    list[end] = packed(a, b);
+    Reach {
+        end: end + 1,
+        first: w.first,
+        wrong: false,
+        at: 255,
+        want: 0,
+    }
+}
+
+fn unsettled(cube: &[u32; 32], i: u8) -> bool {
+    i < 32 && cube[wide(i % 32)] == ANY
+}
+
+// One input at a pair of states.
+fn walk_cell(
+    block: &[u8; 1604],
+    facts: &[u16; 832],
+    cube: &[u32; 32],
+    seen: &mut [u16; 16],
+    list: &mut [u8; 256],
+    w: Reach,
+    z: u8,
+    x: u8,
+) -> Reach {
+    let cell = look(block, facts, cube, z, x);
+    if cell.next == 255 {
+        return w;
+    }
+    if !cell.sound || unsettled(cube, cell.site) {
+        return found(w, cell);
+    }
+    list_pair(seen, list, w, cell.next, least(cell.go))
+}
+
+// Every input at a pair of states.
+fn walk_pair(
+    block: &[u8; 1604],
+    facts: &[u16; 832],
+    cube: &[u32; 32],
+    seen: &mut [u16; 16],
+    list: &mut [u8; 256],
+    from: Reach,
+    z: u8,
+) -> Reach {
+    let end = inputs(block);
+    let mut w = from;
+    let mut x: u8 = 0;
+    while x < end {
+        w = walk_cell(block, facts, cube, seen, list, w, z, x);
+        if w.wrong {
+            return w;
+        }
+        x += 1;
+    }
+    w
+}
+
+// Every pair of states in reach.
+fn walk(
+    block: &[u8; 1604],
+    facts: &[u16; 832],
+    cube: &[u32; 32],
+    seen: &mut [u16; 16],
+    list: &mut [u8; 256],
+) -> Reach {
+    let mut w = Reach {
+        end: 0,
+        first: 255,
+        wrong: false,
+        at: 255,
+        want: 0,
+    };
+    w = list_pair(seen, list, w, 0, least(starts(block, cube)));
+    let mut h: usize = 0;
+    while h < 256 {
+        if h >= w.end {
+            return w;
+        }
+        let z = list[h];
+        w = walk_pair(block, facts, cube, seen, list, w, z);
+        if w.wrong {
+            return w;
+        }
+        h += 1;
+    }
+    w
+}
+
+// The first unsettled suspect on the walk of the settled part; 255 if there is none, or if a wrong output is in reach: then a
+// witness is kept.
+pub fn meet(
+    block: &[u8; 1604],
+    facts: &[u16; 832],
+    p: &[u8; 32],
+    settled: u32,
+    notes: &mut [u16],
+) -> u8 {
+    let mut cube = [ANY; 32];
+    let mut seen = [0u16; 16];
+    let mut list = [0u8; 256];
+    exact(p, settled, &mut cube);
+    let w = walk(block, facts, &cube, &mut seen, &mut list);
+    if !w.wrong {
+        return w.first;
+    }
+    keep(block, p, settled, w.at, w.want, notes);
+    255
+}

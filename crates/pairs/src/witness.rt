@@ -1,0 +1,92 @@
+// A witness: choices of a mutant that is sought, kept in the notes to spare questions.
+use block::choices;
+use block::pair_of;
+use block::transition;
+use block::wide;
+use leaves::KEPT;
+use leaves::WITNESS;
+use leaves::among;
+use leaves::note;
+use leaves::packed;
+use leaves::set_note;
+ghost use Prim.Native.Nat.{_<_};
+
+// The choice of a suspect that is a transition, or 256.
+fn choice_of(block: &[u8; 1604], j: u8, step: u8) -> u16
+    requires { ⌜ j < 32 ⌝ }
+{
+    let k = pair_of(block, j);
+    let end = choices(block, j);
+    let mut c: u16 = 0;
+    while c < end {
+        let s = transition(block, k, c);
+        if packed(s.output, s.target) == step {
+            return c;
+        }
+        c += 1;
+    }
+    256
+}
+
+// The last choice of a suspect with another output than o, or 256.
+fn wrong_choice(block: &[u8; 1604], j: u8, o: u8) -> u16
+    requires { ⌜ j < 32 ⌝ }
+{
+    let k = pair_of(block, j);
+    let mut c = choices(block, j);
+    while c > 0 {
+        c -= 1;
+        let s = transition(block, k, c);
+        if s.output != o {
+            return c;
+        }
+    }
+    256
+}
+
+// What a witness says of a suspect: at one that can be wrong the last choice that is.
+fn noted(block: &[u8; 1604], p: &[u8; 32], settled: u32, at: u8, want: u8, j: u8) -> u16
+    requires { ⌜ j < 32 ⌝ }
+{
+    if among(settled, j) {
+        return choice_of(block, j, p[wide(j)]);
+    }
+    if at != j {
+        return 256;
+    }
+    wrong_choice(block, j, want)
+}
+
+// Keeps the settled part, with a wrong output where it can be, as a witness.
+pub fn keep(block: &[u8; 1604], p: &[u8; 32], settled: u32, at: u8, want: u8, notes: &mut [u16]) {
+    let mut j: u8 = 0;
+    while j < 32 {
+        set_note(
+            notes,
+            WITNESS + wide(j),
+            noted(block, p, settled, at, want, j),
+        );
+        j += 1;
+    }
+    set_note(notes, KEPT, 1);
+}
+
+// Whether two choices of a slot differ, neither of them 256.
+fn clash(c: u16, d: u16) -> bool {
+    c != 256 && d != 256 && c != d
+}
+
+// Whether a witness is kept that can have the choices of a prefix (256: unsettled).
+pub fn witnessed(notes: &[u16], prefix: &[u16; 32]) -> bool {
+    if note(notes, KEPT) == 0 {
+        return false;
+    }
+    let mut j: usize = 0;
+    while j < 32 {
+        if clash(note(notes, WITNESS + j), prefix[j]) {
+            return false;
+        }
+        j += 1;
+    }
+    true
+}

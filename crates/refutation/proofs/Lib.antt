@@ -1,0 +1,3 @@
+mod TellLaw
+mod BranchLaw
+mod FactsLaw

@@ -1,0 +1,300 @@
+// A cube without mutant sought for a settled part, by the choices of a suspect in turn.
+use crate::effort::over;
+use crate::node::Node;
+use crate::node::UNHINTED;
+use crate::node::child;
+use crate::tell::look;
+use block::Step;
+use block::choices;
+use block::pair_of;
+use block::site;
+use block::transition;
+use block::wide;
+use cubes::gather::meet_in;
+use cubes::gather::note as add;
+use cubes::goal::Goal;
+use cubes::literals::means;
+use cubes::words::holds;
+use cursors::mark_wants;
+use cursors::pick;
+use leaves::ANY;
+use leaves::DEAD;
+use leaves::HINTS;
+use leaves::in_set;
+use leaves::low;
+use leaves::note;
+use leaves::packed;
+use mirror::reflect;
+use pairs::meet;
+use store::Told;
+use store::learn;
+ghost use mathlib.Core.Path.{_≡_};
+ghost use mathlib.Core.Bool.{true, false};
+ghost use Prim.Native.Nat.{_-_, _<_, _≤_};
+ghost use lib.ListN.{length, getD, set};
+ghost use Rattle.block.specs.Layout.{siteAt};
+ghost use Rattle.cubes.specs.Sets.{Has};
+ghost use Rattle.store.specs.Store.{StoreOk, Learns};
+ghost use Rattle.refutation.specs.Refuting.{Ready};
+ghost use Rattle.refutation.specs.Branching.{Found, SplitOk, TurnOk, JoinedOk};
+
+// The suspect to settle next: one for which tests wait, else one on the way of the settled part; 255 if there is none.
+fn next_suspect(
+    block: &[u8; 1604],
+    facts: &[u16; 832],
+    log: &[u16],
+    notes: &mut [u16],
+    node: Node,
+    cursors: &[u32; 256],
+) -> u8 {
+    let mut waiting = [0u16; 32];
+    mark_wants(facts, log, cursors, notes, &mut waiting);
+    let i = pick(block, facts, notes, &waiting);
+    if i < 32 {
+        return i;
+    }
+    meet(block, facts, &node.p, node.settled, notes)
+}
+
+// By transition of a suspect what is said to refute it.
+fn recall_hints(notes: &[u16], i: u8, known: &mut [u16; 272]) {
+    let base = HINTS + wide(i % 32) * 256;
+    if notes.len() < base + 256 {
+        return;
+    }
+    let mut v: usize = 0;
+    while v < 256 {
+        known[v] = notes[base + v];
+        v += 1;
+    }
+}
+
+// By output, from 256 on, the next states that are said to be refuted.
+fn recall_dead(notes: &[u16], i: u8, known: &mut [u16; 272]) {
+    let base = DEAD + wide(i % 32) * 16;
+    let mut o: usize = 0;
+    while o < 16 {
+        known[256 + o] = note(notes, base + o);
+        o += 1;
+    }
+}
+
+// What is said at a node of the choices of a suspect.
+fn recall(notes: &[u16], i: u8, known: &mut [u16; 272]) {
+    recall_hints(notes, i, known);
+    recall_dead(notes, i, known);
+}
+
+// A suspect to settle, its pair (256: there is none), and how many choices it has.
+pub(crate) struct Split {
+    pub i: u8,
+    pub k: usize,
+    pub n: u16,
+}
+
+fn split_at(block: &[u8; 1604], i: u8, left: u8) -> Split
+    ensures { λ r. ⌜ (r .k < 256 → SplitOk (now (block .entry)) left r) ⌝ }
+{
+    if i >= 32 {
+        return Split { i, k: 256, n: 0 };
+    }
+    if left == 0 {
+        return Split { i, k: 256, n: 0 };
+    }
+    let k = pair_of(block, i);
+    if site(block, k) != i {
+        return Split { i, k: 256, n: 0 };
+    }
+    Split {
+        i,
+        k,
+        n: choices(block, i),
+    }
+}
+
+// The suspect to settle next, and what is said of its choices.
+fn next_split(
+    block: &[u8; 1604],
+    facts: &[u16; 832],
+    log: &[u16],
+    store: &[u32],
+    notes: &mut [u16],
+    node: Node,
+    cursors: &[u32; 256],
+    known: &mut [u16; 272],
+) -> Split
+    ensures { λ r. ⌜ (r .k < 256 → SplitOk (now (block .entry)) (node .left) r) ⌝ }
+{
+    if over(store, notes) {
+        return split_at(block, 255, 0);
+    }
+    let i = next_suspect(block, facts, log, notes, node, cursors);
+    recall(notes, i, known);
+    split_at(block, i, node.left)
+}
+
+// A turn of a choice, one in the first round and one in the second: its transition, whether it is passed over, and what may
+// refute it.
+pub(crate) struct Turn {
+    pub step: Step,
+    pub skip: bool,
+    pub hint: u16,
+}
+
+fn has_step(sets: &[u16; 16], step: Step) -> bool
+    ensures { λ r. ⌜ (r ≡ true → Has (getD (now (sets .entry)) (step .output) 0) (step .target)) ⌝ }
+{
+    let o = step.output;
+    let t = step.target;
+    if o >= 16 {
+        return false;
+    }
+    if t >= 16 {
+        return false;
+    }
+    holds(sets[wide(o)], t)
+}
+
+// In the first round a choice of which something is said is passed over.
+fn first_turn(block: &[u8; 1604], k: usize, c: u16, done: &[u16; 16], known: &[u16; 272]) -> Turn
+    requires { ⌜ k < 256 ⌝ }
+{
+    let step = transition(block, k, c);
+    let dead = in_set(known[256 + wide(low(step.output))], step.target);
+    Turn {
+        step,
+        skip: dead | has_step(done, step),
+        hint: UNHINTED,
+    }
+}
+
+fn second_turn(block: &[u8; 1604], k: usize, c: u16, done: &[u16; 16], known: &[u16; 272]) -> Turn
+    requires { ⌜ k < 256 ⌝ }
+    ensures { λ r. ⌜ TurnOk (now (block .entry)) (now (done .entry)) k c r ⌝ }
+{
+    let step = transition(block, k, c);
+    Turn {
+        step,
+        skip: has_step(done, step),
+        hint: known[wide(packed(step.output, step.target))],
+    }
+}
+
+fn at_turn(block: &[u8; 1604], split: Split, r: u16, done: &[u16; 16], known: &[u16; 272]) -> Turn
+    requires { ⌜ split .k < 256 ⌝ }
+    ensures { λ t. ⌜ (split .n ≤ r → TurnOk (now (block .entry)) (now (done .entry)) (split .k) (r - split .n) t) ⌝ }
+{
+    if r < split.n {
+        return first_turn(block, split.k, r, done, known);
+    }
+    second_turn(block, split.k, r - split.n, done, known)
+}
+
+// Whether nothing is told, or a cube that does not speak of the suspect.
+fn final_at(ok: bool, cube: &[u32; 32], i: u8) -> bool
+    ensures { λ r. ⌜ (r ≡ false → ok ≡ true) ⌝ }
+{
+    if !ok {
+        return true;
+    }
+    cube[wide(i % 32)] == ANY
+}
+
+// Joins a cube that has a choice to the others; false if it has not, or does not speak of its suspect.
+fn join(
+    block: &[u8; 1604],
+    facts: &[u16; 832],
+    cube: &[u32; 32],
+    k: usize,
+    step: Step,
+    all: &mut [u32; 32],
+    done: &mut [u16; 16],
+) -> bool
+    requires { ⌜ Ready (now block) (now facts) × (k < 256) × (siteAt (now block) k < 32) × (length (now all) ≡ 32) × (length (now done) ≡ 16) ⌝ }
+    ensures { λ r. ⌜ (r ≡ true → JoinedOk (now (block .entry)) (now (cube .entry)) (now (all .entry)) (now (done .entry)) (now (all .exit)) (now (done .exit)) k step) ⌝ }
+{
+    let o = step.output;
+    let t = step.target;
+    if o >= 16 {
+        return false;
+    }
+    if t >= 16 {
+        return false;
+    }
+    let l = cube[wide(site(block, k))];
+    if l == ANY {
+        return false;
+    }
+    if !means(l, o, t) {
+        return false;
+    }
+    add(done, l);
+    meet_in(all, cube);
+    reflect(block, facts, cube, k, t, o, done);
+    true
+}
+
+// Keeps and tells what the cubes have in common, the suspect free.
+fn finish(store: &mut [u32], notes: &mut [u16], all: &[u32; 32], i: u8) -> Told
+    requires { ⌜ i < 32 ⌝ }
+    ensures { λ r. ⌜ (r .cube ≡ set (now (all .entry)) i 4294967295) × Learns (now (store .entry)) (now (store .exit)) (r .cube) (r .ok) ⌝ }
+{
+    let mut cube = *all;
+    cube[wide(i)] = ANY;
+    learn(store, notes, true, &cube);
+    Told { ok: true, cube }
+}
+
+// Refutes a node. First the choices of which nothing is said, then the others.
+pub(crate) fn explore(
+    block: &[u8; 1604],
+    facts: &[u16; 832],
+    log: &[u16],
+    goal: Goal,
+    store: &mut [u32],
+    notes: &mut [u16],
+    node: Node,
+    from: &[u32; 256],
+) -> Told
+    requires { ⌜ Ready (now block) (now facts) × StoreOk goal (now block) (now log) (now store) ⌝ }
+    ensures { λ r. ⌜ Found goal (now (block .entry)) (now (log .entry)) (now (store .exit)) r ⌝ }
+{
+    let mut cursors = *from;
+    let seen = look(block, facts, log, goal, store, notes, node, &mut cursors);
+    if seen.ok {
+        return seen;
+    }
+    let mut known = [0u16; 272];
+    let split = next_split(block, facts, log, store, notes, node, &cursors, &mut known);
+    if split.k >= 256 {
+        return seen;
+    }
+    let mut all = [ANY; 32];
+    let mut done = [0u16; 16];
+    let mut r: u16 = 0;
+    while r < split.n + split.n {
+        let now = at_turn(block, split, r, &done, &known);
+        if now.skip {
+            r += 1;
+            continue;
+        }
+        let next = child(node, split.i, now.step, now.hint);
+        let told = explore(block, facts, log, goal, store, notes, next, &cursors);
+        if final_at(told.ok, &told.cube, split.i) {
+            return told;
+        }
+        if !join(
+            block,
+            facts,
+            &told.cube,
+            split.k,
+            now.step,
+            &mut all,
+            &mut done,
+        ) {
+            return seen;
+        }
+        r += 1;
+    }
+    finish(store, notes, &all, split.i)
+}

@@ -1,0 +1,263 @@
+-- The first wanted mutant, choice by choice in dictionary order.
+use Prim.Native.Nat.{ℕ, zero, suc, _+_, _<_, _≤_}
+use native.Mathlib.Decide.{ℕ-discrete, decLt}
+use native.Mathlib.Omega.{arith}
+use mathlib.Core.Path.{_≡_, refl, sym, _∙_, ap, subst}
+use mathlib.Core.Logic.{_⊎_, inl, inr, by-cases}
+use mathlib.Core.Bool.{Bool, true, false}
+use mathlib.Core.Option.{Option, none, some}
+use mathlib.Core.List.{List, [], _∷_}
+use borrow.Author.Count.{below-more}
+use denote.Enum.Declared.{tagOf}
+use lib.ListN.{length, getD, set, length-set, length-replicate, getD-replicate, List·getD-eq-default}
+use lib.Seq.{getD-set-same, getD-set-other, getD-take, length-take-le, ext-getD}
+use Rattle.sheet.specs.Lists.{Before}
+use Rattle.sheet.specs.Sheet.{Sheet}
+use Rattle.sheet.specs.laws.Basics.{never}
+use Rattle.sheet.specs.laws.Rows.{before-irreflexive}
+use Rattle.model.specs.Mutant.{slots, IsMutant}
+use Rattle.model.specs.Suite.{compareOf}
+use Rattle.model.specs.laws.JudgeLaw.{some-nonconforming}
+use Rattle.model.specs.laws.LogLaw.{passes-gives}
+use Rattle.model.specs.laws.SuspectLaw.{slot-count}
+use Rattle.model.specs.laws.OperationLaw.{mutant-length, in-range-at, in-range}
+use Rattle.block.specs.Layout.{choicesOf, slotsOf}
+use Rattle.block.specs.Tabled.{Tabled}
+use Rattle.block.specs.laws.TabledLaw.{getD-default, start-same, pair-same, ranged, gives-same, well-formed}
+use Rattle.cubes.specs.Cube.{Sought, Meets as Asked}
+use Rattle.cubes.specs.declared.goal.Goal.{Goal}
+use Rattle.cubes.specs.declared.goal.Goal.the-variants.{Any, Nonconforming}
+use Rattle.refutation.specs.Refuting.{Extends, NoneIf}
+use Rattle.search.specs.declared.settle.Found.{Found}
+use Rattle.search.specs.declared.settle.Found.the-variants.{Nothing, First, GaveUp}
+use Rattle.search.proofs.settle.Found.{the-type}
+use Rattle.search.specs.Search.{Meets, Wanted, Begins, NoneFrom, FirstFrom, Tried, Prefix, mutantIn, FirstIn, Answers, foundIf, ForSheet, Searching, Decides, unsettled}
+use Rattle.search.specs.Shown.{Showing}
+
+-- where two lists are the same up to a place, the earlier one has no larger number there
+before-at : (b a : List ℕ) (i : ℕ) → Before b a → ((j : ℕ) → j < i → getD b j 0 ≡ getD a j 0) → getD b i 0 ≤ getD a i 0
+unfolding Before
+before-at [] a i h same = absurd h
+before-at (x ∷ b) [] i h same = absurd h
+before-at (x ∷ b) (y ∷ a) zero (inl l) same = omega arith
+before-at (x ∷ b) (y ∷ a) zero (inr (e, h)) same = omega arith
+before-at (x ∷ b) (y ∷ a) (suc i) (inl l) same = absurd (omega (arith, same 0 (omega arith)))
+before-at (x ∷ b) (y ∷ a) (suc i) (inr (e, h)) same = before-at b a i h (λ j k. same (suc j) (omega arith))
+
+module _ {sh : Sheet} {p : List ℕ} where
+  -- ---- all choices settled
+
+  module _ (re : Prefix sh p (length (slots sh))) where
+    inside-p : length (slots sh) ≤ length p
+    inside-p = omega (arith, re .few, re .long)
+
+    -- a mutant with all choices of p is p
+    whole : (b : List ℕ) → IsMutant sh b → Begins (length (slots sh)) b p → b ≡ mutantIn sh p
+    whole b is be =
+        ext-getD 0 b (mutantIn sh p) (mutant-length sh b is ∙ sym (length-take-le (length (slots sh)) p inside-p))
+        (λ i h. let k : i < length (slots sh) = omega (arith, mutant-length sh b is) in be .at i k ∙ sym (getD-take (length (slots sh)) p i 0 k))
+
+    -- the choices of p are a mutant
+    pub full-mutant : IsMutant sh (mutantIn sh p)
+    unfolding IsMutant
+    full-mutant =
+        let long : length (mutantIn sh p) ≡ length (slots sh) = length-take-le (length (slots sh)) p inside-p in
+        in-range (slots sh) (mutantIn sh p) long (λ j h. let k : j < length (slots sh) = omega (arith, long) in rw (getD-take (length (slots sh)) p j 0 k) (re .low j k))
+
+    -- it is not wanted: none that begins so is
+    pub full-none : {goal : Goal} → (Wanted goal sh (mutantIn sh p) → ⊥) → NoneFrom goal sh p (length (slots sh))
+    full-none h = record { at = λ b is be w. h (rw (whole b is be) at w) }
+
+    -- it is: it is the first that begins so
+    pub full-first : {goal : Goal} → Wanted goal sh (mutantIn sh p) → FirstIn goal sh p (length (slots sh)) p
+    full-first w =
+        record {
+          long = re .long;
+          first = record {
+            is = full-mutant;
+            begins = record { at = λ j k. getD-take (length (slots sh)) p j 0 k };
+            wanted = w;
+            first = λ b is be before. absurd (before-irreflexive (mutantIn sh p) (rw (whole b is be) at before));
+          };
+        }
+
+  -- ---- one choice more
+
+  module _ {i : ℕ} (re : Prefix sh p i) (ln : i < length (slots sh)) where
+    inside : i < length p
+    inside = omega (arith, re .long, re .few)
+
+    -- the next choice settled
+    pub prefix-set : (c : ℕ) → c < getD (slots sh) i 0 → Prefix sh (set p i c) (i + 1)
+    prefix-set c lc =
+        record {
+          long = length-set p i c ∙ re .long;
+          few = re .few;
+          within = omega arith;
+          low = below-more _ i (λ j h. rw (getD-set-other p i j c 0 (λ s. omega arith)) (re .low j h)) (rw (getD-set-same p i c 0 inside) lc);
+          rest = λ j h k. rw (getD-set-other p i j c 0 (λ s. omega arith)) (re .rest j h (omega arith));
+        }
+
+    -- b begins as p and has c at i: it begins as p with c at i
+    begins-set : (b : List ℕ) (c : ℕ) → Begins i b p → getD b i 0 ≡ c → Begins (i + 1) b (set p i c)
+    begins-set b c be e =
+        record {
+          at = below-more _ i (λ j h. be .at j h ∙ sym (getD-set-other p i j c 0 (λ s. omega arith))) (e ∙ sym (getD-set-same p i c 0 inside));
+        }
+
+    begins-unset : (b : List ℕ) (c : ℕ) → Begins (i + 1) b (set p i c) → Begins i b p
+    begins-unset b c be = record { at = λ j h. be .at j (omega arith) ∙ getD-set-other p i j c 0 (λ s. omega arith) }
+
+    -- one more tried
+    pub tried-more : {goal : Goal} (c : ℕ) → Tried goal sh p i c → NoneFrom goal sh (set p i c) (i + 1) → Tried goal sh p i (c + 1)
+    tried-more c tr nf =
+        record {
+          at = λ b is be lt. by-cases (ℕ-discrete (getD b i 0) c) (λ e. nf .at b is (begins-set b c be e)) (λ d. tr .at b is be (omega arith));
+        }
+
+    -- all choices tried
+    pub tried-all : {goal : Goal} (c : ℕ) → Tried goal sh p i c → getD (slots sh) i 0 ≤ c → NoneFrom goal sh p i
+    unfolding IsMutant
+    tried-all c tr lc =
+        record {
+          at = λ b is be. tr .at b is be (omega (arith, in-range-at (slots sh) b is i (omega (arith, mutant-length sh b is))));
+        }
+
+    -- the first with the choice c, where no smaller choice leads to one
+    found : {goal : Goal} (c : ℕ) (a : List ℕ) → Tried goal sh p i c → FirstFrom goal sh (set p i c) (i + 1) a → FirstFrom goal sh p i a
+    found {goal} c a tr fi =
+        record {
+          is = fi .is;
+          begins = begins-unset a c (fi .begins);
+          wanted = fi .wanted;
+          first = λ b is be before.
+              by-cases (ℕ-discrete (getD b i 0) c) (λ e. fi .first b is (begins-set b c be e) before) (λ ne. tr .at b is be (below b be before ne));
+        }
+      where
+        at-i : getD a i 0 ≡ c
+        at-i = fi .begins .at i (omega arith) ∙ getD-set-same p i c 0 inside
+
+        below : (b : List ℕ) → Begins i b p → Before b a → (getD b i 0 ≡ c → ⊥) → getD b i 0 < c
+        below b be before ne =
+            let l = before-at b a i before (λ j h. be .at j h ∙ sym (begins-unset a c (fi .begins) .at j h)) in
+            by-cases (decLt (getD b i 0) c) (λ h. h) (λ h. absurd (ne (omega (arith, at-i))))
+
+-- no choice tried yet
+pub tried-none : {goal : Goal} {sh : Sheet} {p : List ℕ} {i : ℕ} → Tried goal sh p i 0
+tried-none = record { at = λ b is be l. absurd (omega arith) }
+
+-- an answer is not one that another arm has
+pub other : (r s : Found) {i j : ℕ} → (tagOf the-type r ≡ i) ⊎ (tagOf the-type r ≡ j) → (tagOf the-type s ≡ i → ⊥) → (tagOf the-type s ≡ j → ⊥) → r ≡ s → ⊥
+other r s (inl e) n m h = n (sym (ap (tagOf the-type) h) ∙ e)
+other r s (inr e) n m h = m (sym (ap (tagOf the-type) h) ∙ e)
+
+pub nothing : {goal : Goal} {sh : Sheet} {p : List ℕ} {i : ℕ} (r : Found) (q : List ℕ) → (r ≡ First → ⊥) → (r ≡ GaveUp → ⊥) → Answers goal sh p i r q → NoneFrom goal sh p i
+nothing Nothing q n m a = a
+nothing First q n m a = absurd (n refl)
+nothing GaveUp q n m a = absurd (m refl)
+
+-- at the end nothing is given up
+pub ended : (r : Bool) {A : Type 0} → foundIf r ≡ GaveUp → A
+ended true e = never (cc)
+ended false e = never (cc)
+
+-- ---- the whole search
+
+-- nothing settled
+pub start : {sh : Sheet} {m log : List ℕ} → ForSheet sh m log → Searching sh m log unsettled 0
+start {sh} s =
+    record {
+      sheet = s;
+      prefix = record {
+        long = length-replicate {A = ℕ} 32 256;
+        few = omega (arith, slot-count sh, s .tabled .formed .few-open);
+        within = omega arith;
+        low = λ j h. absurd (omega arith);
+        rest = λ j h k. getD-replicate {A = ℕ} 32 j 256 0 h;
+      };
+    }
+
+-- the mutant that was found
+pub showing : {goal : Goal} {sh : Sheet} {m log p q : List ℕ} {i : ℕ} → ForSheet sh m log → FirstIn goal sh p i q → Showing sh m q
+showing s a = record { tabled = s .tabled; is = a .first .is; long = a .long }
+
+-- ---- the engine's answer
+
+module _ {sh : Sheet} {m : List ℕ} (tb : Tabled sh m) (b : List ℕ) (is : IsMutant sh b) where
+  -- what the goal asks by the sheet, it asks by the block
+  asked : (goal : Goal) → Meets goal (compareOf sh b) → Asked goal m b
+  asked Any h = tt
+  asked Nonconforming h = go (compareOf sh b) refl h
+    where
+      go : (o : Option (List ℕ)) → compareOf sh b ≡ o → (o ≡ none → ⊥) → Asked Nonconforming m b
+      go none e n = absurd (n refl)
+      go (some xs) e n = λ c. some-nonconforming sh (tb .formed) b xs e (rw (pair-same tb b is, start-same tb b is) at c)
+
+-- ---- the search, at what it works with
+
+module _ {sh : Sheet} {m log p : List ℕ} {i : ℕ} (w : Searching sh m log p i) where
+  -- a mutant that begins so has all the choices of p
+  extends : (b : List ℕ) → IsMutant sh b → Begins i b p → Extends b p
+  extends b is be j ne =
+      let long = mutant-length sh b is in
+      by-cases (decLt j i) (λ h. be .at j h)
+      (λ h. by-cases (decLt j 32) (λ l. absurd (ne (w .prefix .rest j l (omega arith))))
+      (λ l. past (omega (arith, w .prefix .few)) (omega (arith, w .prefix .long))))
+    where
+      past : length b ≤ j → length p ≤ j → getD b j 0 ≡ getD p j 0
+      past h k = rw (List·getD-eq-default b 0 h, List·getD-eq-default p 0 k) refl
+
+  sought : {goal : Goal} (b : List ℕ) → IsMutant sh b → Wanted goal sh b → Sought goal m log b
+  unfolding Sought
+  sought {goal} b is h = (rw (gives-same (w .sheet .tabled) b is log, w .sheet .suite) (passes-gives sh b (w .sheet .tabled .formed) (h .passes)), asked (w .sheet .tabled) b is goal (h .meets))
+
+  -- where the engine refutes the prefix, no mutant that begins so is wanted
+  pub refuted : {goal : Goal} {r : Bool} → NoneIf goal m log p r → r ≡ true → NoneFrom goal sh p i
+  refuted h e = record { at = λ b is be wa. h e b (ranged (w .sheet .tabled) b is) (extends b is be) (sought b is wa) }
+
+  -- n is how many slots there are
+  module _ {n : ℕ} (en : n ≡ slotsOf m) where
+    count : n ≡ length (slots sh)
+    count = en ∙ w .sheet .tabled .count
+
+    -- all of them are settled
+    module _ (ei : i ≡ n) where
+      pub full : Searching sh m log p (length (slots sh))
+      full = subst (λ (k : ℕ). Searching sh m log p k) (ei ∙ count) w
+
+      pub full-answer : {goal : Goal} (r : Bool) → Decides (Wanted goal sh (mutantIn sh p)) r → (f : Found) (q : List ℕ) → f ≡ foundIf r → q ≡ p → Answers goal sh p i f q
+      full-answer {goal} r h f q ef eq = rw (ef, eq, ei ∙ count) (go r h)
+        where
+          go : (r : Bool) → Decides (Wanted goal sh (mutantIn sh p)) r → Answers goal sh p (length (slots sh)) (foundIf r) p
+          go true h = full-first (full .prefix) (h .yes refl)
+          go false h = full-none (full .prefix) (h .no refl)
+
+    -- one is not
+    module _ (ne : i ≡ n → ⊥) where
+      pub next-low : (i < 32) × (i < length (slots sh))
+      next-low =
+          let h : i < length (slots sh) = by-cases (decLt i (length (slots sh))) (λ h. h) (λ h. absurd (ne (omega (arith, w .prefix .within, count)))) in
+          (omega (arith, w .prefix .few), h)
+
+      many : choicesOf m i ≡ getD (slots sh) i 0
+      many = w .sheet .tabled .choices i (next-low .0) ∙ getD-default (slots sh) i 1 0 (next-low .1)
+
+      module _ {k : ℕ} (ek : k ≡ choicesOf m i) where
+        pub few-choices : k ≤ 256
+        few-choices = rw ek (well-formed (w .sheet .tabled) .choices i (next-low .0))
+
+        pub searching-set : {c : ℕ} → c < k → Searching sh m log (set p i c) (i + 1)
+        searching-set lc = record { sheet = w .sheet; prefix = prefix-set (w .prefix) (next-low .1) _ (rw (ek ∙ many) at lc) }
+
+        module _ {goal : Goal} {c : ℕ} (tr : Tried goal sh p i c) where
+          pub all-tried : k ≤ c → NoneFrom goal sh p i
+          all-tried l = tried-all (w .prefix) (next-low .1) c tr (rw (ek ∙ many) at l)
+
+          pub one-tried : NoneFrom goal sh (set p i c) (i + 1) → Tried goal sh p i (c + 1)
+          one-tried nf = tried-more (w .prefix) (next-low .1) c tr nf
+
+          -- what was found with the choice c, if it was not nothing, is the answer
+          pub one-found : (r : Found) (q : List ℕ) → (r ≡ Nothing → ⊥) → Answers goal sh (set p i c) (i + 1) r q → Answers goal sh p i r q
+          one-found Nothing q n a = absurd (n refl)
+          one-found First q n a = record { long = a .long; first = found (w .prefix) (next-low .1) c _ tr (a .first) }
+          one-found GaveUp q n a = tt

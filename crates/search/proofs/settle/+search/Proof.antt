@@ -1,0 +1,219 @@
+-- `search`: the choices below c at the next slot lead to no wanted mutant.
+use borrow.Author.Needs.{needs}
+use Prim.Native.Nat.{ℕ, _-_, _<_, _≤_}
+use native.Mathlib.Omega.{arith}
+use mathlib.Core.Path.{_≡_, refl, sym, _∙_}
+use mathlib.Core.List.{List}
+use lib.ListN.{length}
+use Rattle.sheet.specs.Sheet.{Sheet}
+use Rattle.sheet.specs.laws.Basics.{never}
+use Rattle.cubes.specs.declared.goal.Goal.{Goal}
+use Rattle.refutation.specs.Store.{StoreOk}
+use Rattle.search.specs.declared.settle.Found.the-variants.{Nothing}
+use Rattle.search.specs.Search.{Searching, Tried}
+use Rattle.search.proofs.SearchLaw.{tried-none, refuted, other, full, full-answer, ended, next-low, few-choices, searching-set, all-tried, one-tried, one-found}
+use borrow.Fn.Kinds.{In}
+use borrow.Fn.PlainCycle.{Measures, is, falls, and}
+use Rattle.search.proofs.settle.search.Reads as search′
+use Rattle.search.proofs.settle.search.Kinds as search-kinds
+use Rattle.search.proofs.settle.+search.Lts-search as search-lts
+use Rattle.block.proofs.choices.Reads as choices-reads
+use Rattle.block.proofs.slots.Reads as slots-reads
+use Rattle.block.proofs.wide.Reads as wide-reads
+use Rattle.search.proofs.check.wanted.Reads as wanted-reads
+use Rattle.search.proofs.settle.refuted.Reads as refuted-reads
+use Rattle.search.proofs.settle.settled.Reads as settled-reads
+use Rattle.refutation.proofs.spent.Reads as spent-reads
+use Rattle.search.proofs.settle.+search.{statement}
+use Rattle.search.proofs.settle.+search.Tie.{close}
+
+-- what stands before each choice
+record Trying (goal : Goal) (block log p : List ℕ) (i k : ℕ) (store₀ store notes₀ notes : List ℕ) (c : ℕ) : Type 0 where
+  tried : (sh : Sheet) → Searching sh block log p i → Tried goal sh p i c
+  low : c ≤ k
+  ok : StoreOk goal block log store
+  same-store : length store ≡ length store₀
+  same-notes : length notes ≡ length notes₀
+
+abbrev μ-search : Measures 5 search-kinds.ps ℕ
+μ-search κs a = 32 - a .1 .1 .1 .1 .1 .1 .1 .1 .0
+
+abbrev search-at : ℕ → In 5 search-kinds.ps
+search-at t = and 5 search-kinds.ps (is 5 search-kinds.ps μ-search t) search′.Pre
+
+abbrev search-below : ℕ → In 5 search-kinds.ps
+search-below t = and 5 search-kinds.ps (falls 5 search-kinds.ps _<_ μ-search t) search′.Pre
+
+abbrev cs : ℕ → search-lts.Claims
+cs t = (refuted-reads.Asked, refuted-reads.Learnt, slots-reads.Asked, slots-reads.Learnt, wide-reads.Asked, wide-reads.Learnt, wanted-reads.Asked, wanted-reads.Learnt, settled-reads.Asked, settled-reads.Learnt, spent-reads.Asked, spent-reads.Learnt, choices-reads.Asked, choices-reads.Learnt, search-below t, search′.Post)
+
+abbrev search-Inv-loop : search-lts.InvT-loop
+search-Inv-loop block facts ready log goal store₀ notes₀ i p k c₀ store notes c = Trying goal block log p i k store₀ store notes₀ notes c
+
+abbrev search-μ-loop : search-lts.MeasureT-loop
+search-μ-loop block facts ready log goal store₀ notes₀ i p k c₀ store notes c = k - c
+
+search-refuted-requires : (t : ℕ) → search-lts.Need-refuted-requires (cs t) (search-at t) search′.Post search-Inv-loop search-μ-loop
+search-refuted-requires t c κs = c .before .before .before .before .before .before .pre .1 .1
+
+search-same-length : (t : ℕ) → search-lts.Need-same-length (cs t) (search-at t) search′.Post search-Inv-loop search-μ-loop
+search-same-length t c = search needs
+
+search-same-length-2 : (t : ℕ) → search-lts.Need-same-length-2 (cs t) (search-at t) search′.Post search-Inv-loop search-μ-loop
+search-same-length-2 t c = search needs
+
+search-returns : (t : ℕ) → search-lts.Need-returns (cs t) (search-at t) search′.Post search-Inv-loop search-μ-loop
+search-returns t c = (λ sh w. refuted w (c .before .before .before .before .before .refuted .ensures .0) (c .if1 .taken), (c .before .before .before .before .before .refuted .ensures .1, λ e. never (cc)))
+
+search-slots-requires : (t : ℕ) → search-lts.Need-slots-requires (cs t) (search-at t) search′.Post search-Inv-loop search-μ-loop
+search-slots-requires t c κs = search needs
+
+search-wide-requires : (t : ℕ) → search-lts.Need-wide-requires (cs t) (search-at t) search′.Post search-Inv-loop search-μ-loop
+search-wide-requires t c κs = search needs
+
+search-wanted-requires : (t : ℕ) → search-lts.Need-wanted-requires (cs t) (search-at t) search′.Post search-Inv-loop search-μ-loop
+search-wanted-requires t c κs = (c .before .before .before .before .before .before .before .before .before .before .before .before .before .before .before .before .pre .1 .0 .0, full (c .before .before .before .before .before .before .before .before .before .before .before .before .before .before .before .before .pre .1 .0 .1) (c .before .before .wide .ensures .0 ∙ c .before .before .before .slots .ensures) (c .before .if2 .taken))
+
+search-settled-requires : (t : ℕ) → search-lts.Need-settled-requires (cs t) (search-at t) search′.Post search-Inv-loop search-μ-loop
+search-settled-requires t c κs = search needs
+
+search-same-length-3 : (t : ℕ) → search-lts.Need-same-length-3 (cs t) (search-at t) search′.Post search-Inv-loop search-μ-loop
+search-same-length-3 t c = search needs
+
+search-same-length-4 : (t : ℕ) → search-lts.Need-same-length-4 (cs t) (search-at t) search′.Post search-Inv-loop search-μ-loop
+search-same-length-4 t c = search needs
+
+search-returns-2 : (t : ℕ) → search-lts.Need-returns-2 (cs t) (search-at t) search′.Post search-Inv-loop search-μ-loop
+search-returns-2 t c =
+    let en = (c .before .before .before .before .wide .ensures .0 ∙ c .before .before .before .before .before .slots .ensures) in
+    let told = c .settled .ensures in
+    (λ sh w. full-answer w en (c .before .before .before .if2 .taken) _ (c .before .wanted .ensures sh (full w en (c .before .before .before .if2 .taken))) _ _ (told .0) (told .1), (c .before .before .before .before .before .before .before .before .before .before .before .refuted .ensures .1, λ e. ended (c .before .wanted .result) (sym (told .0) ∙ e)))
+
+search-spent-requires : (t : ℕ) → search-lts.Need-spent-requires (cs t) (search-at t) search′.Post search-Inv-loop search-μ-loop
+search-spent-requires t c κs = search needs
+
+search-same-length-5 : (t : ℕ) → search-lts.Need-same-length-5 (cs t) (search-at t) search′.Post search-Inv-loop search-μ-loop
+search-same-length-5 t c = search needs
+
+search-same-length-6 : (t : ℕ) → search-lts.Need-same-length-6 (cs t) (search-at t) search′.Post search-Inv-loop search-μ-loop
+search-same-length-6 t c = search needs
+
+search-returns-3 : (t : ℕ) → search-lts.Need-returns-3 (cs t) (search-at t) search′.Post search-Inv-loop search-μ-loop
+search-returns-3 t c = (λ sh w. tt, (c .before .before .before .before .before .before .before .before .before .before .before .before .refuted .ensures .1, λ e. sym (c .before .before .before .before .before .before .before .before .before .before .before .before .refuted .kept .1 .1 .1 .1 .1 .0) ∙ c .before .before .before .if3 .taken))
+
+search-cast-choices : (t : ℕ) → search-lts.Need-cast-choices (cs t) (search-at t) search′.Post search-Inv-loop search-μ-loop
+search-cast-choices t c = omega (arith, next-low (c .before .before .before .before .before .before .before .before .before .before .before .before .before .before .before .before .pre .1 .0 .1) (c .before .before .wide .ensures .0 ∙ c .before .before .before .slots .ensures) (c .before .if2 .left) .0)
+
+search-choices-requires : (t : ℕ) → search-lts.Need-choices-requires (cs t) (search-at t) search′.Post search-Inv-loop search-μ-loop
+search-choices-requires t c κs = next-low (c .before .before .before .before .before .before .before .before .before .before .before .before .before .before .before .before .pre .1 .0 .1) (c .before .before .wide .ensures .0 ∙ c .before .before .before .slots .ensures) (c .before .if2 .left) .0
+
+search-loop-holds : (t : ℕ) → search-lts.Need-loop-holds (cs t) (search-at t) search′.Post search-Inv-loop search-μ-loop
+search-loop-holds t c =
+    record {
+      tried = λ sh w. tried-none;
+      low = omega arith;
+      ok = c .before .before .before .before .before .before .before .before .before .before .refuted .ensures .1;
+      same-store = refl;
+      same-notes = refl;
+    }
+
+search-mul-q : (t : ℕ) → search-lts.Need-mul-q (cs t) (search-at t) search′.Post search-Inv-loop search-μ-loop
+search-mul-q t c = omega (arith, next-low (c .before .before .before .before .before .before .before .before .before .before .before .before .before .before .before .before .before .before .before .pre .1 .0 .1) (c .before .before .before .before .before .wide .ensures .0 ∙ c .before .before .before .before .before .before .slots .ensures) (c .before .before .before .before .if2 .left) .0)
+
+search-array-write-q : (t : ℕ) → search-lts.Need-array-write-q (cs t) (search-at t) search′.Post search-Inv-loop search-μ-loop
+search-array-write-q t c = omega (arith, next-low (c .before .before .before .before .before .before .before .before .before .before .before .before .before .before .before .before .before .before .before .pre .1 .0 .1) (c .before .before .before .before .before .wide .ensures .0 ∙ c .before .before .before .before .before .before .slots .ensures) (c .before .before .before .before .if2 .left) .0)
+
+search-add-search : (t : ℕ) → search-lts.Need-add-search (cs t) (search-at t) search′.Post search-Inv-loop search-μ-loop
+search-add-search t c = omega (arith, next-low (c .before .before .before .before .before .before .before .before .before .before .before .before .before .before .before .before .before .before .before .before .before .pre .1 .0 .1) (c .before .before .before .before .before .before .before .wide .ensures .0 ∙ c .before .before .before .before .before .before .before .before .slots .ensures) (c .before .before .before .before .before .before .if2 .left) .0)
+
+search-search-requires : (t : ℕ) → search-lts.Need-search-requires (cs t) (search-at t) search′.Post search-Inv-loop search-μ-loop
+search-search-requires t c κs =
+    let w = c .before .before .before .before .before .before .before .before .before .before .before .before .before .before .before .before .before .before .before .before .before .pre .1 .0 .1 in
+    let en = (c .before .before .before .before .before .before .before .wide .ensures .0 ∙ c .before .before .before .before .before .before .before .before .slots .ensures) in
+    let set = searching-set w en (c .before .before .before .before .before .before .if2 .left) (c .before .before .before .before .choices .ensures) (c .before .before .loop-test .taken) in
+    (omega (arith, c .before .before .before .before .before .before .before .before .before .before .before .before .before .before .before .before .before .before .before .before .before .pre .0, next-low w en (c .before .before .before .before .before .before .if2 .left) .0), ((c .before .before .before .before .before .before .before .before .before .before .before .before .before .before .before .before .before .before .before .before .before .pre .1 .0 .0, set), (c .before .before .before .before .before .before .before .before .before .before .before .before .before .before .before .before .before .before .before .before .before .pre .1 .1 .0, c .before .before .before .loop .inv .ok)))
+
+search-enum-told : (t : ℕ) → search-lts.Need-enum-told (cs t) (search-at t) search′.Post search-Inv-loop search-μ-loop
+search-enum-told t c = search needs
+
+search-same-length-7 : (t : ℕ) → search-lts.Need-same-length-7 (cs t) (search-at t) search′.Post search-Inv-loop search-μ-loop
+search-same-length-7 t c = c .before .before .before .before .before .search .kept .1 .1 .1 .1 .1 .0 ∙ c .before .before .before .before .before .before .before .before .before .loop .inv .same-store ∙ c .before .before .before .before .before .before .before .before .before .before .before .before .before .before .before .before .before .before .before .before .refuted .kept .1 .1 .1 .1 .1 .0
+
+search-same-length-8 : (t : ℕ) → search-lts.Need-same-length-8 (cs t) (search-at t) search′.Post search-Inv-loop search-μ-loop
+search-same-length-8 t c = c .before .before .before .before .before .search .kept .1 .1 .1 .1 .1 .1 .0 ∙ c .before .before .before .before .before .before .before .before .before .loop .inv .same-notes ∙ c .before .before .before .before .before .before .before .before .before .before .before .before .before .before .before .before .before .before .before .before .refuted .kept .1 .1 .1 .1 .1 .1 .0
+
+search-returns-4 : (t : ℕ) → search-lts.Need-returns-4 (cs t) (search-at t) search′.Post search-Inv-loop search-μ-loop
+search-returns-4 t c =
+    let en = (c .before .before .before .before .before .before .before .before .before .before .before .before .before .wide .ensures .0 ∙ c .before .before .before .before .before .before .before .before .before .before .before .before .before .before .slots .ensures) in (
+      λ sh w.
+          let set = searching-set w en (c .before .before .before .before .before .before .before .before .before .before .before .before .if2 .left) (c .before .before .before .before .before .before .before .before .before .before .choices .ensures) (c .before .before .before .before .before .before .before .before .loop-test .taken) in
+          one-found w en (c .before .before .before .before .before .before .before .before .before .before .before .before .if2 .left) (c .before .before .before .before .before .before .before .before .before .before .choices .ensures) (c .before .before .before .before .before .before .before .before .before .loop .inv .tried sh w) (c .before .before .before .before .before .search .result .found) (c .before .before .before .before .before .search .result .choices) (other (c .before .before .before .before .before .search .result .found) Nothing (c .match .keys2) (λ z. omega arith) (λ z. omega arith)) (c .before .before .before .before .before .search .ensures .0 sh set),
+      (c .before .before .before .before .before .search .ensures .1 .0, λ e. sym (c .before .before .before .before .before .before .before .before .before .before .before .before .before .before .before .before .before .before .before .before .refuted .kept .1 .1 .1 .1 .1 .0) ∙ sym (c .before .before .before .before .before .before .before .before .before .loop .inv .same-store) ∙ c .before .before .before .before .before .search .ensures .1 .1 e),
+    )
+
+search-add-c : (t : ℕ) → search-lts.Need-add-c (cs t) (search-at t) search′.Post search-Inv-loop search-μ-loop
+search-add-c t c = omega (arith, few-choices (c .before .before .before .before .before .before .before .before .before .before .before .before .before .before .before .before .before .before .before .before .before .before .before .before .before .before .before .before .pre .1 .0 .1) (c .before .before .before .before .before .before .before .before .before .before .before .before .before .before .wide .ensures .0 ∙ c .before .before .before .before .before .before .before .before .before .before .before .before .before .before .before .slots .ensures) (c .before .before .before .before .before .before .before .before .before .before .before .before .before .if2 .left) (c .before .before .before .before .before .before .before .before .before .before .before .choices .ensures), c .before .before .before .before .before .before .before .before .before .loop-test .taken)
+
+search-loop-less : (t : ℕ) → search-lts.Need-loop-less (cs t) (search-at t) search′.Post search-Inv-loop search-μ-loop
+search-loop-less t c = omega (arith, c .before .before .before .before .before .before .before .before .before .loop-test .taken)
+
+search-loop-again : (t : ℕ) → search-lts.Need-loop-again (cs t) (search-at t) search′.Post search-Inv-loop search-μ-loop
+search-loop-again t c =
+    let en = (c .before .before .before .before .before .before .before .before .before .before .before .before .before .before .wide .ensures .0 ∙ c .before .before .before .before .before .before .before .before .before .before .before .before .before .before .before .slots .ensures) in
+    record {
+      tried = λ sh w.
+          let set = searching-set w en (c .before .before .before .before .before .before .before .before .before .before .before .before .before .if2 .left) (c .before .before .before .before .before .before .before .before .before .before .before .choices .ensures) (c .before .before .before .before .before .before .before .before .before .loop-test .taken) in
+          one-tried w en (c .before .before .before .before .before .before .before .before .before .before .before .before .before .if2 .left) (c .before .before .before .before .before .before .before .before .before .before .before .choices .ensures) (c .before .before .before .before .before .before .before .before .before .before .loop .inv .tried sh w) (rw (c .enum-told .given .1) at (c .before .before .before .before .before .before .search .ensures .0 sh set));
+      low = omega (arith, c .before .before .before .before .before .before .before .before .before .loop-test .taken);
+      ok = c .before .before .before .before .before .before .search .ensures .1 .0;
+      same-store = c .before .before .before .before .before .before .search .kept .1 .1 .1 .1 .1 .0 ∙ c .before .before .before .before .before .before .before .before .before .before .loop .inv .same-store;
+      same-notes = c .before .before .before .before .before .before .search .kept .1 .1 .1 .1 .1 .1 .0 ∙ c .before .before .before .before .before .before .before .before .before .before .loop .inv .same-notes;
+    }
+
+search-same-length-9 : (t : ℕ) → search-lts.Need-same-length-9 (cs t) (search-at t) search′.Post search-Inv-loop search-μ-loop
+search-same-length-9 t c = c .before .loop .inv .same-store ∙ c .before .before .before .before .before .before .before .before .before .before .before .before .refuted .kept .1 .1 .1 .1 .1 .0
+
+search-same-length-10 : (t : ℕ) → search-lts.Need-same-length-10 (cs t) (search-at t) search′.Post search-Inv-loop search-μ-loop
+search-same-length-10 t c = c .before .loop .inv .same-notes ∙ c .before .before .before .before .before .before .before .before .before .before .before .before .refuted .kept .1 .1 .1 .1 .1 .1 .0
+
+search-returns-5 : (t : ℕ) → search-lts.Need-returns-5 (cs t) (search-at t) search′.Post search-Inv-loop search-μ-loop
+search-returns-5 t c = (λ sh w. all-tried w (c .before .before .before .before .before .wide .ensures .0 ∙ c .before .before .before .before .before .before .slots .ensures) (c .before .before .before .before .if2 .left) (c .before .before .choices .ensures) (c .before .loop .inv .tried sh w) (c .loop-test .left), (c .before .loop .inv .ok, λ e. never (cc)))
+
+pub +search-spec : {M : Type 1} → statement M
++search-spec = close μ-search λ t. search-lts.spec (cs t)
+    (search-at t)
+    search′.Post
+    search-Inv-loop
+    search-μ-loop
+    (search-refuted-requires t)
+    (search-same-length t)
+    (search-same-length-2 t)
+    (search-returns t)
+    (search-slots-requires t)
+    (search-wide-requires t)
+    (search-wanted-requires t)
+    (search-settled-requires t)
+    (search-same-length-3 t)
+    (search-same-length-4 t)
+    (search-returns-2 t)
+    (search-spent-requires t)
+    (search-same-length-5 t)
+    (search-same-length-6 t)
+    (search-returns-3 t)
+    (search-cast-choices t)
+    (search-choices-requires t)
+    (search-loop-holds t)
+    (search-mul-q t)
+    (search-array-write-q t)
+    (search-add-search t)
+    (search-search-requires t)
+    (search-enum-told t)
+    (search-same-length-7 t)
+    (search-same-length-8 t)
+    (search-returns-4 t)
+    (search-add-c t)
+    (search-loop-less t)
+    (search-loop-again t)
+    (search-same-length-9 t)
+    (search-same-length-10 t)
+    (search-returns-5 t)

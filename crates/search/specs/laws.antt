@@ -1,0 +1,2 @@
+pub mod JudgementLaw
+pub mod WalkLaw

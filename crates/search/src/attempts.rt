@@ -1,0 +1,128 @@
+// The first wanted mutant of all, written to the buffers.
+use crate::check::show;
+use crate::settle::Attempt;
+use crate::settle::Found;
+use crate::settle::search;
+use cubes::goal::Goal;
+use leaves::LONG;
+use leaves::SHORT;
+use machine::Difference;
+use refutation::fresh_store;
+use refutation::no_store;
+use refutation::prepare;
+ghost use mathlib.Core.Path.{_≡_};
+ghost use mathlib.Core.Bool.{true};
+ghost use lib.ListN.{replicate};
+ghost use Rattle.sheet.specs.Sheet.{Sheet};
+ghost use Rattle.refutation.specs.Refuting.{Ready};
+ghost use Rattle.search.specs.declared.settle.Found.the-variants.{GaveUp};
+ghost use Rattle.search.specs.Search.{ForSheet, Answers, unsettled as nothingSettled};
+ghost use Rattle.search.specs.Shown.{Room, Leaves};
+
+// What is found: no wanted mutant, or the first one, with what tells it from the specification.
+pub enum Searched {
+    Nothing,
+    First(Difference),
+}
+
+fn unsettled() -> [u16; 32]
+    ensures { λ r. ⌜ r ≡ nothingSettled ⌝ }
+{
+    [256u16; 32]
+}
+
+fn no_facts() -> [u16; 832]
+    ensures { λ r. ⌜ r ≡ replicate 832 0 ⌝ }
+{
+    [0u16; 832]
+}
+
+// Notes without room for hints, and with it.
+fn short_notes() -> [u16; SHORT] {
+    [0u16; SHORT]
+}
+
+fn long_notes() -> [u16; LONG] {
+    [0u16; LONG]
+}
+
+// The first wanted mutant by a search with a store of refutations.
+fn find_thoroughly(
+    block: &[u8; 1604],
+    facts: &[u16; 832],
+    ready: bool,
+    log: &[u16],
+    goal: Goal,
+    nodes: &mut u32,
+) -> Attempt
+    requires { ⌜ ((sh : Sheet) × ForSheet sh (now block) (now log)) × (ready ≡ true → Ready (now block) (now facts)) ⌝ }
+    ensures { λ r. ⌜ ((sh : Sheet) → ForSheet sh (now (block .entry)) (now (log .entry)) → Answers goal sh nothingSettled 0 (r .found) (r .choices)) ⌝ }
+    ensures { λ r. ⌜ (r .found ≡ GaveUp → ⊥) ⌝ }
+{
+    let mut store = fresh_store();
+    let mut notes = long_notes();
+    let found = search(
+        block,
+        facts,
+        ready,
+        log,
+        goal,
+        &mut store,
+        &mut notes,
+        unsettled(),
+        0,
+    );
+    *nodes = std::num::wrapping_add_u32(*nodes, refutation::nodes(&notes));
+    found
+}
+
+// The same; first by a quick search, which keeps no refutations and may give up.
+fn find(block: &[u8; 1604], log: &[u16], goal: Goal, nodes: &mut u32) -> Attempt
+    requires { ⌜ ((sh : Sheet) × ForSheet sh (now block) (now log)) ⌝ }
+    ensures { λ r. ⌜ ((sh : Sheet) → ForSheet sh (now (block .entry)) (now (log .entry)) → Answers goal sh nothingSettled 0 (r .found) (r .choices)) ⌝ }
+    ensures { λ r. ⌜ (r .found ≡ GaveUp → ⊥) ⌝ }
+{
+    let mut facts = no_facts();
+    let ready = prepare(block, log, &mut facts);
+    let mut store = no_store();
+    let mut notes = short_notes();
+    let quick = search(
+        block,
+        &facts,
+        ready,
+        log,
+        goal,
+        &mut store,
+        &mut notes,
+        unsettled(),
+        0,
+    );
+    *nodes = refutation::nodes(&notes);
+    let found = quick.found;
+    match found {
+        Found::GaveUp => find_thoroughly(block, &facts, ready, log, goal, nodes),
+        Found::Nothing | Found::First => quick,
+    }
+}
+
+// The first mutant in dictionary order that gives the log and meets the goal, with what tells it from the specification, at the
+// buffers' fronts; and how many nodes the engine looked at, which is free.
+pub fn first(
+    block: &[u8; 1604],
+    log: &[u16],
+    goal: Goal,
+    board: &mut [u8],
+    sequence: &mut [u8],
+    nodes: &mut u32,
+) -> Searched
+    requires { ⌜ ((sh : Sheet) × ForSheet sh (now block) (now log)) × Room (now block) (now board) (now sequence) ⌝ }
+    ensures { λ r. ⌜ ((sh : Sheet) → ForSheet sh (now (block .entry)) (now (log .entry)) → Leaves goal sh r (now (board .entry)) (now (board .exit)) (now (sequence .entry)) (now (sequence .exit))) ⌝ }
+{
+    let attempt = find(block, log, goal, nodes);
+    let found = attempt.found;
+    match found {
+        Found::First => Searched::First(show(block, &attempt.choices, board, sequence)),
+        // giving up is ruled out by what `find` promises
+        Found::Nothing | Found::GaveUp => Searched::Nothing,
+    }
+}

@@ -1,0 +1,117 @@
+// The first wanted mutant in dictionary order: the slots are settled one after another.
+use crate::check::wanted;
+use block::choices;
+use block::slots;
+use block::wide;
+use cubes::goal::Goal;
+use refutation::none_from;
+use refutation::spent;
+ghost use mathlib.Core.Path.{_≡_};
+ghost use mathlib.Core.Bool.{true};
+ghost use lib.ListN.{length};
+ghost use Rattle.sheet.specs.Sheet.{Sheet};
+ghost use Rattle.refutation.specs.Store.{StoreOk};
+ghost use Rattle.refutation.specs.Refuting.{Ready, NoneIf};
+ghost use Rattle.search.specs.declared.settle.Found.the-variants.{GaveUp};
+ghost use Rattle.search.specs.Search.{Searching, Answers, foundIf};
+
+// What a search finds: no wanted mutant; the first one; or neither, where a quick search gave up.
+pub(crate) enum Found {
+    Nothing,
+    First,
+    GaveUp,
+}
+
+// What was found, and the choices of the first mutant, where there is one.
+pub(crate) struct Attempt {
+    pub found: Found,
+    pub choices: [u16; 32],
+}
+
+// Whether the engine refutes the prefix: never without facts.
+fn refuted(
+    block: &[u8; 1604],
+    facts: &[u16; 832],
+    ready: bool,
+    log: &[u16],
+    goal: Goal,
+    store: &mut [u32],
+    notes: &mut [u16],
+    p: &[u16; 32],
+) -> bool
+    requires { ⌜ (ready ≡ true → Ready (now block) (now facts)) × StoreOk goal (now block) (now log) (now store) ⌝ }
+    ensures { λ r. ⌜ NoneIf goal (now (block .entry)) (now (log .entry)) (now (p .entry)) r × StoreOk goal (now (block .entry)) (now (log .entry)) (now (store .exit)) ⌝ }
+{
+    if !ready {
+        return false;
+    }
+    none_from(block, facts, log, goal, store, notes, p)
+}
+
+// What is found where every slot is settled.
+fn settled(wanted: bool, p: [u16; 32]) -> Attempt
+    ensures { λ r. ⌜ (r .found ≡ foundIf wanted) × (r .choices ≡ p) ⌝ }
+{
+    if wanted {
+        return Attempt {
+            found: Found::First,
+            choices: p,
+        };
+    }
+    Attempt {
+        found: Found::Nothing,
+        choices: p,
+    }
+}
+
+// The first wanted mutant of those that begin as p's first i choices. With an empty store it gives up where its notes are spent.
+// The number still unsettled falls.
+pub(crate) fn search(
+    block: &[u8; 1604],
+    facts: &[u16; 832],
+    ready: bool,
+    log: &[u16],
+    goal: Goal,
+    store: &mut [u32],
+    notes: &mut [u16],
+    p: [u16; 32],
+    i: usize,
+) -> Attempt
+    requires { ⌜ ((sh : Sheet) × Searching sh (now block) (now log) p i) ⌝ }
+    requires { ⌜ (ready ≡ true → Ready (now block) (now facts)) × StoreOk goal (now block) (now log) (now store) ⌝ }
+    ensures { λ r. ⌜ ((sh : Sheet) → Searching sh (now (block .entry)) (now (log .entry)) p i → Answers goal sh p i (r .found) (r .choices)) ⌝ }
+    ensures { λ r. ⌜ StoreOk goal (now (block .entry)) (now (log .entry)) (now (store .exit)) ⌝ }
+    ensures { λ r. ⌜ (r .found ≡ GaveUp → length (now (store .entry)) ≡ 0) ⌝ }
+{
+    if refuted(block, facts, ready, log, goal, store, notes, &p) {
+        return Attempt {
+            found: Found::Nothing,
+            choices: p,
+        };
+    }
+    if i == wide(slots(block)) {
+        return settled(wanted(block, log, goal, &p), p);
+    }
+    if store.len() == 0 && spent(notes) {
+        return Attempt {
+            found: Found::GaveUp,
+            choices: p,
+        };
+    }
+    let k = choices(block, i as u8);
+    let mut c: u16 = 0;
+    while c < k {
+        let mut q = p;
+        q[i] = c;
+        let tried = search(block, facts, ready, log, goal, store, notes, q, i + 1);
+        let found = tried.found;
+        let Found::Nothing = found else {
+            return tried;
+        };
+        c += 1;
+    }
+    Attempt {
+        found: Found::Nothing,
+        choices: p,
+    }
+}

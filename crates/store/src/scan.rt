@@ -1,0 +1,169 @@
+// Which entry of the store refutes a settled part. This steers only: the entry that is named is read as any other.
+use crate::entries::Told;
+use crate::entries::hand_out;
+use crate::entries::room;
+use crate::entries::spot;
+use crate::entries::unknown;
+use block::wide16;
+use cubes::literals::lit_next;
+use cubes::literals::lit_out;
+use cubes::literals::means;
+use cursors::mark;
+use leaves::DEAD;
+use leaves::FILLED;
+use leaves::HINTS;
+use leaves::low;
+use leaves::note;
+ghost use Prim.Native.Nat.{_+_, _*_, _<_, _≤_};
+ghost use lib.ListN.{length};
+ghost use Rattle.store.specs.Store.{Kept, Tells};
+
+// The least suspect of a set.
+fn least(set: u32) -> usize
+    ensures { λ r. ⌜ r < 32 ⌝ }
+{
+    (u32::trailing_zeros(set) % 32) as usize
+}
+
+fn without_least(set: u32) -> u32
+    requires { ⌜ 0 < set ⌝ }
+    ensures { λ r. ⌜ r < set ⌝ }
+{
+    set & (set - 1)
+}
+
+// The suspects of which an entry speaks.
+fn set_of(store: &[u32], e: usize) -> u32
+    requires { ⌜ e * 34 + 34 ≤ length (now store) ⌝ }
+{
+    store[spot(e, 32)]
+}
+
+fn literal_of(store: &[u32], e: usize, j: usize) -> u32
+    requires { ⌜ (e * 34 + 34 ≤ length (now store)) × (j < 32) ⌝ }
+{
+    store[spot(e, j)]
+}
+
+// Those of them that are not settled.
+fn open_in(store: &[u32], e: usize, settled: u32) -> u32
+    requires { ⌜ e * 34 + 34 ≤ length (now store) ⌝ }
+{
+    let set = set_of(store, e);
+    set ^ (set & settled)
+}
+
+// Whether the settled part has all that an entry says of it.
+fn agrees(store: &[u32], e: usize, p: &[u8; 32], settled: u32) -> bool
+    requires { ⌜ e * 34 + 34 ≤ length (now store) ⌝ }
+{
+    let mut left = set_of(store, e) & settled;
+    while left > 0 {
+        let j = least(left);
+        let step = p[j];
+        if !means(literal_of(store, e, j), step / 16, low(step)) {
+            return false;
+        }
+        left = without_least(left);
+    }
+    true
+}
+
+// Notes that what an entry means of a suspect is refuted.
+fn mark_entry(store: &[u32], notes: &mut [u16], e: usize, j: usize)
+    requires { ⌜ (e * 34 + 34 ≤ length (now store)) × (j < 32) ⌝ }
+{
+    let l = literal_of(store, e, j);
+    mark(
+        notes,
+        j as u8,
+        (lit_out(l) % 16) as u8,
+        lit_next(l),
+        (e % 32768) as u16,
+    );
+}
+
+// Whether an entry has the settled part. Of one that lacks a single suspect the meaning there is noted.
+fn weigh(store: &[u32], notes: &mut [u16], p: &[u8; 32], settled: u32, e: usize) -> bool
+    requires { ⌜ e * 34 + 34 ≤ length (now store) ⌝ }
+{
+    let open = open_in(store, e, settled);
+    if open == 0 {
+        return agrees(store, e, p, settled);
+    }
+    if without_least(open) > 0 {
+        return false;
+    }
+    if !agrees(store, e, p, settled) {
+        return false;
+    }
+    mark_entry(store, notes, e, least(open));
+    false
+}
+
+// How many entries are filled.
+fn filled(store: &[u32], notes: &[u16]) -> usize
+    ensures { λ r. ⌜ r * 34 ≤ length (now (store .entry)) ⌝ }
+{
+    let n = wide16(note(notes, FILLED));
+    let end = room(store);
+    if n < end {
+        return n;
+    }
+    end
+}
+
+// An entry that has the settled part; past the last if there is none.
+fn scan(store: &[u32], notes: &mut [u16], p: &[u8; 32], settled: u32) -> usize {
+    let end = filled(store, notes);
+    let mut e: usize = 0;
+    while e < end {
+        if weigh(store, notes, p, settled, e) {
+            return e;
+        }
+        e += 1;
+    }
+    room(store)
+}
+
+// Forgets which choices are said to be refuted.
+fn forget(notes: &mut [u16]) {
+    if notes.len() < HINTS {
+        return;
+    }
+    let mut j: usize = DEAD;
+    while j < HINTS {
+        notes[j] = 0;
+        j += 1;
+    }
+}
+
+// The cube of an entry that has the settled part. Meanwhile it is noted which choices the entries refute.
+pub fn find(store: &mut [u32], notes: &mut [u16], p: &[u8; 32], settled: u32) -> Told
+    ensures { λ r. ⌜ Kept (now (store .entry)) (now (store .exit)) × Tells (now (store .exit)) r ⌝ }
+{
+    forget(notes);
+    let e = scan(store, notes, p, settled);
+    hand_out(store, e)
+}
+
+// Whether an entry has the settled part.
+fn has_part(store: &[u32], e: usize, p: &[u8; 32], settled: u32) -> bool {
+    if e >= room(store) {
+        return false;
+    }
+    if open_in(store, e, settled) > 0 {
+        return false;
+    }
+    agrees(store, e, p, settled)
+}
+
+// The cube of an entry, if it has the settled part.
+pub fn look_up(store: &mut [u32], e: usize, p: &[u8; 32], settled: u32) -> Told
+    ensures { λ r. ⌜ Kept (now (store .entry)) (now (store .exit)) × Tells (now (store .exit)) r ⌝ }
+{
+    if !has_part(store, e, p, settled) {
+        return unknown();
+    }
+    hand_out(store, e)
+}

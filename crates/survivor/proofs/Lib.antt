@@ -1,4 +1,0 @@
--- What the proofs of the functions share.
-pub mod BlockLaw
-pub mod SearchLaw
-mod SurviveLaw
