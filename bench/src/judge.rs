@@ -1,26 +1,12 @@
 //! Judge.
 
-use crate::reading;
 use crate::table::Table;
 use ranthelo_bench::families::{self, Family};
-use ranthelo_bench::machine::Judgement;
-use ranthelo_bench::{engine, first_engine, plain, timing};
+use ranthelo_bench::{engine, plain};
 use ranthelo_tests::library::judge;
 use ranthelo_tests::listed;
+use ranthelo_tests::reference::Sheet;
 use std::hint::black_box;
-
-/// Machines that engines found hard, as sheets: completely specified, a combination lock,
-/// and partly specified ones.
-const KEPT: [(&str, &[u8]); 5] = [
-    ("v1, kept", include_bytes!("../machines/v1.sheet")),
-    ("c2, kept", include_bytes!("../machines/c2.sheet")),
-    ("p3, kept", include_bytes!("../machines/p3.sheet")),
-    ("h2, kept", include_bytes!("../machines/h2.sheet")),
-    ("h5, kept", include_bytes!("../machines/h5.sheet")),
-];
-
-/// More nodes than the first engine takes on any easy sheet.
-const FEW: u64 = 4096;
 
 pub fn measure(table: &mut Table) {
     one(table, "P1", &listed::p1());
@@ -32,30 +18,73 @@ pub fn measure(table: &mut Table) {
     family(table, "combination lock", &families::LOCK, 1..4);
     family(table, "partial machine", &families::PARTIAL, 2..5);
     family(table, "partial, 10 faults", &families::TEN_FAULTS, 1..4);
-    for (case, sheet) in KEPT {
-        one(table, case, sheet);
+    made_complete(table);
+    formulas(table);
+    for (name, sheet) in families::KEPT {
+        one(table, &format!("{name}, kept"), sheet);
     }
 }
 
-/// Machines from seeds, with a complete suite and with one test dropped.
+/// Machines from seeds.
 fn family(table: &mut Table, name: &str, family: &Family, seeds: std::ops::Range<u64>) {
     for seed in seeds {
-        let sheet = families::completed(families::sheet(family, seed)).expect("a suite that fits");
-        let case = format!("{name} {seed}, complete suite");
-        one(table, &case, &sheet.encode());
-        let case = format!("{name} {seed}, one test dropped");
-        one(table, &case, &families::with_one_dropped(sheet).encode());
+        let sheet = families::sheet(family, seed);
+        completed(table, &format!("{name} {seed}"), sheet);
     }
+}
+
+fn made_complete(table: &mut Table) {
+    for (states, inputs, pairs, seed) in families::UNSPECIFIED {
+        let sheet = families::unspecified(states, inputs, pairs, seed);
+        let case = format!("{pairs} unspecified of {states} × {inputs}");
+        completed(table, &case, sheet);
+    }
+    for (states, inputs) in families::FREE {
+        let case = format!("all free, {states} × {inputs}");
+        completed(table, &case, families::free(states, inputs, 1));
+    }
+    for (states, inputs, faults) in families::COMBINATIONS {
+        let sheet = families::combination(states, inputs, faults, 1);
+        let case = format!("combination, {states} × {inputs}, {faults} faults");
+        completed(table, &case, sheet);
+    }
+}
+
+/// Formulas, whose suites are what they say.
+fn formulas(table: &mut Table) {
+    for (clauses, seed) in families::CLAUSES {
+        let case = format!("3-SAT, {clauses} clauses, {seed}");
+        both(table, &case, families::three_literals(clauses, seed));
+    }
+    for pigeons in 6..9 {
+        let case = format!("{pigeons} pigeons");
+        both(table, &case, families::pigeons(pigeons, 1));
+    }
+}
+
+/// A sheet without tests: with a complete suite, and with one test dropped.
+fn completed(table: &mut Table, case: &str, sheet: Sheet) {
+    let sheet = families::completed(sheet).expect("a suite that fits");
+    both(table, &format!("{case}, complete"), sheet);
+}
+
+/// A sheet, and the same with one test dropped.
+fn both(table: &mut Table, case: &str, sheet: Sheet) {
+    one(table, case, &sheet.encode());
+    let dropped = families::with_one_dropped(sheet);
+    one(table, "    one test dropped", &dropped.encode());
 }
 
 fn one(table: &mut Table, case: &str, sheet: &[u8]) {
     let judgement = engine::judge(sheet).expect("the sheet is accepted");
-    let open_pairs = plain::read(sheet).map_or(0, |summary| summary.open_pairs);
-    let verdict = judge::checked_judge(sheet, 32, 256, open_pairs);
-    assert_eq!(verdict.as_ref(), Ok(&judgement.survivor));
-    let (mine, other) = (library(sheet), judgement.nodes);
-    let first = beside_first(sheet, &judgement);
-    let note = format!("{mine:>8} {other:>10}{first}");
+    let mut nodes = String::new();
+    if table.library {
+        let open_pairs = plain::read(sheet).map_or(0, |summary| summary.open_pairs);
+        let verdict = judge::checked_judge(sheet, 32, 256, open_pairs);
+        assert_eq!(verdict, Ok(judgement.survivor));
+        nodes = library(sheet).to_string();
+    }
+    let note = format!("{nodes:>8} {:>10}", judgement.nodes);
     table.measure_with_note(
         "judge",
         case,
@@ -76,31 +105,4 @@ fn library(sheet: &[u8]) -> u32 {
     judge::judge_counting(sheet, &mut board, &mut sequence, &mut answer, &mut nodes);
     black_box(answer);
     nodes
-}
-
-/// On an easy sheet, for which the quick attempts suffice, the time of the first engine and the
-/// library's ratio to it. Both without the time that it takes them to read the sheet.
-fn beside_first(sheet: &[u8], judgement: &Judgement) -> String {
-    let first = |sheet| first_engine::judge(sheet, FEW);
-    if judgement.nodes >= engine::QUICK {
-        return String::new();
-    }
-    let Some(other) = first(sheet) else {
-        return String::new();
-    };
-    assert_eq!(other.survivor, judgement.survivor);
-    let judging = timing::compare(
-        || {
-            black_box(library(black_box(sheet)));
-        },
-        || {
-            black_box(first(black_box(sheet)));
-        },
-    );
-    let reading = timing::compare(
-        || reading::with_library(sheet),
-        || reading::in_plain_rust(sheet),
-    );
-    let (mine, other) = (judging.0 - reading.0, judging.1 - reading.1);
-    format!(" {:>12} {:>5.2}", timing::shown(other), mine / other)
 }

@@ -3,8 +3,5 @@
 
 pub mod engine;
 pub mod families;
-pub mod first_engine;
-pub mod machine;
 pub mod plain;
-mod quick;
 pub mod timing;

@@ -1,5 +1,5 @@
 //! Prints how long the library's operations take, beside the same in plain Rust, and how much
-//! stack they need.
+//! stack they need. With --plain: how long judge takes in plain Rust alone.
 
 #[cfg(feature = "judge")]
 mod judge;
@@ -18,12 +18,17 @@ fn main() {
             return stack::try_one(operation, bytes);
         }
     }
-    let mut table = Table::new();
-    reading::measure(&mut table);
-    #[cfg(feature = "mutation")]
-    mutation::measure(&mut table);
+    let library = arguments != ["--plain"];
+    let mut table = Table::new(library);
+    if library {
+        reading::measure(&mut table);
+        #[cfg(feature = "mutation")]
+        mutation::measure(&mut table);
+    }
     #[cfg(feature = "judge")]
     judge::measure(&mut table);
-    table.print_growth();
-    stack::print();
+    if library {
+        table.print_growth();
+        stack::print();
+    }
 }

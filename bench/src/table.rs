@@ -10,15 +10,19 @@ struct Growth {
 }
 
 pub struct Table {
+    /// Whether the library is measured, and not only plain Rust.
+    pub library: bool,
     growths: Vec<Growth>,
 }
 
 impl Table {
-    pub fn new() -> Self {
+    pub fn new(library: bool) -> Self {
         let head = ["operation", "case", "library", "plain Rust", "ratio"];
-        let note = "   nodes plain Rust first engine ratio";
-        print_row(head.map(str::to_string), note);
-        Table { growths: vec![] }
+        print_row(head.map(str::to_string), "   nodes plain Rust");
+        Table {
+            library,
+            growths: vec![],
+        }
     }
 
     /// Measures and prints one case; gives the times of the library and of plain Rust.
@@ -40,14 +44,16 @@ impl Table {
         library: impl FnMut(),
         plain: impl FnMut(),
     ) -> (f64, f64) {
-        let times = timing::compare(library, plain);
-        let cells = [
-            operation.to_string(),
-            case.to_string(),
-            timing::shown(times.0),
-            timing::shown(times.1),
-            format!("{:.2}", times.0 / times.1),
-        ];
+        let mut cells = [operation, case, "", "", ""].map(str::to_string);
+        let times = if self.library {
+            let times = timing::compare(library, plain);
+            cells[2] = timing::shown(times.0);
+            cells[4] = format!("{:.2}", times.0 / times.1);
+            times
+        } else {
+            (f64::NAN, timing::alone(plain))
+        };
+        cells[3] = timing::shown(times.1);
         print_row(cells, note);
         times
     }

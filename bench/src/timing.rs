@@ -2,7 +2,8 @@
 
 use std::time::{Duration, Instant};
 
-/// How many batches are timed at most; the median counts.
+/// How many batches are timed at most; the quickest counts, as what else the machine does only
+/// adds to the time.
 const BATCHES: usize = 51;
 /// How long a batch lasts at least.
 const BATCH: Duration = Duration::from_millis(1);
@@ -41,15 +42,24 @@ impl<F: FnMut()> Timed<F> {
         self.times.push(start.elapsed());
     }
 
-    /// The median time of one call, in nanoseconds.
-    fn median(mut self) -> f64 {
-        self.times.sort();
-        let median = self.times[self.times.len() / 2];
-        median.as_nanos() as f64 / f64::from(self.calls)
+    /// The least time of one call, in nanoseconds.
+    fn least(self) -> f64 {
+        let least = self.times.into_iter().min().unwrap_or_default();
+        least.as_nanos() as f64 / f64::from(self.calls)
     }
 }
 
-/// The median times of one call of each, in nanoseconds. Batches of the two alternate.
+/// The least time of one call, in nanoseconds.
+pub fn alone(function: impl FnMut()) -> f64 {
+    let mut timed = Timed::new(function);
+    let enough = ALL.div_duration_f64(timed.times[0]);
+    for _ in 1..BATCHES.min(enough as usize) {
+        timed.batch();
+    }
+    timed.least()
+}
+
+/// The least times of one call of each, in nanoseconds. Batches of the two alternate.
 pub fn compare(first: impl FnMut(), second: impl FnMut()) -> (f64, f64) {
     let (mut first, mut second) = (Timed::new(first), Timed::new(second));
     let enough = ALL.div_duration_f64(first.times[0] + second.times[0]);
@@ -57,7 +67,7 @@ pub fn compare(first: impl FnMut(), second: impl FnMut()) -> (f64, f64) {
         first.batch();
         second.batch();
     }
-    (first.median(), second.median())
+    (first.least(), second.least())
 }
 
 /// A time with a fitting unit.

@@ -1,10 +1,10 @@
 //! The plain Rust versions against the reference code. Needs no library.
 
-use ranthelo_bench::{engine, families, first_engine, plain};
-use ranthelo_tests::enumeration::{self, Machine};
+use ranthelo_bench::{engine, families, plain};
+use ranthelo_tests::enumeration::{self, Machine, Survivor};
 use ranthelo_tests::generator::{self, Random, Shape, LARGE, SMALL};
 use ranthelo_tests::listed::{self, spelled};
-use ranthelo_tests::reference;
+use ranthelo_tests::reference::{self, Move, Pair, Sheet};
 
 #[test]
 fn reading() {
@@ -43,12 +43,33 @@ fn boards() {
     }
 }
 
+/// Holds both ways of judging to the verdict of all boards.
+fn check(sheet: &Sheet) -> Option<Survivor> {
+    let expected = Machine::new(sheet).judge();
+    let bytes = sheet.encode();
+    for judge in [engine::judge, engine::judge_thoroughly] {
+        let survivor = judge(&bytes).unwrap().survivor;
+        assert_eq!(survivor, expected, "{}", spelled(&bytes));
+    }
+    expected
+}
+
+/// Checks a sheet with its suite, and with tests that survivors bring in.
+fn check_on(mut sheet: Sheet, random: &mut Random) {
+    while let Some(survivor) = check(&sheet) {
+        if random.chance(20) {
+            break;
+        }
+        sheet.tests.push(survivor.sequence);
+    }
+}
+
 #[test]
 fn judging() {
     for (name, bytes, survivor) in listed::verdicts() {
         assert_eq!(engine::judge(&bytes).unwrap().survivor, survivor, "{name}");
-        let first = first_engine::judge(&bytes, u64::MAX).unwrap();
-        assert_eq!(first.survivor, survivor, "{name}");
+        let thorough = engine::judge_thoroughly(&bytes).unwrap();
+        assert_eq!(thorough.survivor, survivor, "{name}");
     }
     let shape = Shape {
         boards: 300,
@@ -56,39 +77,86 @@ fn judging() {
     };
     let mut random = Random::new(13);
     for _ in 0..5_000 {
-        let mut sheet = generator::sheet(&mut random, &shape);
-        loop {
-            let expected = Machine::new(&sheet).judge();
-            let bytes = sheet.encode();
-            let judgement = engine::judge(&bytes).unwrap();
-            assert_eq!(judgement.survivor, expected, "{}", spelled(&bytes));
-            let first = first_engine::judge(&bytes, u64::MAX).unwrap();
-            assert_eq!(first.survivor, expected, "{}", spelled(&bytes));
-            match expected {
-                Some(survivor) if random.chance(60) => sheet.tests.push(survivor.sequence),
-                _ => break,
-            }
+        let sheet = generator::sheet(&mut random, &shape);
+        check_on(sheet, &mut random);
+    }
+}
+
+/// Machines whose states can be exchanged, or nearly so: of a machine with all transitions free
+/// some pairs lose all of their faults or some.
+#[test]
+fn judging_with_states_alike() {
+    let mut random = Random::new(14);
+    let mut checked = 0;
+    for seed in 0..4_000 {
+        let (states, inputs) = random.pick(&[(2, 3), (3, 1), (3, 2), (4, 1), (4, 2), (5, 1)]);
+        let mut sheet = families::free(states, inputs, seed);
+        for pair in sheet.pairs().collect::<Vec<_>>() {
+            let kept = random.pick(&[0, 0, 70, 100, 100]);
+            let keeps = |&(at, _): &(Pair, Move)| at != pair || random.chance(kept);
+            sheet.faults.retain(keeps);
         }
+        let boards: usize = Machine::new(&sheet).counts().iter().product();
+        if boards <= 2_000 {
+            check_on(sheet, &mut random);
+            checked += 1;
+        }
+    }
+    assert!(checked > 2_000, "{checked} were small enough");
+}
+
+/// On sheets with too many boards to try them all, both ways agree.
+fn agree(bytes: &[u8]) -> (Option<Survivor>, u32) {
+    let quick = engine::judge(bytes).unwrap();
+    let thorough = engine::judge_thoroughly(bytes).unwrap();
+    assert_eq!(quick.survivor, thorough.survivor);
+    (quick.survivor, thorough.nodes)
+}
+
+#[test]
+fn judging_families() {
+    let family = |family| families::sheet(&family, 3);
+    let sheets = [
+        family(families::COMPLETE),
+        family(families::LOCK),
+        family(families::PARTIAL),
+        family(families::TEN_FAULTS),
+        families::unspecified(8, 4, 8, 3),
+        families::free(5, 5, 1),
+        families::combination(8, 4, 2, 1),
+    ];
+    for sheet in sheets {
+        let sheet = families::completed(sheet).expect("a suite that fits");
+        assert_eq!(agree(&sheet.encode()).0, None);
+        let dropped = families::with_one_dropped(sheet).encode();
+        assert!(agree(&dropped).0.is_some());
     }
 }
 
 #[test]
-fn first_engine_on_families() {
-    let families = [families::COMPLETE, families::LOCK, families::TEN_FAULTS];
-    for family in families {
-        let sheet = families::completed(families::sheet(&family, 3)).unwrap();
-        let dropped = families::with_one_dropped(sheet.clone());
-        for bytes in [sheet.encode(), dropped.encode()] {
-            let expected = engine::judge(&bytes).unwrap().survivor;
-            let first = first_engine::judge(&bytes, u64::MAX).unwrap();
-            assert_eq!(first.survivor, expected);
-            assert!(first_engine::judge(&bytes, first.nodes).is_none());
-            let again = first_engine::judge(&bytes, first.nodes + 1).unwrap();
-            assert_eq!(again.survivor, expected);
-        }
+fn judging_formulas() {
+    for (clauses, seed) in families::CLAUSES {
+        let formula = families::three_literals(clauses, seed);
+        assert_eq!(agree(&formula.encode()).0.is_some(), seed == 1);
     }
-    let wide = families::wide().encode();
-    assert!(first_engine::judge(&wide, u64::MAX).is_none());
+    for pigeons in 3..7 {
+        let formula = families::pigeons(pigeons, 1);
+        assert_eq!(agree(&formula.encode()).0, None);
+        let fewer = families::with_one_dropped(formula);
+        assert!(agree(&fewer.encode()).0.is_some());
+    }
+}
+
+/// The steering, which no verdict shows, is as good as it was.
+#[test]
+fn nodes() {
+    let most = [
+        56, 58, 95, 232, 505, 100, 50, 182, 25, 95, 116, 1198, 363, 2137,
+    ];
+    for ((name, bytes), most) in families::KEPT.into_iter().zip(most) {
+        let (_, nodes) = agree(bytes);
+        assert!(nodes <= most, "{name}: {nodes} nodes");
+    }
 }
 
 #[test]
@@ -105,8 +173,15 @@ fn families_are_accepted() {
         assert_eq!(summary.open_pairs, family.unspecified + family.faulty);
         assert_eq!(summary.faults, family.faults);
     }
-    assert_eq!(
-        plain::read(&families::wide().encode()).unwrap().open_pairs,
-        32
-    );
+    let suspects = |sheet: Sheet| plain::read(&sheet.encode()).unwrap().open_pairs;
+    for (states, inputs) in families::FREE {
+        let pairs = usize::from(states) * usize::from(inputs);
+        assert_eq!(suspects(families::free(states, inputs, 1)), pairs);
+    }
+    for (states, inputs, faults) in families::COMBINATIONS {
+        let sheet = families::combination(states, inputs, faults, 1);
+        assert_eq!(suspects(sheet), 32);
+    }
+    assert_eq!(suspects(families::wide()), 32);
+    assert_eq!(suspects(families::three_literals(111, 1)), 32);
 }
