@@ -4,6 +4,7 @@ pub mod ListLaw
 pub mod Steps
 pub mod Ordered
 pub mod Encoded
+pub mod Injective
 pub mod Parts
 pub mod Rows
 pub mod Reached

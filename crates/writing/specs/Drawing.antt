@@ -1,0 +1,53 @@
+-- A sheet as the tables of a drawing program, and back.
+use Prim.Native.Nat.{ℕ, _+_, _%_}
+use mathlib.Core.Bool.{Bool, not, _&&_}
+use mathlib.Core.List.{List, [], _∷_, map}
+use lib.Dec.{eqb}
+use lib.ListN.{length, take, drop}
+use Rattle.sheet.specs.declared.Row.{Row}
+use Rattle.sheet.specs.declared.Size.{Size}
+use Rattle.sheet.specs.Lists.{joined}
+use Rattle.sheet.specs.Sheet.{Sheet, rowOf}
+
+-- rules and faults four bytes a row (s x o t); the lengths of the tests, and their inputs end to end
+pub record Drawing : Type 0 where
+  pub size : Size
+  pub rules : List ℕ
+  pub faults : List ℕ
+  pub lengths : List ℕ
+  pub presses : List ℕ
+
+-- the whole rows of a table
+unfoldable pub rowsOf : List ℕ → List Row
+rowsOf [] = []
+rowsOf (s ∷ []) = []
+rowsOf (s ∷ x ∷ []) = []
+rowsOf (s ∷ x ∷ o ∷ []) = []
+rowsOf (s ∷ x ∷ o ∷ t ∷ table) = record { source = s; input = x; output = o; target = t } ∷ rowsOf table
+
+unfoldable pub testsOf : List ℕ → List ℕ → List (List ℕ)
+testsOf [] presses = []
+testsOf (n ∷ lengths) presses = take n presses ∷ testsOf lengths (drop n presses)
+
+unfoldable pub total : List ℕ → ℕ
+total [] = 0
+total (n ∷ lengths) = n + total lengths
+
+-- a row is cut, or the lengths do not add up to the presses
+unfoldable pub isCut : Drawing → Bool
+isCut d = not (eqb (length (d .rules) % 4) 0 && (eqb (length (d .faults) % 4) 0 && eqb (total (d .lengths)) (length (d .presses))))
+
+-- the sheet of tables that are not cut
+unfoldable pub sheetOf : Drawing → Sheet
+sheetOf d = record { size = d .size; rules = rowsOf (d .rules); faults = rowsOf (d .faults); tests = testsOf (d .lengths) (d .presses) }
+
+-- the tables of a sheet
+unfoldable pub drawingOf : Sheet → Drawing
+drawingOf sh =
+    record {
+      size = sh .size;
+      rules = joined rowOf (sh .rules);
+      faults = joined rowOf (sh .faults);
+      lengths = map length (sh .tests);
+      presses = joined (λ xs. xs) (sh .tests);
+    }

@@ -1,0 +1,7 @@
+// Sheets written from tables.
+
+// What writing a sheet answers: its length, or a refusal's number and place.
+pub enum Written {
+    Done(usize),
+    Refused(u8, usize),
+}
