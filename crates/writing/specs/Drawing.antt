@@ -17,6 +17,9 @@ pub record Drawing : Type 0 where
   pub lengths : List ℕ
   pub presses : List ℕ
 
+abbrev pub drawing : Size → List ℕ → List ℕ → List ℕ → List ℕ → Drawing
+drawing size rules faults lengths presses = record { size = size; rules = rules; faults = faults; lengths = lengths; presses = presses }
+
 -- the whole rows of a table
 unfoldable pub rowsOf : List ℕ → List Row
 rowsOf [] = []

@@ -1,3 +1,4 @@
 pub mod Drawing
 pub mod Writing
+pub mod Spelled
 pub mod laws

@@ -1,4 +1,5 @@
 // Sheets written from tables.
+mod spell;
 
 // What writing a sheet answers: its length, or a refusal's number and place.
 pub enum Written {

@@ -1,0 +1,27 @@
+-- `command`: its byte, then its operands.
+use native.Mathlib.Omega.{arith}
+use mathlib.Core.Path.{_∙_}
+use Rattle.writing.specs.laws.SpelledLaw.{spelled-both}
+use Rattle.writing.proofs.spell.command.Statement.{statement}
+use Rattle.writing.proofs.spell.command.Tie as tie
+
+byte-requires : tie.Need-byte-requires
+byte-requires c κs = omega (arith, c .before .before .before .pre)
+
+bytes-requires : tie.Need-bytes-requires
+bytes-requires c κs = omega (arith, c .before .before .before .before .before .before .before .pre, c .before .before .before .byte .ensures .many, c .before .before .before .byte .ensures .long)
+
+same-length : tie.Need-same-length
+same-length c = c .before .before .bytes .ensures .long ∙ c .before .before .before .before .before .before .byte .ensures .long
+
+returns : tie.Need-returns
+returns c = spelled-both (c .before .before .before .before .before .before .byte .ensures) (c .before .before .bytes .ensures)
+
+pub command-spec : {M : Type 1} → statement M
+command-spec =
+    tie.close
+    (tie.spec
+    byte-requires
+    bytes-requires
+    same-length
+    returns)

@@ -1,0 +1,62 @@
+-- `presses`: those before i are spelled.
+use Prim.Native.Nat.{_-_}
+use native.Mathlib.Omega.{arith}
+use lib.ListN.{length, drop}
+use Rattle.sheet.specs.Encode.{pressBytes}
+use Rattle.writing.specs.laws.SpelledLaw.{Spelling, spelling-start, spelling-room, spelling-more, spelling-end}
+use Rattle.writing.proofs.RestLaw.{presses-next, presses-none}
+use Rattle.writing.proofs.spell.presses.Statement.{statement}
+use Rattle.writing.proofs.spell.presses.Tie as tie
+
+abbrev Inv-loop : tie.InvT-loop
+Inv-loop inputs sheet₀ at to₀ i₀ sheet to i = Spelling sheet₀ sheet at to (pressBytes inputs) (pressBytes (drop i inputs))
+
+abbrev μ-loop : tie.MeasureT-loop
+μ-loop inputs sheet₀ at to₀ i₀ sheet to i = length inputs - i
+
+loop-holds : tie.Need-loop-holds Inv-loop μ-loop
+loop-holds c = spelling-start (c .before .before .pre)
+
+add-end : tie.Need-add-end Inv-loop μ-loop
+add-end c = omega arith
+
+sub-command : tie.Need-sub-command Inv-loop μ-loop
+sub-command c = omega arith
+
+part-command-start : tie.Need-part-command-start Inv-loop μ-loop
+part-command-start c = omega arith
+
+part-command-end : tie.Need-part-command-end Inv-loop μ-loop
+part-command-end c = omega arith
+
+command-requires : tie.Need-command-requires Inv-loop μ-loop
+command-requires c κs = spelling-room (c .before .before .before .loop .inv) (presses-next (c .before .before .before .before .before .before .args .inputs .now) (c .before .before .before .loop .i) (c .before .before .loop-test .taken))
+
+loop-less : tie.Need-loop-less Inv-loop μ-loop
+loop-less c = omega arith
+
+loop-again : tie.Need-loop-again Inv-loop μ-loop
+loop-again c = spelling-more (c .before .before .before .before .before .before .loop .inv) (presses-next (c .before .before .before .before .before .before .before .before .before .args .inputs .now) (c .before .before .before .before .before .before .loop .i) (c .before .before .before .before .before .loop-test .taken)) (c .before .before .command .ensures)
+
+same-length : tie.Need-same-length Inv-loop μ-loop
+same-length c = c .before .loop .inv .wrote .long
+
+returns : tie.Need-returns Inv-loop μ-loop
+returns c = spelling-end (c .before .loop .inv) (presses-none (c .before .before .before .before .args .inputs .now) (c .before .loop .i) (c .loop-test .left))
+
+pub presses-spec : {M : Type 1} → statement M
+presses-spec =
+    tie.close
+    (tie.spec
+    Inv-loop
+    μ-loop
+    loop-holds
+    add-end
+    sub-command
+    part-command-start
+    part-command-end
+    command-requires
+    loop-less
+    loop-again
+    same-length
+    returns)

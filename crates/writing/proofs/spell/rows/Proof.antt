@@ -1,0 +1,67 @@
+-- `rows`: those before i are spelled.
+use Prim.Native.Nat.{_-_, _≤_}
+use native.Mathlib.Omega.{arith}
+use lib.ListN.{length, drop}
+use Rattle.sheet.specs.Encode.{rowBytes}
+use Rattle.writing.specs.Drawing.{rowsOf}
+use Rattle.writing.specs.laws.SpelledLaw.{Spelling, spelling-start, spelling-room, spelling-more, spelling-end}
+use Rattle.writing.proofs.RestLaw.{rows-next, rows-none}
+use Rattle.writing.proofs.spell.rows.Statement.{statement}
+use Rattle.writing.proofs.spell.rows.Tie as tie
+
+abbrev Inv-loop : tie.InvT-loop
+Inv-loop b table sheet₀ at to₀ i₀ sheet to i = (i ≤ length table) × Spelling sheet₀ sheet at to (rowBytes b (rowsOf table)) (rowBytes b (rowsOf (drop i table)))
+
+abbrev μ-loop : tie.MeasureT-loop
+μ-loop b table sheet₀ at to₀ i₀ sheet to i = length table - i
+
+loop-holds : tie.Need-loop-holds Inv-loop μ-loop
+loop-holds c = (omega arith, spelling-start (c .before .before .pre))
+
+sub-loop : tie.Need-sub-loop Inv-loop μ-loop
+sub-loop c = omega arith
+
+add-end : tie.Need-add-end Inv-loop μ-loop
+add-end c = omega arith
+
+sub-command : tie.Need-sub-command Inv-loop μ-loop
+sub-command c = omega arith
+
+part-command-start : tie.Need-part-command-start Inv-loop μ-loop
+part-command-start c = omega arith
+
+part-command-end : tie.Need-part-command-end Inv-loop μ-loop
+part-command-end c = omega arith
+
+command-requires : tie.Need-command-requires Inv-loop μ-loop
+command-requires c κs = spelling-room (c .before .before .before .loop .inv .1) (rows-next (c .before .before .before .before .before .before .args .b) (c .before .before .before .before .before .before .args .table .now) (c .before .before .before .loop .i) (c .before .before .loop-test .taken))
+
+loop-less : tie.Need-loop-less Inv-loop μ-loop
+loop-less c = omega arith
+
+loop-again : tie.Need-loop-again Inv-loop μ-loop
+loop-again c = (omega arith, spelling-more (c .before .before .before .before .before .before .loop .inv .1) (rows-next (c .before .before .before .before .before .before .before .before .before .args .b) (c .before .before .before .before .before .before .before .before .before .args .table .now) (c .before .before .before .before .before .before .loop .i) (c .before .before .before .before .before .loop-test .taken)) (c .before .before .command .ensures))
+
+same-length : tie.Need-same-length Inv-loop μ-loop
+same-length c = c .before .loop .inv .1 .wrote .long
+
+returns : tie.Need-returns Inv-loop μ-loop
+returns c = spelling-end (c .before .loop .inv .1) (rows-none (c .before .before .before .before .args .b) (c .before .before .before .before .args .table .now) (c .before .loop .i) (c .loop-test .left))
+
+pub rows-spec : {M : Type 1} → statement M
+rows-spec =
+    tie.close
+    (tie.spec
+    Inv-loop
+    μ-loop
+    loop-holds
+    sub-loop
+    add-end
+    sub-command
+    part-command-start
+    part-command-end
+    command-requires
+    loop-less
+    loop-again
+    same-length
+    returns)

@@ -1,0 +1,81 @@
+-- `tests`: those before i are spelled, and `start` is where the inputs of the others begin.
+use borrow.Author.Needs.{needs}
+use Prim.Native.Nat.{_+_, _-_, _≤_}
+use native.Mathlib.Omega.{arith}
+use lib.ListN.{length, drop}
+use Rattle.sheet.specs.Encode.{testBytes}
+use Rattle.writing.specs.Drawing.{testsOf, total}
+use Rattle.writing.specs.laws.SpelledLaw.{Spelling, spelling-start, spelling-room, spelling-more, spelling-end}
+use Rattle.writing.proofs.RestLaw.{tests-next, tests-none, total-next}
+use Rattle.writing.proofs.spell.tests.Statement.{statement}
+use Rattle.writing.proofs.spell.tests.Tie as tie
+
+abbrev Inv-loop : tie.InvT-loop
+Inv-loop lengths inputs sheet₀ at to₀ i₀ start₀ sheet to i start =
+    (start + total (drop i lengths) ≤ length inputs) × Spelling sheet₀ sheet at to (testBytes (testsOf lengths inputs)) (testBytes (testsOf (drop i lengths) (drop start inputs)))
+
+abbrev μ-loop : tie.MeasureT-loop
+μ-loop lengths inputs sheet₀ at to₀ i₀ start₀ sheet to i start = length lengths - i
+
+loop-holds : tie.Need-loop-holds Inv-loop μ-loop
+loop-holds c = (omega (arith, c .before .before .before .pre .0), spelling-start (c .before .before .before .pre .1))
+
+mul-wide : tie.Need-mul-wide Inv-loop μ-loop
+mul-wide c = search needs
+
+shared-slice-read-wide : tie.Need-shared-slice-read-wide Inv-loop μ-loop
+shared-slice-read-wide c = c .before .loop-test .taken
+
+wide-requires : tie.Need-wide-requires Inv-loop μ-loop
+wide-requires c κs = search needs
+
+add-end : tie.Need-add-end Inv-loop μ-loop
+add-end c = omega (arith, c .before .before .before .loop .inv .0, total-next (c .before .before .before .before .before .before .before .args .lengths .now) (c .before .before .before .loop .i) (c .wide .result) (c .wide .ensures) (c .before .before .loop-test .taken))
+
+sub-test : tie.Need-sub-test Inv-loop μ-loop
+sub-test c = omega arith
+
+part-test-start : tie.Need-part-test-start Inv-loop μ-loop
+part-test-start c = omega arith
+
+part-test-end : tie.Need-part-test-end Inv-loop μ-loop
+part-test-end c = omega (arith, c .before .before .before .loop .inv .0, total-next (c .before .before .before .before .before .before .before .args .lengths .now) (c .before .before .before .loop .i) (c .wide .result) (c .wide .ensures) (c .before .before .loop-test .taken))
+
+test-requires : tie.Need-test-requires Inv-loop μ-loop
+test-requires c κs = spelling-room (c .before .before .before .before .before .loop .inv .1) (tests-next (c .before .before .before .before .before .before .before .before .before .args .lengths .now) (c .before .before .before .before .before .before .before .before .before .args .inputs .now) (c .before .before .before .before .before .loop .i) (c .before .before .before .before .before .loop .start) (c .before .before .wide .result) (c .before .before .wide .ensures) (c .before .before .before .before .loop-test .taken))
+
+add-i : tie.Need-add-i Inv-loop μ-loop
+add-i c = omega arith
+
+loop-less : tie.Need-loop-less Inv-loop μ-loop
+loop-less c = omega arith
+
+loop-again : tie.Need-loop-again Inv-loop μ-loop
+loop-again c = (omega (arith, c .before .before .before .before .before .before .before .before .loop .inv .0, total-next (c .before .before .before .before .before .before .before .before .before .before .before .before .args .lengths .now) (c .before .before .before .before .before .before .before .before .loop .i) (c .before .before .before .before .before .wide .result) (c .before .before .before .before .before .wide .ensures) (c .before .before .before .before .before .before .before .loop-test .taken)), spelling-more (c .before .before .before .before .before .before .before .before .loop .inv .1) (tests-next (c .before .before .before .before .before .before .before .before .before .before .before .before .args .lengths .now) (c .before .before .before .before .before .before .before .before .before .before .before .before .args .inputs .now) (c .before .before .before .before .before .before .before .before .loop .i) (c .before .before .before .before .before .before .before .before .loop .start) (c .before .before .before .before .before .wide .result) (c .before .before .before .before .before .wide .ensures) (c .before .before .before .before .before .before .before .loop-test .taken)) (c .before .before .test .ensures))
+
+same-length : tie.Need-same-length Inv-loop μ-loop
+same-length c = c .before .loop .inv .1 .wrote .long
+
+returns : tie.Need-returns Inv-loop μ-loop
+returns c = spelling-end (c .before .loop .inv .1) (tests-none (c .before .before .before .before .before .args .lengths .now) (c .before .before .before .before .before .args .inputs .now) (c .before .loop .i) (c .before .loop .start) (c .loop-test .left))
+
+pub tests-spec : {M : Type 1} → statement M
+tests-spec =
+    tie.close
+    (tie.spec
+    Inv-loop
+    μ-loop
+    loop-holds
+    mul-wide
+    shared-slice-read-wide
+    wide-requires
+    add-end
+    sub-test
+    part-test-start
+    part-test-end
+    test-requires
+    add-i
+    loop-less
+    loop-again
+    same-length
+    returns)

@@ -1,0 +1,12 @@
+-- What the functions that spell promise one another.
+use Prim.Native.Nat.{ℕ, _+_}
+use mathlib.Core.Path.{_≡_}
+use mathlib.Core.List.{List, _++_}
+use lib.ListN.{length, take, drop}
+
+-- the bytes stand from `at` to `to`, and nothing else has changed
+pub record Spelled (old new : List ℕ) (at to : ℕ) (bytes : List ℕ) : Type 0 where
+  pub long : length new ≡ length old
+  pub many : to ≡ at + length bytes
+  pub front : take to new ≡ take at old ++ bytes
+  pub back : drop to new ≡ drop to old
