@@ -1,1 +1,2 @@
 pub mod RestLaw
+pub mod WriteLaw

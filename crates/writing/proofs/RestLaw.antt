@@ -1,11 +1,13 @@
 -- What is left to spell: the next part, then the rest.
-use Prim.Native.Nat.{ℕ, suc, _+_, _-_, _≤_, _<_}
+use Prim.Native.Nat.{ℕ, zero, suc, _+_, _-_, _≤_, _<_}
 use native.Mathlib.Numerals.{add-one}
 use native.Mathlib.Omega.{arith}
-use mathlib.Core.Path.{_≡_, refl, sym, _∙_, ap}
+use mathlib.Core.Path.{_≡_, refl, sym, _∙_}
 use mathlib.Core.List.{List, [], _∷_, _++_}
+use lib.Dec.{eqb}
 use lib.ListN.{length, getD, take, drop, length-drop, drop-of-length-le}
 use lib.Seq.{drop-drop, drop-cons}
+use borrow.Author.Tests.{eq-eqb, ne-eqb}
 use Rattle.sheet.specs.Encode.{rowBytes, pressBytes, testBytes}
 use Rattle.writing.specs.Drawing.{rowsOf, testsOf, total}
 use Rattle.writing.specs.laws.SpelledLaw.{Next}
@@ -68,3 +70,12 @@ module _ (ns xs : List ℕ) (i start : ℕ) where
 pub total-next : (ns : List ℕ) (i n : ℕ) → n ≡ getD ns i 0 → i < length ns → total (drop i ns) ≡ n + total (drop (i + 1) ns)
 unfolding total
 total-next ns i n e h = rw (first ns i h, e) refl
+
+pub total-none : (ns : List ℕ) (i : ℕ) → length ns ≤ i → total (drop i ns) ≡ 0
+unfolding total
+total-none ns i h = rw (drop-of-length-le ns h)
+
+-- the sum is the whole exactly if nothing is left
+pub nothing-left : (sum left whole : ℕ) → sum + left ≡ whole → eqb left 0 ≡ eqb sum whole
+nothing-left sum zero whole e = sym (eq-eqb sum whole (omega (arith, e)))
+nothing-left sum (suc n) whole e = ne-eqb (suc n) 0 (λ h. omega arith) ∙ sym (ne-eqb sum whole (λ h. omega (arith, e)))

@@ -1,5 +1,5 @@
 -- What the functions that spell promise one another.
-use Prim.Native.Nat.{ℕ, _+_}
+use Prim.Native.Nat.{ℕ, _+_, _*_, _/_}
 use mathlib.Core.Path.{_≡_}
 use mathlib.Core.List.{List, _++_}
 use lib.ListN.{length, take, drop}
@@ -10,3 +10,7 @@ pub record Spelled (old new : List ℕ) (at to : ℕ) (bytes : List ℕ) : Type 
   pub many : to ≡ at + length bytes
   pub front : take to new ≡ take at old ++ bytes
   pub back : drop to new ≡ drop to old
+
+-- how long the sheet of tables is that have so many bytes of rules and of faults, so many tests and inputs
+abbrev pub lengthOf : ℕ → ℕ → ℕ → ℕ → ℕ
+lengthOf rules faults tests inputs = 5 + 5 * (rules / 4) + 5 * (faults / 4) + tests + 2 * inputs

@@ -74,7 +74,7 @@ fn test(inputs: &[u8], sheet: &mut [u8], at: usize) -> usize
     presses(inputs, sheet, to)
 }
 
-fn wide(n: u16) -> usize
+pub(crate) fn wide(n: u16) -> usize
     ensures { λ r. ⌜ r ≡ n ⌝ }
 {
     n as usize

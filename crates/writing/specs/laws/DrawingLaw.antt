@@ -1,10 +1,10 @@
 -- Tables and sheets say the same: each is the other's.
-use Prim.Native.Nat.{ℕ, suc, _+_, _%_, _≤_}
+use Prim.Native.Nat.{ℕ, _%_, _≤_}
 use native.Mathlib.Omega.{arith}
-use mathlib.Core.Path.{_≡_, refl, sym, _∙_, ap, ap₂}
+use mathlib.Core.Path.{_≡_, refl, sym, ap, ap₂}
 use mathlib.Core.Bool.{false}
-use mathlib.Core.List.{List, [], _∷_, _++_, map}
-use lib.ListN.{length, take, drop, length-append, take-append-drop, length-drop}
+use mathlib.Core.List.{List, [], _∷_, map}
+use lib.ListN.{length, drop, length-append, take-append-drop, length-drop}
 use lib.Seq.{take-append-seam, drop-append-seam, length-take-le}
 use borrow.Author.Tests.{eqb-true, not-false, eq-eqb}
 use Rattle.sheet.specs.declared.Row.{Row}

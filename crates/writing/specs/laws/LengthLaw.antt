@@ -2,13 +2,14 @@
 use Prim.Native.Nat.{ℕ, _+_, _*_, _/_}
 use native.Mathlib.Omega.{arith}
 use mathlib.Core.Path.{_≡_, refl, _∙_, ap}
-use mathlib.Core.List.{List, [], _∷_, _++_}
+use mathlib.Core.List.{List, [], _∷_}
 use lib.ListN.{length, take, drop, length-append, length-drop}
 use lib.Seq.{length-take-le}
 use Rattle.sheet.specs.Sheet.{Sheet}
 use Rattle.sheet.specs.Encode.{sizeBytes, rowBytes, pressBytes, testBytes, encode}
 use Rattle.sheet.specs.laws.Injective.{encode-parts}
 use Rattle.writing.specs.Drawing.{Drawing, rowsOf, testsOf, total, sheetOf}
+use Rattle.writing.specs.Spelled.{lengthOf}
 use Rattle.writing.specs.laws.DrawingLaw.{Whole}
 
 pub parts-length : (sh : Sheet) → length (encode sh) ≡ 5 + length (rowBytes 2 (sh .rules)) + length (rowBytes 3 (sh .faults)) + length (testBytes (sh .tests))
@@ -37,7 +38,7 @@ tests-length (n ∷ ns) xs h =
     omega (arith, presses-length (take n xs), length-take-le n xs (omega arith), tests-length ns (drop n xs) (omega arith))
 
 -- five bytes a row, one for each test, two for each of its inputs, SIZE and END
-pub sheet-length : (d : Drawing) → Whole d → length (encode (sheetOf d)) ≡ 5 + 5 * (length (d .rules) / 4) + 5 * (length (d .faults) / 4) + length (d .lengths) + 2 * length (d .presses)
+pub sheet-length : (d : Drawing) → Whole d → length (encode (sheetOf d)) ≡ lengthOf (length (d .rules)) (length (d .faults)) (length (d .lengths)) (length (d .presses))
 unfolding sheetOf
 sheet-length d w =
     omega (arith, parts-length (sheetOf d), rows-length 2 (d .rules), rows-length 3 (d .faults), tests-length (d .lengths) (d .presses) (w .tests))

@@ -1,6 +1,5 @@
 -- What writing means.
 use Prim.Native.Nat.{ℕ, _≤_}
-use native.Mathlib.Omega.{arith}
 use mathlib.Core.Path.{_≡_, refl, sym, _∙_, ap}
 use mathlib.Core.Bool.{Bool, true, false, cond}
 use mathlib.Core.List.{List}
@@ -8,7 +7,7 @@ use lib.Dec.{ltb}
 use lib.ListN.{length}
 use borrow.Author.Tests.{le-ltb}
 use Rattle.sheet.specs.Sheet.{Sheet}
-use Rattle.sheet.specs.Reading.{Result, accepted, refused, Reading, reading}
+use Rattle.sheet.specs.Reading.{accepted, refused, Reading, reading}
 use Rattle.sheet.specs.Encode.{encode}
 use Rattle.sheet.specs.laws.Basics.{never}
 use Rattle.sheet.specs.laws.Encoded.{encoded}

@@ -20,7 +20,10 @@ shared-slice-read-byte : tie.Need-shared-slice-read-byte Inv-loop μ-loop
 shared-slice-read-byte c = c .before .loop-test .taken
 
 byte-requires : tie.Need-byte-requires Inv-loop μ-loop
-byte-requires c κs = omega (arith, spelling-room (c .before .before .before .loop .inv) (bytes-next (c .before .before .before .before .before .before .args .part .now) (c .before .before .before .loop .i) (c .before .before .loop-test .taken)))
+byte-requires c κs =
+    let at-loop = c .before .before .before in
+    let entry = at-loop .before .before .before in
+    omega (arith, spelling-room (at-loop .loop .inv) (bytes-next (entry .args .part .now) (at-loop .loop .i) (c .before .before .loop-test .taken)))
 
 add-i : tie.Need-add-i Inv-loop μ-loop
 add-i c = omega arith
@@ -29,7 +32,11 @@ loop-less : tie.Need-loop-less Inv-loop μ-loop
 loop-less c = omega arith
 
 loop-again : tie.Need-loop-again Inv-loop μ-loop
-loop-again c = spelling-more (c .before .before .before .before .before .before .loop .inv) (bytes-next (c .before .before .before .before .before .before .before .before .before .args .part .now) (c .before .before .before .before .before .before .loop .i) (c .before .before .before .before .before .loop-test .taken)) (c .before .before .byte .ensures)
+loop-again c =
+    let at-loop-test = c .before .before .before .before .before in
+    let at-loop = at-loop-test .before in
+    let entry = at-loop .before .before .before in
+    spelling-more (at-loop .loop .inv) (bytes-next (entry .args .part .now) (at-loop .loop .i) (at-loop-test .loop-test .taken)) (c .before .before .byte .ensures)
 
 same-length : tie.Need-same-length Inv-loop μ-loop
 same-length c = c .before .loop .inv .wrote .long

@@ -30,19 +30,28 @@ part-command-end : tie.Need-part-command-end Inv-loop μ-loop
 part-command-end c = omega arith
 
 command-requires : tie.Need-command-requires Inv-loop μ-loop
-command-requires c κs = spelling-room (c .before .before .before .loop .inv) (presses-next (c .before .before .before .before .before .before .args .inputs .now) (c .before .before .before .loop .i) (c .before .before .loop-test .taken))
+command-requires c κs =
+    let at-loop = c .before .before .before in
+    let entry = at-loop .before .before .before in
+    spelling-room (at-loop .loop .inv) (presses-next (entry .args .inputs .now) (at-loop .loop .i) (c .before .before .loop-test .taken))
 
 loop-less : tie.Need-loop-less Inv-loop μ-loop
 loop-less c = omega arith
 
 loop-again : tie.Need-loop-again Inv-loop μ-loop
-loop-again c = spelling-more (c .before .before .before .before .before .before .loop .inv) (presses-next (c .before .before .before .before .before .before .before .before .before .args .inputs .now) (c .before .before .before .before .before .before .loop .i) (c .before .before .before .before .before .loop-test .taken)) (c .before .before .command .ensures)
+loop-again c =
+    let at-loop-test = c .before .before .before .before .before in
+    let at-loop = at-loop-test .before in
+    let entry = at-loop .before .before .before in
+    spelling-more (at-loop .loop .inv) (presses-next (entry .args .inputs .now) (at-loop .loop .i) (at-loop-test .loop-test .taken)) (c .before .before .command .ensures)
 
 same-length : tie.Need-same-length Inv-loop μ-loop
 same-length c = c .before .loop .inv .wrote .long
 
 returns : tie.Need-returns Inv-loop μ-loop
-returns c = spelling-end (c .before .loop .inv) (presses-none (c .before .before .before .before .args .inputs .now) (c .before .loop .i) (c .loop-test .left))
+returns c =
+    let entry = c .before .before .before .before in
+    spelling-end (c .before .loop .inv) (presses-none (entry .args .inputs .now) (c .before .loop .i) (c .loop-test .left))
 
 pub presses-spec : {M : Type 1} → statement M
 presses-spec =

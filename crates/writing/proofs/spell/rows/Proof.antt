@@ -34,19 +34,31 @@ part-command-end : tie.Need-part-command-end Inv-loop μ-loop
 part-command-end c = omega arith
 
 command-requires : tie.Need-command-requires Inv-loop μ-loop
-command-requires c κs = spelling-room (c .before .before .before .loop .inv .1) (rows-next (c .before .before .before .before .before .before .args .b) (c .before .before .before .before .before .before .args .table .now) (c .before .before .before .loop .i) (c .before .before .loop-test .taken))
+command-requires c κs =
+    let at-loop = c .before .before .before in
+    let entry = at-loop .before .before .before in
+    let a = entry .args in
+    spelling-room (at-loop .loop .inv .1) (rows-next (a .b) (a .table .now) (at-loop .loop .i) (c .before .before .loop-test .taken))
 
 loop-less : tie.Need-loop-less Inv-loop μ-loop
 loop-less c = omega arith
 
 loop-again : tie.Need-loop-again Inv-loop μ-loop
-loop-again c = (omega arith, spelling-more (c .before .before .before .before .before .before .loop .inv .1) (rows-next (c .before .before .before .before .before .before .before .before .before .args .b) (c .before .before .before .before .before .before .before .before .before .args .table .now) (c .before .before .before .before .before .before .loop .i) (c .before .before .before .before .before .loop-test .taken)) (c .before .before .command .ensures))
+loop-again c =
+    let at-loop-test = c .before .before .before .before .before in
+    let at-loop = at-loop-test .before in
+    let entry = at-loop .before .before .before in
+    let a = entry .args in
+    (omega arith, spelling-more (at-loop .loop .inv .1) (rows-next (a .b) (a .table .now) (at-loop .loop .i) (at-loop-test .loop-test .taken)) (c .before .before .command .ensures))
 
 same-length : tie.Need-same-length Inv-loop μ-loop
 same-length c = c .before .loop .inv .1 .wrote .long
 
 returns : tie.Need-returns Inv-loop μ-loop
-returns c = spelling-end (c .before .loop .inv .1) (rows-none (c .before .before .before .before .args .b) (c .before .before .before .before .args .table .now) (c .before .loop .i) (c .loop-test .left))
+returns c =
+    let entry = c .before .before .before .before in
+    let a = entry .args in
+    spelling-end (c .before .loop .inv .1) (rows-none (a .b) (a .table .now) (c .before .loop .i) (c .loop-test .left))
 
 pub rows-spec : {M : Type 1} → statement M
 rows-spec =

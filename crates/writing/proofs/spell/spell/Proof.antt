@@ -18,23 +18,53 @@ slice-aggregate-command c = search needs
 
 command-requires : tie.Need-command-requires
 unfolding sheetOf
-command-requires c κs = omega (arith, c .before .before .before .before .before .before .before .pre .1, parts-length (sheetOf (drawing (c .before .before .before .before .before .before .before .args .size) (c .before .before .before .before .before .before .before .args .rules .now) (c .before .before .before .before .before .before .before .args .faults .now) (c .before .before .before .before .before .before .before .args .lengths .now) (c .before .before .before .before .before .before .before .args .inputs .now))))
+command-requires c κs =
+    let entry = c .before .before .before .before .before .before .before in
+    let a = entry .args in
+    let d = drawing (a .size) (a .rules .now) (a .faults .now) (a .lengths .now) (a .inputs .now) in
+    omega (arith, entry .pre .1, parts-length (sheetOf d))
 
 rows-requires : tie.Need-rows-requires
 unfolding sheetOf
-rows-requires c κs = omega (arith, c .before .before .before .before .before .before .before .before .before .before .before .pre .1, parts-length (sheetOf (drawing (c .before .before .before .before .before .before .before .before .before .before .before .args .size) (c .before .before .before .before .before .before .before .before .before .before .before .args .rules .now) (c .before .before .before .before .before .before .before .before .before .before .before .args .faults .now) (c .before .before .before .before .before .before .before .before .before .before .before .args .lengths .now) (c .before .before .before .before .before .before .before .before .before .before .before .args .inputs .now))), c .before .before .before .command .ensures .long, c .before .before .before .command .ensures .many)
+rows-requires c κs =
+    let at-command = c .before .before .before in
+    let entry = at-command .before .before .before .before .before .before .before .before in
+    let a = entry .args in
+    let d = drawing (a .size) (a .rules .now) (a .faults .now) (a .lengths .now) (a .inputs .now) in
+    omega (arith, entry .pre .1, parts-length (sheetOf d), at-command .command .ensures .long, at-command .command .ensures .many)
 
 rows-requires-2 : tie.Need-rows-requires-2
 unfolding sheetOf
-rows-requires-2 c κs = omega (arith, c .before .before .before .before .before .before .before .before .before .before .before .before .before .before .before .pre .1, parts-length (sheetOf (drawing (c .before .before .before .before .before .before .before .before .before .before .before .before .before .before .before .args .size) (c .before .before .before .before .before .before .before .before .before .before .before .before .before .before .before .args .rules .now) (c .before .before .before .before .before .before .before .before .before .before .before .before .before .before .before .args .faults .now) (c .before .before .before .before .before .before .before .before .before .before .before .before .before .before .before .args .lengths .now) (c .before .before .before .before .before .before .before .before .before .before .before .before .before .before .before .args .inputs .now))), c .before .before .before .before .before .before .before .command .ensures .long, c .before .before .before .before .before .before .before .command .ensures .many, c .before .before .before .rows .ensures .long, c .before .before .before .rows .ensures .many)
+rows-requires-2 c κs =
+    let at-rows = c .before .before .before in
+    let at-command = at-rows .before .before .before .before in
+    let entry = at-command .before .before .before .before .before .before .before .before in
+    let a = entry .args in
+    let d = drawing (a .size) (a .rules .now) (a .faults .now) (a .lengths .now) (a .inputs .now) in
+    omega (arith, entry .pre .1, parts-length (sheetOf d), at-command .command .ensures .long, at-command .command .ensures .many, at-rows .rows .ensures .long, at-rows .rows .ensures .many)
 
 tests-requires : tie.Need-tests-requires
 unfolding sheetOf
-tests-requires c κs = (c .before .before .before .before .before .before .before .before .before .before .before .before .before .before .before .before .before .before .before .pre .0, omega (arith, c .before .before .before .before .before .before .before .before .before .before .before .before .before .before .before .before .before .before .before .pre .1, parts-length (sheetOf (drawing (c .before .before .before .before .before .before .before .before .before .before .before .before .before .before .before .before .before .before .before .args .size) (c .before .before .before .before .before .before .before .before .before .before .before .before .before .before .before .before .before .before .before .args .rules .now) (c .before .before .before .before .before .before .before .before .before .before .before .before .before .before .before .before .before .before .before .args .faults .now) (c .before .before .before .before .before .before .before .before .before .before .before .before .before .before .before .before .before .before .before .args .lengths .now) (c .before .before .before .before .before .before .before .before .before .before .before .before .before .before .before .before .before .before .before .args .inputs .now))), c .before .before .before .before .before .before .before .before .before .before .before .command .ensures .long, c .before .before .before .before .before .before .before .before .before .before .before .command .ensures .many, c .before .before .before .before .before .before .before .rows .ensures .long, c .before .before .before .before .before .before .before .rows .ensures .many, c .before .before .before .rows2 .ensures .long, c .before .before .before .rows2 .ensures .many))
+tests-requires c κs =
+    let at-rows2 = c .before .before .before in
+    let at-rows = at-rows2 .before .before .before .before in
+    let at-command = at-rows .before .before .before .before in
+    let entry = at-command .before .before .before .before .before .before .before .before in
+    let a = entry .args in
+    let d = drawing (a .size) (a .rules .now) (a .faults .now) (a .lengths .now) (a .inputs .now) in
+    (entry .pre .0, omega (arith, entry .pre .1, parts-length (sheetOf d), at-command .command .ensures .long, at-command .command .ensures .many, at-rows .rows .ensures .long, at-rows .rows .ensures .many, at-rows2 .rows2 .ensures .long, at-rows2 .rows2 .ensures .many))
 
 byte-requires : tie.Need-byte-requires
 unfolding sheetOf
-byte-requires c κs = omega (arith, c .before .before .before .before .before .before .before .before .before .before .before .before .before .before .before .before .before .before .before .before .before .before .before .pre .1, parts-length (sheetOf (drawing (c .before .before .before .before .before .before .before .before .before .before .before .before .before .before .before .before .before .before .before .before .before .before .before .args .size) (c .before .before .before .before .before .before .before .before .before .before .before .before .before .before .before .before .before .before .before .before .before .before .before .args .rules .now) (c .before .before .before .before .before .before .before .before .before .before .before .before .before .before .before .before .before .before .before .before .before .before .before .args .faults .now) (c .before .before .before .before .before .before .before .before .before .before .before .before .before .before .before .before .before .before .before .before .before .before .before .args .lengths .now) (c .before .before .before .before .before .before .before .before .before .before .before .before .before .before .before .before .before .before .before .before .before .before .before .args .inputs .now))), c .before .before .before .before .before .before .before .before .before .before .before .before .before .before .before .command .ensures .long, c .before .before .before .before .before .before .before .before .before .before .before .before .before .before .before .command .ensures .many, c .before .before .before .before .before .before .before .before .before .before .before .rows .ensures .long, c .before .before .before .before .before .before .before .before .before .before .before .rows .ensures .many, c .before .before .before .before .before .before .before .rows2 .ensures .long, c .before .before .before .before .before .before .before .rows2 .ensures .many, c .before .before .before .tests .ensures .long, c .before .before .before .tests .ensures .many)
+byte-requires c κs =
+    let at-tests = c .before .before .before in
+    let at-rows2 = at-tests .before .before .before .before in
+    let at-rows = at-rows2 .before .before .before .before in
+    let at-command = at-rows .before .before .before .before in
+    let entry = at-command .before .before .before .before .before .before .before .before in
+    let a = entry .args in
+    let d = drawing (a .size) (a .rules .now) (a .faults .now) (a .lengths .now) (a .inputs .now) in
+    omega (arith, entry .pre .1, parts-length (sheetOf d), at-command .command .ensures .long, at-command .command .ensures .many, at-rows .rows .ensures .long, at-rows .rows .ensures .many, at-rows2 .rows2 .ensures .long, at-rows2 .rows2 .ensures .many, at-tests .tests .ensures .long, at-tests .tests .ensures .many)
 
 same-length : tie.Need-same-length
 same-length c = search needs
@@ -42,8 +72,15 @@ same-length c = search needs
 returns : tie.Need-returns
 unfolding sheetOf sizeBytes
 returns c =
-    subst (λ (l : List ℕ). Spelled (c .before .before .before .before .before .before .before .before .before .before .before .before .before .before .before .before .before .before .before .before .before .before .before .before .before .before .args .sheet .now) (c .before .before .byte .last .1 .0) 0 (c .before .before .byte .result) l) (sym (encode-parts (sheetOf (drawing (c .before .before .before .before .before .before .before .before .before .before .before .before .before .before .before .before .before .before .before .before .before .before .before .before .before .before .args .size) (c .before .before .before .before .before .before .before .before .before .before .before .before .before .before .before .before .before .before .before .before .before .before .before .before .before .before .args .rules .now) (c .before .before .before .before .before .before .before .before .before .before .before .before .before .before .before .before .before .before .before .before .before .before .before .before .before .before .args .faults .now) (c .before .before .before .before .before .before .before .before .before .before .before .before .before .before .before .before .before .before .before .before .before .before .before .before .before .before .args .lengths .now) (c .before .before .before .before .before .before .before .before .before .before .before .before .before .before .before .before .before .before .before .before .before .before .before .before .before .before .args .inputs .now)))))
-    (spelled-both (c .before .before .before .before .before .before .before .before .before .before .before .before .before .before .before .before .before .before .command .ensures) (spelled-both (c .before .before .before .before .before .before .before .before .before .before .before .before .before .before .rows .ensures) (spelled-both (c .before .before .before .before .before .before .before .before .before .before .rows2 .ensures) (spelled-both (c .before .before .before .before .before .before .tests .ensures) (c .before .before .byte .ensures)))))
+    let at-tests = c .before .before .before .before .before .before in
+    let at-rows2 = at-tests .before .before .before .before in
+    let at-rows = at-rows2 .before .before .before .before in
+    let at-command = at-rows .before .before .before .before in
+    let entry = at-command .before .before .before .before .before .before .before .before in
+    let a = entry .args in
+    let d = drawing (a .size) (a .rules .now) (a .faults .now) (a .lengths .now) (a .inputs .now) in
+    subst (λ (l : List ℕ). Spelled (a .sheet .now) (c .before .before .byte .last .1 .0) 0 (c .before .before .byte .result) l) (sym (encode-parts (sheetOf d)))
+    (spelled-both (at-command .command .ensures) (spelled-both (at-rows .rows .ensures) (spelled-both (at-rows2 .rows2 .ensures) (spelled-both (at-tests .tests .ensures) (c .before .before .byte .ensures)))))
 
 pub spell-spec : {M : Type 1} → statement M
 spell-spec = tie.close (tie.spec slice-aggregate-command command-requires rows-requires rows-requires-2 tests-requires byte-requires same-length returns)

@@ -9,13 +9,20 @@ byte-requires : tie.Need-byte-requires
 byte-requires c κs = omega (arith, c .before .before .before .pre)
 
 presses-requires : tie.Need-presses-requires
-presses-requires c κs = omega (arith, c .before .before .before .before .before .before .before .pre, c .before .before .before .byte .ensures .many, c .before .before .before .byte .ensures .long)
+presses-requires c κs =
+    let at-byte = c .before .before .before in
+    let entry = at-byte .before .before .before .before in
+    omega (arith, entry .pre, at-byte .byte .ensures .many, at-byte .byte .ensures .long)
 
 same-length : tie.Need-same-length
-same-length c = c .before .before .presses .ensures .long ∙ c .before .before .before .before .before .before .byte .ensures .long
+same-length c =
+    let at-byte = c .before .before .before .before .before .before in
+    c .before .before .presses .ensures .long ∙ at-byte .byte .ensures .long
 
 returns : tie.Need-returns
-returns c = spelled-both (c .before .before .before .before .before .before .byte .ensures) (c .before .before .presses .ensures)
+returns c =
+    let at-byte = c .before .before .before .before .before .before in
+    spelled-both (at-byte .byte .ensures) (c .before .before .presses .ensures)
 
 pub test-spec : {M : Type 1} → statement M
 test-spec =

@@ -18,7 +18,9 @@ abbrev μ-loop : tie.MeasureT-loop
 μ-loop lengths inputs sheet₀ at to₀ i₀ start₀ sheet to i start = length lengths - i
 
 loop-holds : tie.Need-loop-holds Inv-loop μ-loop
-loop-holds c = (omega (arith, c .before .before .before .pre .0), spelling-start (c .before .before .before .pre .1))
+loop-holds c =
+    let entry = c .before .before .before in
+    (omega (arith, entry .pre .0), spelling-start (entry .pre .1))
 
 mul-wide : tie.Need-mul-wide Inv-loop μ-loop
 mul-wide c = search needs
@@ -30,7 +32,10 @@ wide-requires : tie.Need-wide-requires Inv-loop μ-loop
 wide-requires c κs = search needs
 
 add-end : tie.Need-add-end Inv-loop μ-loop
-add-end c = omega (arith, c .before .before .before .loop .inv .0, total-next (c .before .before .before .before .before .before .before .args .lengths .now) (c .before .before .before .loop .i) (c .wide .result) (c .wide .ensures) (c .before .before .loop-test .taken))
+add-end c =
+    let at-loop = c .before .before .before in
+    let entry = at-loop .before .before .before .before in
+    omega (arith, at-loop .loop .inv .0, total-next (entry .args .lengths .now) (at-loop .loop .i) (c .wide .result) (c .wide .ensures) (c .before .before .loop-test .taken))
 
 sub-test : tie.Need-sub-test Inv-loop μ-loop
 sub-test c = omega arith
@@ -39,10 +44,18 @@ part-test-start : tie.Need-part-test-start Inv-loop μ-loop
 part-test-start c = omega arith
 
 part-test-end : tie.Need-part-test-end Inv-loop μ-loop
-part-test-end c = omega (arith, c .before .before .before .loop .inv .0, total-next (c .before .before .before .before .before .before .before .args .lengths .now) (c .before .before .before .loop .i) (c .wide .result) (c .wide .ensures) (c .before .before .loop-test .taken))
+part-test-end c =
+    let at-loop = c .before .before .before in
+    let entry = at-loop .before .before .before .before in
+    omega (arith, at-loop .loop .inv .0, total-next (entry .args .lengths .now) (at-loop .loop .i) (c .wide .result) (c .wide .ensures) (c .before .before .loop-test .taken))
 
 test-requires : tie.Need-test-requires Inv-loop μ-loop
-test-requires c κs = spelling-room (c .before .before .before .before .before .loop .inv .1) (tests-next (c .before .before .before .before .before .before .before .before .before .args .lengths .now) (c .before .before .before .before .before .before .before .before .before .args .inputs .now) (c .before .before .before .before .before .loop .i) (c .before .before .before .before .before .loop .start) (c .before .before .wide .result) (c .before .before .wide .ensures) (c .before .before .before .before .loop-test .taken))
+test-requires c κs =
+    let at-loop-test = c .before .before .before .before in
+    let at-loop = at-loop-test .before in
+    let entry = at-loop .before .before .before .before in
+    let a = entry .args in
+    spelling-room (at-loop .loop .inv .1) (tests-next (a .lengths .now) (a .inputs .now) (at-loop .loop .i) (at-loop .loop .start) (c .before .before .wide .result) (c .before .before .wide .ensures) (at-loop-test .loop-test .taken))
 
 add-i : tie.Need-add-i Inv-loop μ-loop
 add-i c = omega arith
@@ -51,13 +64,22 @@ loop-less : tie.Need-loop-less Inv-loop μ-loop
 loop-less c = omega arith
 
 loop-again : tie.Need-loop-again Inv-loop μ-loop
-loop-again c = (omega (arith, c .before .before .before .before .before .before .before .before .loop .inv .0, total-next (c .before .before .before .before .before .before .before .before .before .before .before .before .args .lengths .now) (c .before .before .before .before .before .before .before .before .loop .i) (c .before .before .before .before .before .wide .result) (c .before .before .before .before .before .wide .ensures) (c .before .before .before .before .before .before .before .loop-test .taken)), spelling-more (c .before .before .before .before .before .before .before .before .loop .inv .1) (tests-next (c .before .before .before .before .before .before .before .before .before .before .before .before .args .lengths .now) (c .before .before .before .before .before .before .before .before .before .before .before .before .args .inputs .now) (c .before .before .before .before .before .before .before .before .loop .i) (c .before .before .before .before .before .before .before .before .loop .start) (c .before .before .before .before .before .wide .result) (c .before .before .before .before .before .wide .ensures) (c .before .before .before .before .before .before .before .loop-test .taken)) (c .before .before .test .ensures))
+loop-again c =
+    let at-wide = c .before .before .before .before .before in
+    let at-loop-test = at-wide .before .before in
+    let at-loop = at-loop-test .before in
+    let entry = at-loop .before .before .before .before in
+    let a = entry .args in
+    (omega (arith, at-loop .loop .inv .0, total-next (a .lengths .now) (at-loop .loop .i) (at-wide .wide .result) (at-wide .wide .ensures) (at-loop-test .loop-test .taken)), spelling-more (at-loop .loop .inv .1) (tests-next (a .lengths .now) (a .inputs .now) (at-loop .loop .i) (at-loop .loop .start) (at-wide .wide .result) (at-wide .wide .ensures) (at-loop-test .loop-test .taken)) (c .before .before .test .ensures))
 
 same-length : tie.Need-same-length Inv-loop μ-loop
 same-length c = c .before .loop .inv .1 .wrote .long
 
 returns : tie.Need-returns Inv-loop μ-loop
-returns c = spelling-end (c .before .loop .inv .1) (tests-none (c .before .before .before .before .before .args .lengths .now) (c .before .before .before .before .before .args .inputs .now) (c .before .loop .i) (c .before .loop .start) (c .loop-test .left))
+returns c =
+    let entry = c .before .before .before .before .before in
+    let a = entry .args in
+    spelling-end (c .before .loop .inv .1) (tests-none (a .lengths .now) (a .inputs .now) (c .before .loop .i) (c .before .loop .start) (c .loop-test .left))
 
 pub tests-spec : {M : Type 1} → statement M
 tests-spec =
