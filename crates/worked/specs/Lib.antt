@@ -1,3 +1,4 @@
 pub mod Sheets
 pub mod Rows
 pub mod Refusals
+pub mod Written
