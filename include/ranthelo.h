@@ -1,7 +1,7 @@
 /* Ranthelo for C: judges whether a test suite for a finite state machine is complete.
  *
- * Link with target/staticlib/libcapi.a (made by `rt staticlib capi`); it needs nothing else. A sheet, a board, presses and
- * buffers are lent for the call only. Each pointer is valid for its length and not null, even at length 0; a buffer that is
+ * Link with target/staticlib/libcapi.a (made by `rt staticlib capi`); it needs nothing else. A sheet, a board, presses,
+ * tables and buffers are lent for the call only. Each pointer is valid for its length and not null, even at length 0; a buffer that is
  * written, `answer` and `nodes` overlap nothing else that is lent. Each function fills `answer`, whose first two numbers are the
  * refusal's number (0: none) and place; after a refusal the others are 0 and every lent buffer is as it was. */
 #ifndef RANTHELO_H
@@ -19,6 +19,13 @@ void ranthelo_read(const uint8_t *sheet, size_t sheet_len, size_t answer[9]);
 
 /* One test's part. answer: number, place, and where in the sheet the test's PRESS commands start and how many bytes they are. */
 void ranthelo_test_span(const uint8_t *sheet, size_t sheet_len, size_t test, size_t answer[4]);
+
+/* Write a sheet from tables: how many states, presses and sounds; RULEs and FAULTs, four bytes a row (s x o t); how many presses each
+ * test has, and the presses of all tests end to end. `lengths_len` counts numbers, not bytes. The sheet at the buffer's front, for
+ * which 16,384 bytes are always enough. A refusal has place 0. answer: number, place, the sheet's length. */
+void ranthelo_write(uint8_t states, uint8_t inputs, uint8_t outputs, const uint8_t *rules, size_t rules_len, const uint8_t *faults,
+                    size_t faults_len, const uint16_t *lengths, size_t lengths_len, const uint8_t *presses, size_t presses_len,
+                    uint8_t *buffer, size_t buffer_len, size_t answer[3]);
 
 /* Run a board on presses: one sound for each at the buffer's front. answer: number, place. */
 void ranthelo_run(const uint8_t *sheet, size_t sheet_len, const uint8_t *board, size_t board_len, const uint8_t *presses,

@@ -337,7 +337,7 @@ pub fn of_length(bytes: usize) -> Vec<u8> {
 }
 
 /// A sheet's commands one by one, as far as they can be told apart.
-fn commands(bytes: &[u8]) -> Vec<Vec<u8>> {
+pub fn commands(bytes: &[u8]) -> Vec<Vec<u8>> {
     let mut list = Vec::new();
     let mut rest = bytes;
     while let Some(&command) = rest.first() {

@@ -1,7 +1,8 @@
 //! What the tests of the library rest on: a reader and a judge written a second
-//! time, in plain Rust and from document 01 alone; sheets to try; and the
+//! time, in plain Rust and from documents 01 and 02 alone; sheets to try; and the
 //! library's exports.
 
+pub mod drawing;
 pub mod enumeration;
 pub mod generator;
 #[cfg(feature = "reading")]

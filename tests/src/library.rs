@@ -10,3 +10,5 @@ pub mod judge;
 #[cfg(feature = "mutation")]
 pub mod mutation;
 pub mod reading;
+#[cfg(feature = "writing")]
+pub mod writing;

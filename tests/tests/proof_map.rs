@@ -138,6 +138,7 @@ fn every_operation_promises() {
     let references = references();
     for file in [
         "sheet/src/lib.rt",
+        "writing/src/lib.rt",
         "mutation/src/lib.rt",
         "mutation/src/verdict.rt",
         "capi/src/lib.rt",

@@ -5,6 +5,8 @@ use Rattle.sheet.specs.declared.Reading.{Reading}
 use Rattle.sheet.specs.declared.Reading.the-variants as read
 use Rattle.sheet.specs.declared.Parting.{Parting}
 use Rattle.sheet.specs.declared.Parting.the-variants as part
+use Rattle.writing.specs.declared.Written.{Written}
+use Rattle.writing.specs.declared.Written.the-variants as written
 use Rattle.mutation.specs.declared.Ran.{Ran}
 use Rattle.mutation.specs.declared.Ran.the-variants as ran
 use Rattle.mutation.specs.declared.Failed.{Failed}
@@ -24,6 +26,11 @@ readNumbers (read.Refused number place) = number ∷ place ∷ 0 ∷ 0 ∷ 0 ∷
 abbrev pub partNumbers : Parting → List ℕ
 partNumbers (part.At span) = 0 ∷ 0 ∷ span .start ∷ span .length ∷ []
 partNumbers (part.Refused number place) = number ∷ place ∷ 0 ∷ 0 ∷ []
+
+-- number, place; the sheet's length
+abbrev pub writtenNumbers : Written → List ℕ
+writtenNumbers (written.Done length) = 0 ∷ 0 ∷ length ∷ []
+writtenNumbers (written.Refused number place) = number ∷ place ∷ 0 ∷ []
 
 -- number, place
 abbrev pub ranNumbers : Ran → List ℕ

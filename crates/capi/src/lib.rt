@@ -6,15 +6,19 @@ ghost use Rattle.sheet.specs.Part.{parting};
 ghost use Rattle.sheet.specs.Tables.{readAnswer, partAnswer};
 ghost use Rattle.model.specs.Operations.{running, failing, comparing, judging};
 ghost use Rattle.sheet.specs.Lists.{overlay};
+ghost use Rattle.writing.specs.Drawing.{drawing};
+ghost use Rattle.writing.specs.Writing.{writing, writtenAnswer, sheetWrites};
 ghost use Rattle.mutation.specs.Answers.{ranAnswer, ranWrites, failedAnswer, comparedAnswer, comparedWrites};
 ghost use Rattle.mutation.specs.Judging.{judgedAnswer, boardWrites, sequenceWrites, Measured};
-ghost use Rattle.capi.specs.Numbers.{readNumbers, partNumbers, ranNumbers, failedNumbers, comparedNumbers, judgedNumbers};
+ghost use Rattle.capi.specs.Numbers.{readNumbers, partNumbers, writtenNumbers, ranNumbers, failedNumbers, comparedNumbers, judgedNumbers};
 use mutation::Compared;
 use mutation::Failed;
 use mutation::Judged;
 use mutation::Ran;
 use sheet::Parting;
 use sheet::Reading;
+use sheet::Size;
+use writing::Written;
 
 // Read.
 #[no_mangle]
@@ -52,6 +56,33 @@ pub extern "C" fn ranthelo_test_span(sheet: &[u8], test: usize, answer: &mut [us
         }
         Parting::Refused(number, place) => {
             *answer = [number as usize, place, 0, 0];
+        }
+    }
+}
+
+// Write a sheet from tables.
+#[no_mangle]
+pub extern "C" fn ranthelo_write(
+    states: u8,
+    inputs: u8,
+    outputs: u8,
+    rules: &[u8],
+    faults: &[u8],
+    lengths: &[u16],
+    presses: &[u8],
+    buffer: &mut [u8],
+    answer: &mut [usize; 3],
+)
+    ensures { λ r. ⌜ now (answer .exit) ≡ writtenNumbers (writtenAnswer (writing (drawing (record { states = states; inputs = inputs; outputs = outputs }) (now (rules .entry)) (now (faults .entry)) (now (lengths .entry)) (now (presses .entry))) (length (now (buffer .entry))))) ⌝ }
+    ensures { λ r. ⌜ now (buffer .exit) ≡ overlay (sheetWrites (writing (drawing (record { states = states; inputs = inputs; outputs = outputs }) (now (rules .entry)) (now (faults .entry)) (now (lengths .entry)) (now (presses .entry))) (length (now (buffer .entry))))) (now (buffer .entry)) ⌝ }
+{
+    let size = Size { states, inputs, outputs };
+    match writing::write(size, rules, faults, lengths, presses, buffer) {
+        Written::Done(length) => {
+            *answer = [0, 0, length];
+        }
+        Written::Refused(number, place) => {
+            *answer = [number as usize, place, 0];
         }
     }
 }

@@ -53,7 +53,7 @@ pub fn bytes(content: &[u8]) -> Guarded<u8> {
 }
 
 /// A buffer to be written, filled with bytes that no answer has.
-#[cfg(feature = "mutation")]
+#[cfg(any(feature = "mutation", feature = "writing"))]
 pub fn buffer(length: usize) -> Guarded<u8> {
     let filler: Vec<u8> = (0..length).map(|i| 0x80 | (i * 7 + 3) as u8).collect();
     Guarded::new(&filler, GUARD_BYTE)
