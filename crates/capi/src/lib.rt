@@ -76,7 +76,11 @@ pub extern "C" fn ranthelo_write(
     ensures { λ r. ⌜ now (answer .exit) ≡ writtenNumbers (writtenAnswer (writing (drawing (record { states = states; inputs = inputs; outputs = outputs }) (now (rules .entry)) (now (faults .entry)) (now (lengths .entry)) (now (presses .entry))) (length (now (buffer .entry))))) ⌝ }
     ensures { λ r. ⌜ now (buffer .exit) ≡ overlay (sheetWrites (writing (drawing (record { states = states; inputs = inputs; outputs = outputs }) (now (rules .entry)) (now (faults .entry)) (now (lengths .entry)) (now (presses .entry))) (length (now (buffer .entry))))) (now (buffer .entry)) ⌝ }
 {
-    let size = Size { states, inputs, outputs };
+    let size = Size {
+        states,
+        inputs,
+        outputs,
+    };
     match writing::write(size, rules, faults, lengths, presses, buffer) {
         Written::Done(length) => {
             *answer = [0, 0, length];
