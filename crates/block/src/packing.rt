@@ -76,13 +76,13 @@ fn pair_at(i: usize) -> usize
     1603
 }
 
-// The pair of each suspect.
-fn locate(block: &mut [u8; 1604], site: &[u8; 256])
-    requires { ⌜ length (now block) ≡ 1604 ⌝ }
+// The pair of each suspect, all of which are among the first `end` pairs.
+fn locate(block: &mut [u8; 1604], site: &[u8; 256], end: usize)
+    requires { ⌜ (length (now block) ≡ 1604) × (end ≤ 256) ⌝ }
     ensures { λ r. ⌜ Located (now (block .entry)) (now (block .exit)) ⌝ }
 {
     let mut k: usize = 0;
-    while k < 256 {
+    while k < end {
         let at = pair_at(wide(site[k]));
         block[at] = k as u8;
         k += 1;
@@ -111,7 +111,7 @@ pub fn tabulate(size: Summary, tables: Tables, block: &mut [u8; 1604])
     copy(block, 1024, &tables.mutated);
     copy(block, 1280, &tables.diverted);
     copy_choices(block, &sites.slots);
-    locate(block, &sites.site);
+    locate(block, &sites.site, 16 * wide(size.states));
     block[1568] = size.states;
     block[1569] = size.inputs;
     block[1570] = sites.count;

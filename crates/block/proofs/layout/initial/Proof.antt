@@ -8,4 +8,5 @@ unfolding startOf
 returns c = refl
 
 pub initial-spec : {M : Type 1} → statement M
-initial-spec = tie.close (tie.spec returns)
+initial-spec =
+    tie.close (tie.spec returns)

@@ -4,47 +4,17 @@ use Rattle.block.specs.laws.ChoiceLaw.{is-unruled, is-rule, is-fault, is
 use Rattle.block.proofs.layout.transition.Statement.{statement}
 use Rattle.block.proofs.layout.transition.Tie as tie
 
-rule-target-requires : tie.Need-rule-target-requires
-rule-target-requires c κs = search needs
-
-states-requires : tie.Need-states-requires
-states-requires c κs = search needs
-
-unruled-requires : tie.Need-unruled-requires
-unruled-requires c κs = search needs
-
 returns : tie.Need-returns
 returns c =
     let at-rule-target = c .before .before .before in
     let entry = at-rule-target .before in
     is-unruled (entry .args .k) (entry .args .c) (c .before .states .result) (c .unruled .result) (entry .pre) (rw (at-rule-target .rule-target .ensures) at (c .before .before .if1 .taken)) (c .before .states .ensures) (c .unruled .ensures)
 
-rule-output-requires : tie.Need-rule-output-requires
-rule-output-requires c κs = search needs
-
 returns-2 : tie.Need-returns-2
 returns-2 c =
     let at-rule-target = c .before .before .before in
     let entry = at-rule-target .before in
     is-rule (entry .args .k) (entry .args .c) _ (rw (at-rule-target .rule-target .ensures) at (c .before .before .if1 .left)) (c .before .if2 .taken) (c .rule-output .ensures) (at-rule-target .rule-target .ensures)
-
-add-wide : tie.Need-add-wide
-add-wide c = search needs
-
-element-copy-out-wide : tie.Need-element-copy-out-wide
-element-copy-out-wide c = search needs
-
-wide-requires : tie.Need-wide-requires
-wide-requires c κs = search needs
-
-wide16-requires : tie.Need-wide16-requires
-wide16-requires c κs = search needs
-
-add-f : tie.Need-add-f
-add-f c = search needs
-
-sub-f : tie.Need-sub-f
-sub-f c = search needs
 
 returns-3 : tie.Need-returns-3
 returns-3 c =
@@ -53,18 +23,6 @@ returns-3 c =
     let at-rule-target = at-if1 .before in
     let entry = at-rule-target .before in
     is-none (entry .args .k) (entry .args .c) _ _ (entry .pre) (rw (at-rule-target .rule-target .ensures) at (at-if1 .if1 .left)) (at-if2 .if2 .left) (rw (c .before .before .wide .ensures .0, c .before .wide16 .ensures .0)) (c .if3 .taken)
-
-add-t15 : tie.Need-add-t15
-add-t15 c = search needs
-
-element-copy-out-t13 : tie.Need-element-copy-out-t13
-element-copy-out-t13 c = search needs
-
-add-t9 : tie.Need-add-t9
-add-t9 c = search needs
-
-element-copy-out-t20 : tie.Need-element-copy-out-t20
-element-copy-out-t20 c = search needs
 
 returns-4 : tie.Need-returns-4
 returns-4 c =
@@ -80,21 +38,6 @@ pub transition-spec : {M : Type 1} → statement M
 transition-spec =
     tie.close
     (tie.spec
-    rule-target-requires
-    states-requires
-    unruled-requires
-    returns
-    rule-output-requires
-    returns-2
-    add-wide
-    element-copy-out-wide
-    wide-requires
-    wide16-requires
-    add-f
-    sub-f
-    returns-3
-    add-t15
-    element-copy-out-t13
-    add-t9
-    element-copy-out-t20
-    returns-4)
+    (λ c κs. search needs) (λ c κs. search needs) (λ c κs. search needs) returns (λ c κs. search needs) returns-2
+    (λ c. search needs) (λ c. search needs) (λ c κs. search needs) (λ c κs. search needs) (λ c. search needs) (λ c. search needs)
+    returns-3 (λ c. search needs) (λ c. search needs) (λ c. search needs) (λ c. search needs) returns-4)

@@ -9,37 +9,9 @@ Inv-loop block facts base cube₀ log from bad length rounds₀ cube rounds = (r
 abbrev μ-loop : tie.MeasureT-loop
 μ-loop block facts base cube₀ log from bad length rounds₀ cube rounds = 600 - rounds
 
-loop-holds : tie.Need-loop-holds Inv-loop μ-loop
-loop-holds c = search needs
-
-narrow-once-requires : tie.Need-narrow-once-requires Inv-loop μ-loop
-narrow-once-requires c κs = search needs
-
-returns : tie.Need-returns Inv-loop μ-loop
-returns c = search needs
-
-add-rounds : tie.Need-add-rounds Inv-loop μ-loop
-add-rounds c = search needs
-
-loop-less : tie.Need-loop-less Inv-loop μ-loop
-loop-less c = search needs
-
-loop-again : tie.Need-loop-again Inv-loop μ-loop
-loop-again c = search needs
-
-returns-2 : tie.Need-returns-2 Inv-loop μ-loop
-returns-2 c = search needs
-
 pub narrow-all-spec : {M : Type 1} → statement M
 narrow-all-spec =
     tie.close
     (tie.spec
-    Inv-loop
-    μ-loop
-    loop-holds
-    narrow-once-requires
-    returns
-    add-rounds
-    loop-less
-    loop-again
-    returns-2)
+    Inv-loop μ-loop (λ c. search needs) (λ c κs. search needs) (λ c. search needs) (λ c. search needs) (λ c. search needs)
+    (λ c. search needs) (λ c. search needs))

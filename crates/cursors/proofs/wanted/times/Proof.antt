@@ -3,11 +3,9 @@ use borrow.Author.Needs.{needs, scaled-fits}
 use Rattle.cursors.proofs.wanted.times.Statement.{statement}
 use Rattle.cursors.proofs.wanted.times.Tie as tie
 
-mul-result : tie.Need-mul-result
-mul-result c = scaled-fits _ 512 _ (omega arith) (omega arith)
-
-returns : tie.Need-returns
-returns c = search needs
-
 pub times-spec : {M : Type 1} → statement M
-times-spec = tie.close (tie.spec mul-result returns)
+times-spec =
+    tie.close
+    (tie.spec
+    (λ c. scaled-fits _ 512 _ (omega arith) (omega arith))
+    (λ c. search needs))

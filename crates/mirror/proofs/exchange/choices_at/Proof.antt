@@ -5,17 +5,11 @@ use borrow.Author.Needs.{needs}
 use Rattle.mirror.proofs.exchange.choices_at.Statement.{statement}
 use Rattle.mirror.proofs.exchange.choices_at.Tie as tie
 
-site-requires : tie.Need-site-requires
-site-requires c κs = search needs
-
-returns : tie.Need-returns
-returns c = sym (choices-none _ _ (sym (c .before .site .ensures) ∙ c .if1 .taken))
-
-choices-requires : tie.Need-choices-requires
-choices-requires c κs = omega (arith, c .before .site .ensures, c .before .before .pre .0 .sites (c .before .before .args .k) (c .before .before .pre .1) (rw (c .before .site .ensures) at (c .if1 .left)))
-
-returns-2 : tie.Need-returns-2
-returns-2 c = rw (choices-some _ _ (rw (c .before .before .site .ensures) at (c .before .if1 .left)), ← c .before .before .site .ensures) (c .choices .ensures)
-
 pub choices-at-spec : {M : Type 1} → statement M
-choices-at-spec = tie.close (tie.spec site-requires returns choices-requires returns-2)
+choices-at-spec =
+    tie.close
+    (tie.spec
+    (λ c κs. search needs)
+    (λ c. sym (choices-none _ _ (sym (c .before .site .ensures) ∙ c .if1 .taken)))
+    (λ c κs. omega (arith, c .before .site .ensures, c .before .before .pre .0 .sites (c .before .before .args .k) (c .before .before .pre .1) (rw (c .before .site .ensures) at (c .if1 .left))))
+    (λ c. rw (choices-some _ _ (rw (c .before .before .site .ensures) at (c .before .if1 .left)), ← c .before .before .site .ensures) (c .choices .ensures)))

@@ -5,35 +5,20 @@ use borrow.Author.Needs.{needs}
 use Rattle.mirror.proofs.exchange.partner.Statement.{statement}
 use Rattle.mirror.proofs.exchange.partner.Tie as tie
 
-returns : tie.Need-returns
-returns c = each-none
-
-holds-requires : tie.Need-holds-requires
-holds-requires c κs = search needs
-
-returns-2 : tie.Need-returns-2
-returns-2 c = each-none
-
-all-exchange-requires : tie.Need-all-exchange-requires
-all-exchange-requires c κs = search needs
-
-returns-3 : tie.Need-returns-3
-returns-3 c = each-none
-
-one-requires : tie.Need-one-requires
-one-requires c κs = search needs
-
 returns-4 : tie.Need-returns-4
-returns-4 c = each-one (c .before .before .before .before .before .before .args .b) (c .one .ensures) (record { a-low = c .before .before .before .before .before .before .pre .2; b-low = c .before .before .before .before .before .before .pre .3; a-free = c .before .before .before .before .before .before .pre .4; b-free = movable (c .before .before .before .before .before .before .pre .1) (c .before .before .before .before .holds .ensures .1 (c .before .before .before .if2 .left)); rows = c .before .before .all-exchange .ensures (not-false _ (c .before .if3 .left)) })
+returns-4 c =
+    let at-if2 = c .before .before .before in
+    let at-holds = at-if2 .before in
+    let at-entry = at-holds .before .before in
+    each-one (at-entry .args .b) (c .one .ensures) (record { a-low = at-entry .pre .2; b-low = at-entry .pre .3; a-free = at-entry .pre .4; b-free = movable (at-entry .pre .1) (at-holds .holds .ensures .1 (at-if2 .if2 .left)); rows = c .before .before .all-exchange .ensures (not-false _ (c .before .if3 .left)) })
 
 pub partner-spec : {M : Type 1} → statement M
 partner-spec =
     tie.close
     (tie.spec
-    returns
-    holds-requires
-    returns-2
-    all-exchange-requires
-    returns-3
-    one-requires
-    returns-4)
+    (λ c. each-none)
+    (λ c κs. search needs)
+    (λ c. each-none)
+    (λ c κs. search needs)
+    (λ c. each-none)
+    (λ c κs. search needs) returns-4)

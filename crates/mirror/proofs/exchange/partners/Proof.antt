@@ -12,53 +12,23 @@ Inv-loop block fixed a end set₀ b₀ set b = Each (λ t. Exchangeable block a 
 abbrev μ-loop : tie.MeasureT-loop
 μ-loop block fixed a end set₀ b₀ set b = end - b
 
-states-requires : tie.Need-states-requires Inv-loop μ-loop
-states-requires c κs = search needs
-
-returns : tie.Need-returns Inv-loop μ-loop
-returns c = each-none
-
-holds-requires : tie.Need-holds-requires Inv-loop μ-loop
-holds-requires c κs = search needs
-
-returns-2 : tie.Need-returns-2 Inv-loop μ-loop
-returns-2 c = each-none
-
-loop-holds : tie.Need-loop-holds Inv-loop μ-loop
-loop-holds c = each-none
-
 partner-requires : tie.Need-partner-requires Inv-loop μ-loop
-partner-requires c κs = (c .before .before .before .before .before .before .pre .0, c .before .before .before .before .before .before .pre .1, rw (c .before .before .before .before .before .states .ensures) at (c .before .before .before .before .if1 .left), rw (c .before .before .before .before .before .states .ensures) at (c .loop-test .taken), movable (c .before .before .before .before .before .before .pre .1) (c .before .before .before .holds .ensures .1 (c .before .before .if2 .left)))
-
-union-requires : tie.Need-union-requires Inv-loop μ-loop
-union-requires c κs = search needs
-
-add-b : tie.Need-add-b Inv-loop μ-loop
-add-b c = search needs
-
-loop-less : tie.Need-loop-less Inv-loop μ-loop
-loop-less c = search needs
-
-loop-again : tie.Need-loop-again Inv-loop μ-loop
-loop-again c = each-more (c .before .before .before .loop .inv) (c .before .partner .ensures) (c .union .ensures)
-
-returns-3 : tie.Need-returns-3 Inv-loop μ-loop
-returns-3 c = c .before .loop .inv
+partner-requires c κs =
+    let at-holds = c .before .before .before in
+    let at-if1 = at-holds .before in
+    let at-states = at-if1 .before in
+    let at-entry = at-states .before in
+    (at-entry .pre .0, at-entry .pre .1, rw (at-states .states .ensures) at (at-if1 .if1 .left), rw (at-states .states .ensures) at (c .loop-test .taken), movable (at-entry .pre .1) (at-holds .holds .ensures .1 (c .before .before .if2 .left)))
 
 pub partners-spec : {M : Type 1} → statement M
 partners-spec =
     tie.close
     (tie.spec
-    Inv-loop
-    μ-loop
-    states-requires
-    returns
-    holds-requires
-    returns-2
-    loop-holds
-    partner-requires
-    union-requires
-    add-b
-    loop-less
-    loop-again
-    returns-3)
+    Inv-loop μ-loop (λ c κs. search needs)
+    (λ c. each-none)
+    (λ c κs. search needs)
+    (λ c. each-none)
+    (λ c. each-none)
+    partner-requires (λ c κs. search needs) (λ c. search needs) (λ c. search needs)
+    (λ c. each-more (c .before .before .before .loop .inv) (c .before .partner .ensures) (c .union .ensures))
+    (λ c. c .before .loop .inv))

@@ -15,15 +15,6 @@ Inv-loop block s a b q end x₀ x = Below (λ y. Exchanges block a b (pair s y) 
 abbrev μ-loop : tie.MeasureT-loop
 μ-loop block s a b q end x₀ x = end - x
 
-other-requires : tie.Need-other-requires Inv-loop μ-loop
-other-requires c κs = search needs
-
-inputs-requires : tie.Need-inputs-requires Inv-loop μ-loop
-inputs-requires c κs = search needs
-
-loop-holds : tie.Need-loop-holds Inv-loop μ-loop
-loop-holds c = none-below
-
 place-requires : tie.Need-place-requires Inv-loop μ-loop
 place-requires c κs = (omega (arith, c .before .before .before .before .pre .1, c .before .before .before .before .pre .0 .few-states), omega (arith, c .loop-test .taken, c .before .before .inputs .ensures, c .before .before .before .before .pre .0 .few-inputs))
 
@@ -31,37 +22,25 @@ place-requires-2 : tie.Need-place-requires-2 Inv-loop μ-loop
 place-requires-2 c κs = (omega (arith, c .before .before .before .before .other .ensures, other-low (c .before .before .before .before .before .args .a) (c .before .before .before .before .before .args .b) (c .before .before .before .before .before .args .s) _ (c .before .before .before .before .before .pre .2) (c .before .before .before .before .before .pre .3) (c .before .before .before .before .before .pre .1), c .before .before .before .before .before .pre .0 .few-states), omega (arith, c .before .loop-test .taken, c .before .before .before .inputs .ensures, c .before .before .before .before .before .pre .0 .few-inputs))
 
 pair-exchanges-requires : tie.Need-pair-exchanges-requires Inv-loop μ-loop
-pair-exchanges-requires c κs = (c .before .before .before .before .before .before .pre .0, c .before .place .ensures .1, c .place2 .ensures .1, c .before .before .before .before .before .before .pre .2, c .before .before .before .before .before .before .pre .3)
-
-returns : tie.Need-returns Inv-loop μ-loop
-returns c = λ e. never (cc)
-
-add-x : tie.Need-add-x Inv-loop μ-loop
-add-x c = search needs
-
-loop-less : tie.Need-loop-less Inv-loop μ-loop
-loop-less c = search needs
+pair-exchanges-requires c κs =
+    let earlier = c .before .before .before .before .before in
+    let at-entry = earlier .before in
+    (at-entry .pre .0, c .before .place .ensures .1, c .place2 .ensures .1, at-entry .pre .2, at-entry .pre .3)
 
 loop-again : tie.Need-loop-again Inv-loop μ-loop
-loop-again c = more-below (c .before .before .before .before .before .loop .inv) (rw (c .before .before .before .place .ensures .0, c .before .before .place2 .ensures .0, c .before .before .before .before .before .before .before .other .ensures) at (c .before .pair-exchanges .ensures (not-false _ (c .if1 .left))))
-
-returns-2 : tie.Need-returns-2 Inv-loop μ-loop
-returns-2 c = λ e. all-below (c .before .loop .inv) (rw (c .before .before .inputs .ensures) at (c .loop-test .left))
+loop-again c =
+    let at-place = c .before .before .before in
+    let at-loop = at-place .before .before in
+    let at-other = at-loop .before .before in
+    more-below (at-loop .loop .inv) (rw (at-place .place .ensures .0, c .before .before .place2 .ensures .0, at-other .other .ensures) at (c .before .pair-exchanges .ensures (not-false _ (c .if1 .left))))
 
 pub row-exchanges-spec : {M : Type 1} → statement M
 row-exchanges-spec =
     tie.close
     (tie.spec
-    Inv-loop
-    μ-loop
-    other-requires
-    inputs-requires
-    loop-holds
-    place-requires
-    place-requires-2
-    pair-exchanges-requires
-    returns
-    add-x
-    loop-less
-    loop-again
-    returns-2)
+    Inv-loop μ-loop (λ c κs. search needs) (λ c κs. search needs)
+    (λ c. none-below)
+    place-requires place-requires-2 pair-exchanges-requires
+    (λ c. λ e. never (cc))
+    (λ c. search needs) (λ c. search needs) loop-again
+    (λ c. λ e. all-below (c .before .loop .inv) (rw (c .before .before .inputs .ensures) at (c .loop-test .left))))

@@ -6,24 +6,6 @@ use borrow.Author.Needs.{needs}
 use Rattle.mirror.proofs.exchange.unruled_alike.Statement.{statement}
 use Rattle.mirror.proofs.exchange.unruled_alike.Tie as tie
 
-choices-at-requires : tie.Need-choices-at-requires
-choices-at-requires c κs = search needs
-
-choices-at-requires-2 : tie.Need-choices-at-requires-2
-choices-at-requires-2 c κs = search needs
-
-returns : tie.Need-returns
-returns c = λ e. never (cc)
-
-states-requires : tie.Need-states-requires
-states-requires c κs = search needs
-
-cast-result : tie.Need-cast-result
-cast-result c = search needs
-
-rem-result : tie.Need-rem-result
-rem-result c = search needs
-
 returns-2 : tie.Need-returns-2
 returns-2 c = λ e. (sym (c .before .before .before .choices-at .ensures) ∙ c .before .if1 .left ∙ c .before .before .choices-at2 .ensures, rw (c .before .before .before .choices-at .ensures, c .states .ensures) at (eqb-true (c .before .before .before .choices-at .result % c .states .result) 0 e))
 
@@ -31,10 +13,6 @@ pub unruled-alike-spec : {M : Type 1} → statement M
 unruled-alike-spec =
     tie.close
     (tie.spec
-    choices-at-requires
-    choices-at-requires-2
-    returns
-    states-requires
-    cast-result
-    rem-result
-    returns-2)
+    (λ c κs. search needs) (λ c κs. search needs)
+    (λ c. λ e. never (cc))
+    (λ c κs. search needs) (λ c. search needs) (λ c. search needs) returns-2)

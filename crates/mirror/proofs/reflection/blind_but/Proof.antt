@@ -16,37 +16,14 @@ Inv-loop cube i a b j₀ j = Below (λ h. (h ≡ i → ⊥) → Blind a b (getD 
 abbrev μ-loop : tie.MeasureT-loop
 μ-loop cube i a b j₀ j = 32 - j
 
-loop-holds : tie.Need-loop-holds Inv-loop μ-loop
-loop-holds c = none-below
-
-blind-at-requires : tie.Need-blind-at-requires Inv-loop μ-loop
-blind-at-requires c κs = (c .before .before .pre .0, c .before .before .pre .1, c .loop-test .taken)
-
-returns : tie.Need-returns Inv-loop μ-loop
-returns c = λ e. never (cc)
-
-add-j : tie.Need-add-j Inv-loop μ-loop
-add-j c = search needs
-
-loop-less : tie.Need-loop-less Inv-loop μ-loop
-loop-less c = search needs
-
-loop-again : tie.Need-loop-again Inv-loop μ-loop
-loop-again c = more-below (c .before .before .before .loop .inv) (c .before .blind-at .ensures (not-false _ (c .if1 .left)))
-
-returns-2 : tie.Need-returns-2 Inv-loop μ-loop
-returns-2 c = λ e. all-below (c .before .loop .inv) (c .loop-test .left)
-
 pub blind-but-spec : {M : Type 1} → statement M
 blind-but-spec =
     tie.close
     (tie.spec
-    Inv-loop
-    μ-loop
-    loop-holds
-    blind-at-requires
-    returns
-    add-j
-    loop-less
-    loop-again
-    returns-2)
+    Inv-loop μ-loop
+    (λ c. none-below)
+    (λ c κs. (c .before .before .pre .0, c .before .before .pre .1, c .loop-test .taken))
+    (λ c. λ e. never (cc))
+    (λ c. search needs) (λ c. search needs)
+    (λ c. more-below (c .before .before .before .loop .inv) (c .before .blind-at .ensures (not-false _ (c .if1 .left))))
+    (λ c. λ e. all-below (c .before .loop .inv) (c .loop-test .left)))

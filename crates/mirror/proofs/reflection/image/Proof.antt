@@ -4,39 +4,23 @@ use Rattle.mirror.proofs.Others.{each-none, each-one}
 use Rattle.mirror.proofs.reflection.image.Statement.{statement}
 use Rattle.mirror.proofs.reflection.image.Tie as tie
 
-holds-requires : tie.Need-holds-requires
-holds-requires c κs = search needs
-
-returns : tie.Need-returns
-returns c = each-none
-
-silent-requires : tie.Need-silent-requires
-silent-requires c κs = search needs
-
-returns-2 : tie.Need-returns-2
-returns-2 c = each-none
-
-blind-but-requires : tie.Need-blind-but-requires
-blind-but-requires c κs = (c .before .before .before .before .pre .2, c .before .before .before .before .pre .3)
-
-returns-3 : tie.Need-returns-3
-returns-3 c = each-none
-
-one-requires : tie.Need-one-requires
-one-requires c κs = search needs
-
 returns-4 : tie.Need-returns-4
-returns-4 c = each-one (c .before .before .before .before .before .before .before .args .b) (c .one .ensures) (record { exchange = c .before .before .before .before .before .before .before .pre .1 .at (c .before .before .before .before .before .before .before .args .b) (c .before .before .before .before .before .before .holds .ensures .0 (not-false _ (c .before .before .before .before .before .if1 .left))); silent = c .before .before .before .before .silent .ensures (not-false _ (c .before .before .before .if2 .left)); blind = c .before .before .blind-but .ensures (not-false _ (c .before .if3 .left)) })
+returns-4 c =
+    let at-if2 = c .before .before .before in
+    let at-silent = at-if2 .before in
+    let at-if1 = at-silent .before in
+    let at-holds = at-if1 .before in
+    let at-entry = at-holds .before in
+    each-one (at-entry .args .b) (c .one .ensures) (record { exchange = at-entry .pre .1 .at (at-entry .args .b) (at-holds .holds .ensures .0 (not-false _ (at-if1 .if1 .left))); silent = at-silent .silent .ensures (not-false _ (at-if2 .if2 .left)); blind = c .before .before .blind-but .ensures (not-false _ (c .before .if3 .left)) })
 
 pub image-spec : {M : Type 1} → statement M
 image-spec =
     tie.close
     (tie.spec
-    holds-requires
-    returns
-    silent-requires
-    returns-2
-    blind-but-requires
-    returns-3
-    one-requires
-    returns-4)
+    (λ c κs. search needs)
+    (λ c. each-none)
+    (λ c κs. search needs)
+    (λ c. each-none)
+    (λ c κs. (c .before .before .before .before .pre .2, c .before .before .before .before .pre .3))
+    (λ c. each-none)
+    (λ c κs. search needs) returns-4)

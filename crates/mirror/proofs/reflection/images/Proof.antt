@@ -12,37 +12,13 @@ Inv-loop block cube i set a found₀ b₀ found b = Each (λ t. Mirrors block cu
 abbrev μ-loop : tie.MeasureT-loop
 μ-loop block cube i set a found₀ b₀ found b = 16 - b
 
-loop-holds : tie.Need-loop-holds Inv-loop μ-loop
-loop-holds c = each-none
-
-image-requires : tie.Need-image-requires Inv-loop μ-loop
-image-requires c κs = (c .before .before .pre .0, c .before .before .pre .1, c .before .before .pre .2, c .loop-test .taken)
-
-union-requires : tie.Need-union-requires Inv-loop μ-loop
-union-requires c κs = search needs
-
-add-b : tie.Need-add-b Inv-loop μ-loop
-add-b c = search needs
-
-loop-less : tie.Need-loop-less Inv-loop μ-loop
-loop-less c = search needs
-
-loop-again : tie.Need-loop-again Inv-loop μ-loop
-loop-again c = each-more (c .before .before .before .loop .inv) (c .before .image .ensures) (c .union .ensures)
-
-returns : tie.Need-returns Inv-loop μ-loop
-returns c = c .before .loop .inv
-
 pub images-spec : {M : Type 1} → statement M
 images-spec =
     tie.close
     (tie.spec
-    Inv-loop
-    μ-loop
-    loop-holds
-    image-requires
-    union-requires
-    add-b
-    loop-less
-    loop-again
-    returns)
+    Inv-loop μ-loop
+    (λ c. each-none)
+    (λ c κs. (c .before .before .pre .0, c .before .before .pre .1, c .before .before .pre .2, c .loop-test .taken))
+    (λ c κs. search needs) (λ c. search needs) (λ c. search needs)
+    (λ c. each-more (c .before .before .before .loop .inv) (c .before .image .ensures) (c .union .ensures))
+    (λ c. c .before .loop .inv))

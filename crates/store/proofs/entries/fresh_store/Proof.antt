@@ -3,8 +3,6 @@ use Rattle.store.proofs.StoreLaw.{fresh}
 use Rattle.store.proofs.entries.fresh_store.Statement.{statement}
 use Rattle.store.proofs.entries.fresh_store.Tie as tie
 
-returns : tie.Need-returns
-returns c = λ goal m log. fresh 17408
-
 pub fresh-store-spec : {M : Type 1} → statement M
-fresh-store-spec = tie.close (tie.spec returns)
+fresh-store-spec =
+    tie.close (tie.spec (λ c. λ goal m log. fresh 17408))

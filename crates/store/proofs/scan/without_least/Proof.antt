@@ -5,11 +5,9 @@ use lib.Bits.{and-le-r}
 use Rattle.store.proofs.scan.without_least.Statement.{statement}
 use Rattle.store.proofs.scan.without_least.Tie as tie
 
-sub-result : tie.Need-sub-result
-sub-result c = search needs
-
-returns : tie.Need-returns
-returns c = omega (arith, and-le-r (c .args .set) (c .args .set - 1))
-
 pub without-least-spec : {M : Type 1} → statement M
-without-least-spec = tie.close (tie.spec sub-result returns)
+without-least-spec =
+    tie.close
+    (tie.spec
+    (λ c. search needs)
+    (λ c. omega (arith, and-le-r (c .args .set) (c .args .set - 1))))
