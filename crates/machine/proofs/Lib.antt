@@ -1,6 +1,5 @@
 -- What the proofs of the functions share.
 mod TablesLaw
-mod Table
 mod MarksLaw
 mod FollowLaw
 mod LayLaw

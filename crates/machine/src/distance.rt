@@ -48,31 +48,12 @@ fn shows(
     dist[place(s, targets[b])] <= j
 }
 
-// The squares of 1 to 16: the longest that a shortest distinguishing sequence of n states can be.
-const SQUARES: [u16; 16] = [
-    1,
-    4,
-    9,
-    16,
-    25,
-    36,
-    49,
-    64,
-    81,
-    100,
-    121,
-    144,
-    169,
-    196,
-    225,
-    256,
-];
-
+// The longest that a shortest distinguishing sequence of n states can be.
 pub fn bound(n: usize) -> u16
     requires { ⌜ (0 < n) × (n ≤ 16) ⌝ }
     ensures { λ r. ⌜ r ≡ n * n ⌝ }
 {
-    SQUARES[n - 1]
+    (n * n) as u16
 }
 
 // The smallest input that shows it, or how many inputs there are.
