@@ -8,6 +8,7 @@ mod mutation;
 mod reading;
 mod stack;
 mod table;
+mod writing;
 
 use table::Table;
 
@@ -22,6 +23,7 @@ fn main() {
     let mut table = Table::new(library);
     if library {
         reading::measure(&mut table);
+        writing::measure(&mut table);
         #[cfg(feature = "mutation")]
         mutation::measure(&mut table);
     }

@@ -1,7 +1,9 @@
 //! How much stack the operations need: the smallest thread in which a child of this
 //! program finishes.
 
+use crate::writing;
 use ranthelo_bench::families;
+use ranthelo_tests::drawing::Tables;
 use ranthelo_tests::library;
 use ranthelo_tests::reference::MOST_BYTES;
 use std::env;
@@ -21,6 +23,7 @@ const MOST: usize = 1024 * KIB;
 const OPERATIONS: &[&str] = &[
     "nothing",
     "read",
+    "write",
     #[cfg(feature = "mutation")]
     "run",
     #[cfg(feature = "mutation")]
@@ -89,6 +92,10 @@ fn perform(operation: &str, sheet: &[u8], deep: &[u8]) {
             let mut answer = [0; 9];
             library::reading::read(black_box(sheet), &mut answer);
             black_box(answer);
+        }
+        "write" => {
+            let tables = Tables::of_commands(sheet);
+            writing::with_library(&tables, &mut vec![0; MOST_BYTES]);
         }
         #[cfg(feature = "mutation")]
         "run" => {

@@ -45,7 +45,7 @@ impl Tables {
     }
 
     /// The bytes of the sheet, of tables that are not cut.
-    fn spell(&self) -> Vec<u8> {
+    pub fn spell(&self) -> Vec<u8> {
         let mut bytes = [&[SIZE], &self.size[..]].concat();
         for (command, table) in [(RULE, &self.rules), (FAULT, &self.faults)] {
             for row in table.chunks_exact(4) {
