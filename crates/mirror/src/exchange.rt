@@ -56,20 +56,39 @@ fn is_choice(block: &[u8; 1604], j: usize, d: u16, o: u8, t: u8) -> bool
     step.target == t
 }
 
-// Whether a choice of the pair j is the transition.
-fn offered(block: &[u8; 1604], j: usize, o: u8, t: u8) -> bool
+// A choice of `end`: d, or the first where there is no such one.
+fn clipped(d: u16, end: u16) -> u16
+    ensures { λ r. ⌜ (0 < end → r < end) ⌝ }
+{
+    if d < end {
+        return d;
+    }
+    0
+}
+
+// Whether a choice of the pair j is the transition. They are tried in a circle from `first` on.
+fn offered(block: &[u8; 1604], j: usize, o: u8, t: u8, first: u16) -> bool
     requires { ⌜ Wf (now block) × (j < 256) ⌝ }
     ensures { λ r. ⌜ (r ≡ true → OffersStep (now (block .entry)) j o t) ⌝ }
 {
     let end = choices_at(block, j);
-    let mut d: u16 = 0;
-    while d < end {
+    let mut d = clipped(first, end);
+    let mut left = end;
+    while left > 0 {
         if is_choice(block, j, d, o, t) {
             return true;
         }
-        d += 1;
+        d = clipped(d + 1, end);
+        left -= 1;
     }
     false
+}
+
+fn earlier(c: u16) -> u16 {
+    if c == 0 {
+        return 0;
+    }
+    c - 1
 }
 
 // Whether choice c of the pair k, exchanged, is one of the pair j.
@@ -78,7 +97,9 @@ fn answered(block: &[u8; 1604], k: usize, j: usize, a: u8, b: u8, c: u16) -> boo
     ensures { λ r. ⌜ (r ≡ true → Answered (now (block .entry)) a b k j c) ⌝ }
 {
     let step = transition(block, k, c);
-    offered(block, j, step.output, other(step.target, a, b))
+    let target = other(step.target, a, b);
+    // pairs that can be exchanged have their choices in much the same order
+    offered(block, j, step.output, target, earlier(c))
 }
 
 // Whether this holds of every choice of the pair k.
