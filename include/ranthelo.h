@@ -27,6 +27,12 @@ void ranthelo_write(uint8_t states, uint8_t inputs, uint8_t outputs, const uint8
                     size_t faults_len, const uint16_t *lengths, size_t lengths_len, const uint8_t *presses, size_t presses_len,
                     uint8_t *buffer, size_t buffer_len, size_t answer[3]);
 
+/* Write a sheet from a seed: how many states, presses and sounds. A RULE for every state and press, FAULTs to at most 32, no tests; the
+ * same bytes for the same numbers everywhere. The buffer has 16,384 bytes at least. A refusal has place 0. answer: number, place, the
+ * sheet's length. */
+void ranthelo_generate(uint32_t seed, uint8_t states, uint8_t inputs, uint8_t outputs, uint8_t *buffer, size_t buffer_len,
+                       size_t answer[3]);
+
 /* Run a board on presses: one sound for each at the buffer's front. answer: number, place. */
 void ranthelo_run(const uint8_t *sheet, size_t sheet_len, const uint8_t *board, size_t board_len, const uint8_t *presses,
                   size_t presses_len, uint8_t *buffer, size_t buffer_len, size_t answer[2]);

@@ -1,8 +1,20 @@
 //! Sheets to measure on, made from seeds.
 
-use crate::engine;
+use crate::{engine, plain};
 use ranthelo_tests::generator::{self, Random};
-use ranthelo_tests::reference::{Pair, Sheet};
+use ranthelo_tests::reference::{self, Pair, Sheet, MOST_BYTES};
+
+/// Seeds of 02's generator whose sheets of the largest size have 32 faults.
+pub const SEEDS: std::ops::Range<u32> = 4..7;
+pub const LARGEST: [u8; 3] = [16, 16, 16];
+
+/// The machine that every bench has of a seed and a size.
+pub fn seeded(seed: u32, size: [u8; 3]) -> Sheet {
+    let mut buffer = [0; MOST_BYTES];
+    let length = plain::generate(seed, size, &mut buffer).expect("a size in range");
+    let reading = reference::read(&buffer[..length]);
+    reading.expect("an accepted sheet").sheet
+}
 
 /// What a family's machines have.
 pub struct Family {

@@ -14,6 +14,10 @@ pub fn measure(table: &mut Table) {
     one(table, "P10", &listed::p10());
     let wide = families::wide().encode();
     one(table, "32 unspecified pairs of 256 choices", &wide);
+    for seed in families::SEEDS {
+        let sheet = families::seeded(seed, families::LARGEST);
+        completed(table, &format!("16 × 16 × 16, seed {seed}"), sheet);
+    }
     family(table, "complete machine", &families::COMPLETE, 1..4);
     family(table, "combination lock", &families::LOCK, 1..4);
     family(table, "partial machine", &families::PARTIAL, 2..5);

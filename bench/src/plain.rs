@@ -1,4 +1,4 @@
-//! Read, run, first failed test and compare in plain Rust.
+//! Read, sheets from seeds, run, first failed test and compare in plain Rust.
 
 use ranthelo_tests::enumeration::Failure;
 use ranthelo_tests::reference::{
@@ -377,4 +377,41 @@ fn trace(came: &[(u8, u8); 256], place: usize, last: u8, sequence: &mut [u8]) ->
         at = came[at].0.into();
     }
     length
+}
+
+/// The sheet of a seed at the buffer's front; its length.
+pub fn generate(seed: u32, size: [u8; 3], buffer: &mut [u8]) -> Result<usize, Refusal> {
+    if size.iter().any(|number| !(1..=16).contains(number)) {
+        return refuse(4, 0);
+    }
+    if buffer.len() < MOST_BYTES {
+        return refuse(16, 0);
+    }
+    let [states, inputs, outputs] = size;
+    let mut sum = seed;
+    let mut below = |bound| {
+        sum = sum.wrapping_add(0x9E37_79B9);
+        ((sum ^ (sum >> 16)) % u32::from(bound)) as u8
+    };
+    buffer[..4].copy_from_slice(&[SIZE, states, inputs, outputs]);
+    let mut at = 4;
+    let (mut faults, mut count) = ([[0; 5]; MOST_OPEN_PAIRS], 0);
+    for s in 0..states {
+        for x in 0..inputs {
+            let (o, drawn, lot) = (below(outputs), below(states), below(8));
+            let t = if x == 0 { (s + 1) % states } else { drawn };
+            buffer[at..at + 5].copy_from_slice(&[RULE, s, x, o, t]);
+            at += 5;
+            if lot == 0 && outputs >= 2 && count < faults.len() {
+                faults[count] = [FAULT, s, x, (o + 1) % outputs, t];
+                count += 1;
+            }
+        }
+    }
+    for fault in &faults[..count] {
+        buffer[at..at + 5].copy_from_slice(fault);
+        at += 5;
+    }
+    buffer[at] = END;
+    Ok(at + 1)
 }

@@ -8,10 +8,8 @@ use ranthelo_tests::{generator, listed};
 use std::hint::black_box;
 
 pub fn measure(table: &mut Table) {
-    let rules = families::sheet(&families::FULL, 1);
-    let full = families::filled(rules.clone(), MOST_BYTES, 1);
-    let mut bare = rules;
-    bare.faults.clear();
+    let bare = families::seeded(1, [16, 16, 1]);
+    let full = families::filled(families::sheet(&families::FULL, 1), MOST_BYTES, 1);
     one(table, "P1", &listed::p1());
     one(table, "256 RULEs", &bare.encode());
     one(table, "full sheet, 16,384 bytes", &full.encode());

@@ -1,8 +1,10 @@
 //! How much stack the operations need: the smallest thread in which a child of this
 //! program finishes.
 
+#[cfg(feature = "writing")]
 use crate::writing;
 use ranthelo_bench::families;
+#[cfg(feature = "writing")]
 use ranthelo_tests::drawing::Tables;
 use ranthelo_tests::library;
 use ranthelo_tests::reference::MOST_BYTES;
@@ -23,6 +25,7 @@ const MOST: usize = 1024 * KIB;
 const OPERATIONS: &[&str] = &[
     "nothing",
     "read",
+    #[cfg(feature = "writing")]
     "write",
     #[cfg(feature = "mutation")]
     "run",
@@ -93,6 +96,7 @@ fn perform(operation: &str, sheet: &[u8], deep: &[u8]) {
             library::reading::read(black_box(sheet), &mut answer);
             black_box(answer);
         }
+        #[cfg(feature = "writing")]
         "write" => {
             let tables = Tables::of_commands(sheet);
             writing::with_library(&tables, &mut vec![0; MOST_BYTES]);

@@ -4,7 +4,8 @@ use ranthelo_bench::{engine, families, plain};
 use ranthelo_tests::enumeration::{self, Machine, Survivor};
 use ranthelo_tests::generator::{self, Random, Shape, LARGE, SMALL};
 use ranthelo_tests::listed::{self, spelled};
-use ranthelo_tests::reference::{self, Move, Pair, Sheet};
+use ranthelo_tests::reference::{self, Move, Pair, Sheet, MOST_BYTES};
+use ranthelo_tests::seeded;
 
 #[test]
 fn reading() {
@@ -13,6 +14,20 @@ fn reading() {
         let bytes = generator::any_bytes(&mut random);
         let expected = reference::read(&bytes).map(|reading| reading.sheet.summary());
         assert_eq!(plain::read(&bytes), expected, "{}", spelled(&bytes));
+    }
+}
+
+#[test]
+fn sheets_from_seeds() {
+    let mut random = Random::new(15);
+    for _ in 0..20_000 {
+        let size = [(); 3].map(|()| random.below(18) as u8);
+        let seed = random.below(1 << 32) as u32;
+        let room = MOST_BYTES - usize::from(random.chance(5));
+        let mut buffer = vec![0; room];
+        let length = plain::generate(seed, size, &mut buffer);
+        let generated = length.map(|length| buffer[..length].to_vec());
+        assert_eq!(generated, seeded::generate(seed, size, room));
     }
 }
 
@@ -117,6 +132,7 @@ fn agree(bytes: &[u8]) -> (Option<Survivor>, u32) {
 fn judging_families() {
     let family = |family| families::sheet(&family, 3);
     let sheets = [
+        families::seeded(families::SEEDS.start, families::LARGEST),
         family(families::COMPLETE),
         family(families::LOCK),
         family(families::PARTIAL),
@@ -181,6 +197,9 @@ fn families_are_accepted() {
     for (states, inputs, faults) in families::COMBINATIONS {
         let sheet = families::combination(states, inputs, faults, 1);
         assert_eq!(suspects(sheet), 32);
+    }
+    for seed in families::SEEDS {
+        assert_eq!(suspects(families::seeded(seed, families::LARGEST)), 32);
     }
     assert_eq!(suspects(families::wide()), 32);
     assert_eq!(suspects(families::three_literals(111, 1)), 32);

@@ -148,7 +148,7 @@ fn damage_lengths(random: &mut Random, tables: &mut Tables) {
         2 => lengths[place] = lengths[place].wrapping_sub(1),
         _ if lengths[place] > 0 => {
             lengths[place] -= 1;
-            lengths[other] += 1;
+            lengths[other] = lengths[other].wrapping_add(1);
         }
         _ => lengths.insert(place, 0),
     }

@@ -9,3 +9,4 @@ pub mod generator;
 pub mod library;
 pub mod listed;
 pub mod reference;
+pub mod seeded;

@@ -139,6 +139,7 @@ fn every_operation_promises() {
     for file in [
         "sheet/src/lib.rt",
         "writing/src/lib.rt",
+        "generator/src/lib.rt",
         "mutation/src/lib.rt",
         "mutation/src/verdict.rt",
         "capi/src/lib.rt",

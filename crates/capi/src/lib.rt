@@ -8,6 +8,7 @@ ghost use Rattle.model.specs.Operations.{running, failing, comparing, judging};
 ghost use Rattle.sheet.specs.Lists.{overlay};
 ghost use Rattle.writing.specs.Drawing.{drawing};
 ghost use Rattle.writing.specs.Writing.{writing, writtenAnswer, sheetWrites};
+ghost use Rattle.generator.specs.Generating.{generating};
 ghost use Rattle.mutation.specs.Answers.{ranAnswer, ranWrites, failedAnswer, comparedAnswer, comparedWrites};
 ghost use Rattle.mutation.specs.Judging.{judgedAnswer, boardWrites, sequenceWrites, Measured};
 ghost use Rattle.capi.specs.Numbers.{readNumbers, partNumbers, writtenNumbers, ranNumbers, failedNumbers, comparedNumbers, judgedNumbers};
@@ -60,6 +61,20 @@ pub extern "C" fn ranthelo_test_span(sheet: &[u8], test: usize, answer: &mut [us
     }
 }
 
+// The answer of an operation that writes a sheet, as numbers.
+fn tell_length(written: Written, answer: &mut [usize; 3])
+    ensures { λ r. ⌜ now (answer .exit) ≡ writtenNumbers written ⌝ }
+{
+    match written {
+        Written::Done(length) => {
+            *answer = [0, 0, length];
+        }
+        Written::Refused(number, place) => {
+            *answer = [number as usize, place, 0];
+        }
+    }
+}
+
 // Write a sheet from tables.
 #[no_mangle]
 pub extern "C" fn ranthelo_write(
@@ -81,14 +96,31 @@ pub extern "C" fn ranthelo_write(
         inputs,
         outputs,
     };
-    match writing::write(size, rules, faults, lengths, presses, buffer) {
-        Written::Done(length) => {
-            *answer = [0, 0, length];
-        }
-        Written::Refused(number, place) => {
-            *answer = [number as usize, place, 0];
-        }
-    }
+    tell_length(
+        writing::write(size, rules, faults, lengths, presses, buffer),
+        answer,
+    );
+}
+
+// Write a sheet from a seed.
+#[no_mangle]
+pub extern "C" fn ranthelo_generate(
+    seed: u32,
+    states: u8,
+    inputs: u8,
+    outputs: u8,
+    buffer: &mut [u8],
+    answer: &mut [usize; 3],
+)
+    ensures { λ r. ⌜ now (answer .exit) ≡ writtenNumbers (writtenAnswer (generating seed (record { states = states; inputs = inputs; outputs = outputs }) (length (now (buffer .entry))))) ⌝ }
+    ensures { λ r. ⌜ now (buffer .exit) ≡ overlay (sheetWrites (generating seed (record { states = states; inputs = inputs; outputs = outputs }) (length (now (buffer .entry))))) (now (buffer .entry)) ⌝ }
+{
+    let size = Size {
+        states,
+        inputs,
+        outputs,
+    };
+    tell_length(generator::generate(seed, size, buffer), answer);
 }
 
 // Run.

@@ -1,4 +1,4 @@
-//! Sheets from tables.
+//! Sheets from tables, and from a seed.
 
 use super::guard::{buffer, bytes, Answer, Guarded};
 use crate::drawing::Tables;
@@ -20,6 +20,15 @@ mod c {
             lengths_length: usize,
             presses: *const u8,
             presses_length: usize,
+            buffer: *mut u8,
+            buffer_length: usize,
+            answer: *mut usize,
+        );
+        pub fn ranthelo_generate(
+            seed: u32,
+            states: u8,
+            inputs: u8,
+            outputs: u8,
             buffer: *mut u8,
             buffer_length: usize,
             answer: *mut usize,
@@ -78,6 +87,40 @@ pub fn checked_write(tables: &Tables, room: usize) -> Result<Vec<u8>, Refusal> {
         table.untouched();
     }
     lengths.untouched();
+    written(buffer, answer)
+}
+
+/// Number, place, the sheet's length. The sheet is written to the front of the buffer.
+pub fn generate(
+    seed: u32,
+    [states, inputs, outputs]: [u8; 3],
+    buffer: &mut [u8],
+    answer: &mut [usize; 3],
+) {
+    // SAFETY: the buffer and the answer are valid for their lengths throughout the call.
+    unsafe {
+        c::ranthelo_generate(
+            seed,
+            states,
+            inputs,
+            outputs,
+            buffer.as_mut_ptr(),
+            buffer.len(),
+            answer.as_mut_ptr(),
+        )
+    }
+}
+
+/// The sheet of a seed, in a buffer of so many bytes.
+pub fn checked_generate(seed: u32, size: [u8; 3], room: usize) -> Result<Vec<u8>, Refusal> {
+    let mut buffer = buffer(room);
+    let mut answer = Answer::new();
+    generate(seed, size, buffer.content_mut(), answer.lend());
+    written(buffer, answer)
+}
+
+/// The sheet at the front of the buffer; nothing else in it has changed.
+fn written(buffer: Guarded<u8>, answer: Answer<3>) -> Result<Vec<u8>, Refusal> {
     let result = answer.result().map(|words| words[0]);
     let sheet = buffer.front(result.unwrap_or(0)).to_vec();
     result.map(|_| sheet)

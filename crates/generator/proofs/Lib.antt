@@ -1,0 +1,3 @@
+pub mod TableLaw
+pub mod StandingLaw
+pub mod GenerateLaw
