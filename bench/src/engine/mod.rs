@@ -53,6 +53,7 @@ fn judge_within(sheet: &[u8], limit: u32) -> Result<Judgement, Refusal> {
     let mut notes = Notes::new(limit);
     let mut searched = search(&mut Quick::new(&tables, &mut notes));
     if let Searched::GaveUp = searched {
+        notes.forget_witness();
         tables.find_swaps();
         let mut store = Store::new();
         let mut marks = Marks::new();

@@ -33,8 +33,17 @@ impl Notes {
         self.witness.as_ref().is_some_and(can_have)
     }
 
+    /// Before another attempt, which begins anew.
+    pub fn forget_witness(&mut self) {
+        self.witness = None;
+    }
+
+    pub fn spend(&mut self, effort: u32) {
+        self.left = self.left.saturating_sub(effort);
+    }
+
     /// Keeps a settled part as a witness.
-    fn keep(&mut self, tables: &Tables<'_>, p: &Settled) -> &mut Prefix {
+    pub fn keep(&mut self, tables: &Tables<'_>, p: &Settled) -> &mut Prefix {
         let mut witness = [UNSETTLED; 32];
         for i in members(p.set) {
             let taken = (0..tables.counts[i]).find(|&c| tables.choice(i, c) == p.steps[i]);
@@ -79,7 +88,7 @@ impl Notes {
 }
 
 /// Pairs of states in the order in which they are met.
-struct Queue {
+pub struct Queue {
     seen: [States; 16],
     list: [u8; 256],
     head: usize,
@@ -87,7 +96,7 @@ struct Queue {
 }
 
 impl Queue {
-    fn new(start: usize) -> Self {
+    pub fn new(start: usize) -> Self {
         let mut queue = Queue {
             seen: [0; 16],
             list: [0; 256],
@@ -98,7 +107,7 @@ impl Queue {
         queue
     }
 
-    fn add(&mut self, a: usize, b: usize) {
+    pub fn add(&mut self, a: usize, b: usize) {
         if !has(self.seen[a], b) {
             self.seen[a] |= 1 << b;
             self.list[self.end] = (a * 16 + b) as u8;
@@ -106,7 +115,12 @@ impl Queue {
         }
     }
 
-    fn next(&mut self) -> Option<(usize, usize)> {
+    /// How many were met.
+    pub fn len(&self) -> u32 {
+        self.end as u32
+    }
+
+    pub fn next(&mut self) -> Option<(usize, usize)> {
         let next = usize::from(*self.list[..self.end].get(self.head)?);
         self.head += 1;
         Some((next / 16, next % 16))

@@ -4,7 +4,7 @@
 //! these suspects.
 
 use super::cubes::{among, output, target, Settled, Step, Suspects};
-use super::notes::{Notes, Prefix};
+use super::notes::{Notes, Prefix, Queue};
 use super::search::Attempt;
 use super::tables::{parts, Tables, RESET};
 
@@ -27,11 +27,13 @@ impl Place {
     }
 }
 
-/// Where it halts: at a wrong output, before a suspect that it waits for, or at the end.
+/// Where it halts: at a wrong output, before a suspect that it waits for, at the end, or where
+/// nothing can be refuted.
 enum Halt {
     Fails(Suspects),
     Waits(usize, Place),
     Ends(Place),
+    Lost,
 }
 
 /// Walks the log from a place on.
@@ -54,7 +56,7 @@ fn walk(tables: &Tables<'_>, p: &Settled, mut place: Place) -> Halt {
             }
         }
     }
-    Halt::Ends(place)
+    Halt::Ends(Place { used: 0, ..place })
 }
 
 pub struct Quick<'a> {
@@ -67,13 +69,33 @@ impl<'a> Quick<'a> {
         Quick { tables, notes }
     }
 
-    /// By the pairs of states: all conform.
-    fn conforms(&mut self, p: &Settled) -> Option<Suspects> {
-        let (pairs, met) = self.tables.spread(&p.cube(p.set))?;
-        let count: u32 = pairs.iter().map(|row| row.count_ones()).sum();
-        self.notes.left = self.notes.left.saturating_sub(count);
-        let used = met & p.set;
-        self.tables.closed(&p.cube(used), &pairs).then_some(used)
+    /// By the pairs of states in reach, breadth first: all conform; or which suspect the first of
+    /// them waits for. A wrong output makes the settled part a witness.
+    fn by_pairs(&mut self, p: &Settled, place: Place) -> Halt {
+        let mut waits = None;
+        let mut used = 0;
+        let mut queue = Queue::new(p.start());
+        while let Some((a, b)) = queue.next() {
+            for x in 0..self.tables.inputs {
+                let Some((o, next)) = self.tables.rule(a * 16 + x) else {
+                    continue;
+                };
+                match self.tables.step(p, b * 16 + x) {
+                    Step::Waits(i) => waits = waits.or(Some(i)),
+                    Step::Takes(step, _) if output(step) != o => {
+                        self.notes.spend(queue.len());
+                        self.notes.keep(self.tables, p);
+                        return Halt::Lost;
+                    }
+                    Step::Takes(step, by) => {
+                        used |= by;
+                        queue.add(next, target(step));
+                    }
+                }
+            }
+        }
+        self.notes.spend(queue.len());
+        waits.map_or(Halt::Fails(used), |i| Halt::Waits(i, place))
     }
 
     fn refute(&mut self, p: &Settled, from: Place) -> Option<Suspects> {
@@ -81,18 +103,16 @@ impl<'a> Quick<'a> {
             return None;
         }
         self.notes.nodes += 1;
-        self.notes.left -= 1;
-        let (i, place) = match walk(self.tables, p, from) {
-            Halt::Fails(used) => return Some(used),
-            Halt::Waits(i, place) => (i, place),
-            Halt::Ends(place) => {
-                if let Some(used) = self.conforms(p) {
-                    return Some(used);
-                }
-                (self.notes.meet(self.tables, p)?, place)
-            }
-        };
-        self.branch(p, i, place)
+        self.notes.spend(1);
+        let mut halt = walk(self.tables, p, from);
+        if let Halt::Ends(place) = halt {
+            halt = self.by_pairs(p, place);
+        }
+        match halt {
+            Halt::Fails(used) => Some(used),
+            Halt::Waits(i, place) => self.branch(p, i, place),
+            Halt::Ends(_) | Halt::Lost => None,
+        }
     }
 
     /// What the refutations of all choices of a suspect have in common.

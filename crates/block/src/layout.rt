@@ -16,6 +16,12 @@ pub fn wide16(x: u16) -> usize
     x as usize
 }
 
+pub fn wide32(x: u16) -> u32
+    ensures { λ r. ⌜ (r ≡ x) × (r < 65536) ⌝ }
+{
+    x as u32
+}
+
 // The place of a state and an input, or of two states.
 pub fn place(s: u8, x: u8) -> usize
     requires { ⌜ (s < 16) × (x < 16) ⌝ }

@@ -1,5 +1,6 @@
-// The tables of an accepted sheet and its mutants in one block of bytes, filled once and lent: what the specification and each
-// mutant do. For the crates of mutants above, which show what its functions require.
+// The tables of an accepted sheet and its mutants in one block of bytes, filled once and lent.
+// Promises that the block's specification and mutants are the sheet's (specs/laws/TabledLaw.antt), and what is read from it.
+// Called by the crates of mutants above, which show what its functions require.
 mod layout;
 mod packing;
 mod sites;
@@ -19,5 +20,6 @@ pub use layout::states;
 pub use layout::transition;
 pub use layout::wide;
 pub use layout::wide16;
+pub use layout::wide32;
 pub use packing::fresh;
 pub use packing::tabulate;

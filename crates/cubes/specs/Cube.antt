@@ -1,5 +1,6 @@
 -- Cubes: for each suspect which transitions are meant; what the functions promise of them.
 use mathlib.Core.Path.{_≡_}
+use mathlib.Core.Bool.{Bool, true}
 use mathlib.Core.Logic.{_⊎_}
 use mathlib.Core.List.{List}
 use Prim.Native.Nat.{ℕ, _+_, _*_, _/_, _%_, _<_}
@@ -32,6 +33,14 @@ Meets Nonconforming m b = ConformingFrom (pairOf m b) 0 (startOf m b) → ⊥
 unfoldable pub Sought : Goal → List ℕ → List ℕ → List ℕ → Type 0
 Sought goal m log b = GivesOf m b log × Meets goal m b
 
+-- b has all the choices that p settles (256: not settled)
+abbrev pub Extends : List ℕ → List ℕ → Type 0
+Extends b p = (j : ℕ) → (getD p j 0 ≡ 256 → ⊥) → getD b j 0 ≡ getD p j 0
+
+-- no mutant that has all the choices that p settles is sought
+abbrev pub NoneIf : Goal → List ℕ → List ℕ → List ℕ → Bool → Type 0
+NoneIf goal m log p r = r ≡ true → (b : List ℕ) → Ranged m b → Extends b p → Sought goal m log b → ⊥
+
 -- no mutant in the cube is sought
 pub record NoneIn (goal : Goal) (m log cube : List ℕ) : Type 0 where
   pub at : (b : List ℕ) → Ranged m b → In m cube b → Sought goal m log b → ⊥
@@ -40,9 +49,13 @@ pub record NoneIn (goal : Goal) (m log cube : List ℕ) : Type 0 where
 pub record StartsOk (m cube : List ℕ) (r : ℕ) : Type 0 where
   pub at : (b : List ℕ) → Ranged m b → In m cube b → Has r (startOf m b)
 
+-- each of those mutants conforms
+abbrev pub Conform : List ℕ → (List ℕ → Type 0) → Type 0
+Conform m those = (b : List ℕ) → Ranged m b → those b → ConformingFrom (pairOf m b) 0 (startOf m b)
+
 -- every mutant in the cube conforms
 pub record AllConform (m cube : List ℕ) : Type 0 where
-  pub at : (b : List ℕ) → Ranged m b → In m cube b → ConformingFrom (pairOf m b) 0 (startOf m b)
+  pub at : Conform m (In m cube)
 
 -- The facts of a block: by suspect i and output o, at i * 16 + o, a set that has the next states of its choices with that output;
 -- by suspect i, at 512 + i, one that has its outputs. What stands from 544 on is the business of others.
@@ -86,16 +99,16 @@ pub record FreedOk (facts : List ℕ) (l i o row : ℕ) : Type 0 where
   pub out : (v : Move) → Means l v → Has (getD facts (512 + i) 0) (v .output) → v .output ≡ o
   pub next : (v : Move) → Means l v → v .output ≡ o → Has (getD facts (i * 16 + o) 0) (v .target) → Has row (v .target)
 
--- on a defined input every mutant in the cube gives the specified output, and the pair of next states is in the set
-pub record CellOk (m cube pairs : List ℕ) (s q x : ℕ) : Type 0 where
-  pub out : (ruleTarget m (pair s x) ≡ 255 → ⊥) → (b : List ℕ) → Ranged m b → In m cube b → stepOf m b q x .output ≡ ruleOutput m (pair s x)
-  pub next : (ruleTarget m (pair s x) ≡ 255 → ⊥) → (b : List ℕ) → Ranged m b → In m cube b → Has (getD pairs (ruleTarget m (pair s x)) 0) (stepOf m b q x .target)
+-- on a defined input each of those mutants gives the specified output, and the pair of next states is in the set
+pub record CellOk (m : List ℕ) (those : List ℕ → Type 0) (pairs : List ℕ) (s q x : ℕ) : Type 0 where
+  pub out : (ruleTarget m (pair s x) ≡ 255 → ⊥) → (b : List ℕ) → Ranged m b → those b → stepOf m b q x .output ≡ ruleOutput m (pair s x)
+  pub next : (ruleTarget m (pair s x) ≡ 255 → ⊥) → (b : List ℕ) → Ranged m b → those b → Has (getD pairs (ruleTarget m (pair s x)) 0) (stepOf m b q x .target)
 
-pub record RowOk (m cube pairs : List ℕ) (s q : ℕ) : Type 0 where
-  pub at : Has (getD pairs s 0) q → (x : ℕ) → x < inputsOf m → CellOk m cube pairs s q x
+pub record RowOk (m : List ℕ) (those : List ℕ → Type 0) (pairs : List ℕ) (s q : ℕ) : Type 0 where
+  pub at : Has (getD pairs s 0) q → (x : ℕ) → x < inputsOf m → CellOk m those pairs s q x
 
-pub record LineOk (m cube pairs : List ℕ) (s : ℕ) : Type 0 where
-  pub at : (q : ℕ) → q < statesOf m → RowOk m cube pairs s q
+pub record LineOk (m : List ℕ) (those : List ℕ → Type 0) (pairs : List ℕ) (s : ℕ) : Type 0 where
+  pub at : (q : ℕ) → q < statesOf m → RowOk m those pairs s q
 
 -- ---- the join
 -- the mutant b is in the cube, but perhaps at the suspect i

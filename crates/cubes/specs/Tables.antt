@@ -4,19 +4,10 @@ use mathlib.Core.Bool.{Bool, true}
 use mathlib.Core.List.{List}
 use Prim.Native.Nat.{ℕ, _+_, _*_, _<_}
 use lib.ListN.{length, getD}
-use Rattle.cubes.specs.Sets.{Has}
+use Rattle.cubes.specs.Sets.{Has, Grows}
 use Rattle.block.specs.Layout.{siteAt, choicesOf}
 use Rattle.block.specs.Tabulated.{choiceOf}
 use Rattle.cubes.specs.Cube.{FreeOk}
-
--- no set has lost a member
-pub record Grows (old new : List ℕ) : Type 0 where
-  pub long : length new ≡ 832
-  pub more : (j t : ℕ) → Has (getD old j 0) t → Has (getD new j 0) t
-
-pub record Put (old new : List ℕ) (at s : ℕ) : Type 0 where
-  pub grows : Grows old new
-  pub here : Has (getD new at 0) s
 
 -- choice c of the pair k is in the facts
 pub record ChoiceIn (m facts : List ℕ) (k c : ℕ) : Type 0 where

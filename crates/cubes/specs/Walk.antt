@@ -1,11 +1,10 @@
 -- What the walk of a cube along a log promises.
 use mathlib.Core.Path.{_≡_}
 use mathlib.Core.List.{List}
-use Prim.Native.Nat.{ℕ, _+_, _*_, _<_}
-use lib.ListN.{length, getD, drop}
+use Prim.Native.Nat.{ℕ, _<_}
 use Rattle.cubes.specs.Sets.{Has}
-use Rattle.block.specs.Layout.{siteAt, statesOf, choicesOf}
-use Rattle.block.specs.Tabulated.{Wf, Ranged, choiceOf, ruleOf, stepOf}
+use Rattle.block.specs.Layout.{statesOf}
+use Rattle.block.specs.Tabulated.{Ranged, choiceOf, stepOf}
 use Rattle.cubes.specs.Cube.{In}
 
 pub record LoneLead (m : List ℕ) (k o r : ℕ) : Type 0 where

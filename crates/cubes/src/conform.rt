@@ -17,7 +17,7 @@ ghost use mathlib.Core.Bool.{true};
 ghost use Prim.Native.Nat.{_<_};
 ghost use Rattle.block.specs.Layout.{pair, siteAt, statesOf, inputsOf};
 ghost use Rattle.block.specs.Tabulated.{Wf};
-ghost use Rattle.cubes.specs.Cube.{Given, LoneOk, FreedOk, CellOk, RowOk, LineOk, AllConform};
+ghost use Rattle.cubes.specs.Cube.{In, Given, LoneOk, FreedOk, CellOk, RowOk, LineOk, AllConform};
 
 // A pair that is no suspect: its output is o, and its next state is in the row.
 fn lone(block: &[u8; 1604], k: usize, o: u8, row: u16) -> bool
@@ -56,7 +56,7 @@ fn cell_closed(
     x: u8,
 ) -> bool
     requires { ⌜ Given (now block) (now facts) × (a < 16) × (b < statesOf (now block)) × (x < inputsOf (now block)) ⌝ }
-    ensures { λ r. ⌜ (r ≡ true → CellOk (now (block .entry)) (now (cube .entry)) (now (pairs .entry)) a b x) ⌝ }
+    ensures { λ r. ⌜ (r ≡ true → CellOk (now (block .entry)) (In (now (block .entry)) (now (cube .entry))) (now (pairs .entry)) a b x) ⌝ }
 {
     let k = place(a, x);
     let next = rule_target(block, k);
@@ -84,7 +84,7 @@ fn row_closed(
     b: u8,
 ) -> bool
     requires { ⌜ Given (now block) (now facts) × (a < 16) × (b < statesOf (now block)) ⌝ }
-    ensures { λ r. ⌜ (r ≡ true → RowOk (now (block .entry)) (now (cube .entry)) (now (pairs .entry)) a b) ⌝ }
+    ensures { λ r. ⌜ (r ≡ true → RowOk (now (block .entry)) (In (now (block .entry)) (now (cube .entry))) (now (pairs .entry)) a b) ⌝ }
 {
     let row = pairs[wide(a)];
     if !holds(row, b) {
@@ -110,7 +110,7 @@ fn line_closed(
     a: u8,
 ) -> bool
     requires { ⌜ Given (now block) (now facts) × (a < 16) ⌝ }
-    ensures { λ r. ⌜ (r ≡ true → LineOk (now (block .entry)) (now (cube .entry)) (now (pairs .entry)) a) ⌝ }
+    ensures { λ r. ⌜ (r ≡ true → LineOk (now (block .entry)) (In (now (block .entry)) (now (cube .entry))) (now (pairs .entry)) a) ⌝ }
 {
     let end = states(block);
     let mut b: u8 = 0;

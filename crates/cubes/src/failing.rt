@@ -72,14 +72,14 @@ fn onward(block: &[u8; 1604], facts: &[u16; 832], cube: &[u32; 32], set: u16, x:
 }
 
 // The input and the output of an observation.
-fn input_of(v: u16) -> u8
+pub fn input_of(v: u16) -> u8
     requires { ⌜ v < 256 ⌝ }
     ensures { λ r. ⌜ r ≡ v / 16 ⌝ }
 {
     (v / 16) as u8
 }
 
-fn output_of(v: u16) -> u8
+pub fn output_of(v: u16) -> u8
     ensures { λ r. ⌜ (r ≡ v % 16) × (r < 16) ⌝ }
 {
     (v % 16) as u8

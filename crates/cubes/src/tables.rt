@@ -11,7 +11,8 @@ ghost use Prim.Native.Nat.{_<_};
 ghost use lib.ListN.{length};
 ghost use Rattle.block.specs.Layout.{siteAt, choicesOf};
 ghost use Rattle.block.specs.Tabulated.{Wf};
-ghost use Rattle.cubes.specs.Tables.{Put, Entered, PairEntered, AllEntered};
+ghost use Rattle.cubes.specs.Sets.{Put};
+ghost use Rattle.cubes.specs.Tables.{Entered, PairEntered, AllEntered};
 
 // By suspect and output, then by suspect; the rest is for others (which states can be exchanged, where tests begin).
 pub type Facts = [u16; 832];

@@ -1,5 +1,6 @@
-// What steers the search for refutations by the tests of a log: how far each test has come, which choices it refutes, which suspect is
-// settled next, and how wide a cube fails a test. Nothing but safety is promised: what it proposes is checked by others.
+// Steering by the tests of a log: how far each has come, what it refutes, which suspect is next, how wide a cube fails a test.
+// Promises bounds, and that the facts of other crates are left alone; what it proposes is checked by others.
+// Called by `refutation` and `store`.
 mod observed;
 mod progress;
 mod proposal;

@@ -1,4 +1,6 @@
 // The program `judge`: reads a sheet from standard input and prints the verdict on it.
+// Promises that the bytes it counts lie in its buffer. Which bytes a read brings, and that the text gets out, is tested.
+// Called by nothing: users run it.
 ghost use Rattle.judge.specs.Input.{Fits};
 use libc::STDERR_FILENO;
 use libc::STDIN_FILENO;

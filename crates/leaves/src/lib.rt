@@ -1,10 +1,34 @@
-// Words for functions that only steer: each is total, whatever it is handed, and nothing but safety is promised. For the crates
-// `cursors`, `pairs` and `refutation`.
+// Words for functions that steer: sets, transitions and literals as numbers, and notes in a lent slice.
+// Promises bounds of what they answer and, of sets of suspects, their members; little else rests on them.
+// Called by `walks`, `cursors`, `pairs`, `store`, `refutation` and `search`.
+mod notes;
+
 use block::transition;
 use block::wide;
+use block::wide32;
 use cubes::words::holds;
 use cubes::words::one;
-ghost use Prim.Native.Nat.{_<_};
+pub use notes::DEAD;
+pub use notes::FILLED;
+pub use notes::HAND;
+pub use notes::HINTS;
+pub use notes::KEPT;
+pub use notes::LIVE;
+pub use notes::LONG;
+pub use notes::NODES;
+pub use notes::SHORT;
+pub use notes::SPENT;
+pub use notes::WITNESS;
+pub use notes::count_node;
+pub use notes::keep_witness;
+pub use notes::nodes;
+pub use notes::note;
+pub use notes::set_note;
+pub use notes::witnessed;
+ghost use mathlib.Core.Path.{_≡_};
+ghost use mathlib.Core.Bool.{true, false};
+ghost use Prim.Native.Nat.{_<_, _%_, _^_};
+ghost use Rattle.cubes.specs.Sets.{Has, Joined};
 
 // A literal that means every choice.
 pub const ANY: u32 = 4294967295;
@@ -58,12 +82,22 @@ pub fn size(set: u16) -> u32
 }
 
 // Whether a suspect is in a set of suspects.
-pub fn among(set: u32, i: u8) -> bool {
+pub fn among(set: u32, i: u8) -> bool
+    ensures { λ r. ⌜ (r ≡ true → Has set (i % 32)) × (r ≡ false → Has set (i % 32) → ⊥) ⌝ }
+{
     (set >> (i % 32)) % 2 == 1
 }
 
-pub fn joined(set: u32, i: u8) -> u32 {
+pub fn joined(set: u32, i: u8) -> u32
+    ensures { λ r. ⌜ Joined set (2 ^ (i % 32)) r ⌝ }
+{
     set | (1 << (i % 32))
+}
+
+pub fn united(a: u32, b: u32) -> u32
+    ensures { λ r. ⌜ Joined a b r ⌝ }
+{
+    a | b
 }
 
 // A transition as one number: output * 16 + next state.
@@ -84,12 +118,6 @@ pub fn cell(i: u8, o: u8) -> usize
     ensures { λ r. ⌜ r < 512 ⌝ }
 {
     ((i % 32) as usize) * 16 + ((o % 16) as usize)
-}
-
-fn wide32(x: u16) -> u32
-    ensures { λ r. ⌜ r < 65536 ⌝ }
-{
-    x as u32
 }
 
 fn high(o: u8) -> u32
@@ -118,42 +146,4 @@ pub fn exact(p: &[u8; 32], settled: u32, cube: &mut [u32; 32]) {
         cube[wide(j)] = exactly(p[wide(j)], settled, j);
         j += 1;
     }
-}
-
-// Notes that steer a search, in a lent slice of numbers; a short one has no room for hints. How many nodes were looked at (low and
-// high half), how many entries of the store are filled, which entry is next to go, whether there is a witness.
-pub const NODES: usize = 0;
-
-pub const FILLED: usize = 2;
-
-pub const HAND: usize = 3;
-
-pub const KEPT: usize = 4;
-
-// From here on the choices of the witness, by slot; 256 where any will do.
-pub const WITNESS: usize = 8;
-
-// From here on, by suspect and output, the next states known to be refuted at this node.
-pub const DEAD: usize = 64;
-
-// From here on, by suspect and transition, what refutes it: an entry of the store, or a test.
-pub const HINTS: usize = 576;
-
-pub const SHORT: usize = 576;
-
-pub const LONG: usize = 8768;
-
-// A note; 0 where there is no room for it.
-pub fn note(notes: &[u16], at: usize) -> u16 {
-    if at >= notes.len() {
-        return 0;
-    }
-    notes[at]
-}
-
-pub fn set_note(notes: &mut [u16], at: usize, v: u16) {
-    if at >= notes.len() {
-        return;
-    }
-    notes[at] = v;
 }

@@ -32,6 +32,16 @@ module _ (m : Pair) (w : ℕ → ℕ → Bool) (j i d : ℕ) where
       either true = refl
       either false = refl
 
+  -- past the last state of the machine
+  cell-beside : m .states ≤ i % 16 → cellWith m w j i d ≡ d
+  unfolding cellWith
+  cell-beside h = rw (le-ltb (i % 16) (m .states) h) (either (leb d j) (ltb (i / 16) (m .states)))
+    where
+      either : (a b : Bool) → cond a d (cond (b && false) (cond (ltb (least (m .inputs) (shows m w (i / 16) (i % 16))) (m .inputs)) (suc j) d) d) ≡ d
+      either true b = refl
+      either false true = refl
+      either false false = refl
+
   module _ (new : j < d) where
     pub cell-no-q : i / 16 < m .states → m .states ≤ i % 16 → cellWith m w j i d ≡ d
     unfolding cellWith
@@ -146,6 +156,16 @@ module _ (m : Pair) (dist₀ : List ℕ) (j : ℕ) where
       done t ∙ by-cases (decLt t i)
       (λ h. rw (lt-ltb t i h) refl)
       (λ nh. rw (le-ltb t i (omega arith)) (sym (cell-past m (near dist₀ j) j t (getD dist₀ t 0) (omega arith))))
+
+  -- what is no pair of states is as it was
+  pub done-skip : (dist : List ℕ) (i r : ℕ) → Done m dist₀ j dist i → i ≤ r → ((t : ℕ) → i ≤ t → t < r → m .states ≤ t % 16) → Done m dist₀ j dist r
+  unfolding Done
+  done-skip dist i r done l past t =
+      done t ∙ by-cases (decLt t i)
+      (λ h. rw (lt-ltb t i h, lt-ltb t r (omega arith)) refl)
+      (λ nh. rw (le-ltb t i (omega arith)) (by-cases (decLt t r)
+      (λ h. rw (lt-ltb t r h) (sym (cell-beside m (near dist₀ j) j t (getD dist₀ t 0) (past t (omega arith) h))))
+      (λ nr. rw (le-ltb t r (omega arith)) refl)))
 
   module _ (dist : List ℕ) (i : ℕ) (done : Done m dist₀ j dist i) where
     same-near : near dist j ≡ near dist₀ j

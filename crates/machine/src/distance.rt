@@ -1,7 +1,7 @@
 // Comparing the specification with a mutant laid out in tables.
 ghost use mathlib.Core.Path.{_≡_};
 ghost use mathlib.Core.Bool.{false};
-ghost use Prim.Native.Nat.{ℕ, _-_, _*_, _/_, _≤_, _<_};
+ghost use Prim.Native.Nat.{ℕ, _-_, _*_, _/_, _%_, _≤_, _<_};
 ghost use lib.ListN.{length, getD, replicate};
 ghost use Rattle.model.specs.Compare.{least, shortest, comparePair, shows as showsOf};
 ghost use Rattle.sheet.specs.Lists.{overlay};
@@ -109,6 +109,17 @@ fn cell(
     d
 }
 
+// The index of the pair of states after that at i, of n states: from the last of a row to the first of the next.
+fn following(i: usize, n: usize) -> usize
+    requires { ⌜ (i < 256) × (n ≤ 16) ⌝ }
+    ensures { λ r. ⌜ (i < r) × ((t : ℕ) → i < t → t < r → n ≤ t % 16) ⌝ }
+{
+    if i % 16 + 1 < n {
+        return i + 1;
+    }
+    i - i % 16 + 16
+}
+
 // One round: each pair of states that is j + 1 apart gets its distance. Whether there was any.
 fn round(
     block: &[u8; 1604],
@@ -132,7 +143,7 @@ fn round(
             dist[i] = d;
             changed = true;
         }
-        i += 1;
+        i = following(i, n);
     }
     changed
 }

@@ -84,11 +84,16 @@ fn offered(block: &[u8; 1604], j: usize, o: u8, t: u8, first: u16) -> bool
     false
 }
 
-fn earlier(c: u16) -> u16 {
-    if c == 0 {
+// Shortly before the choice that differs from choice c in its next state alone, where choices stand in their order.
+fn near(c: u16, target: u8, image: u8) -> u16 {
+    if c >= 1024 {
         return 0;
     }
-    c - 1
+    let at = c + (image as u16);
+    if at <= (target as u16) {
+        return 0;
+    }
+    at - (target as u16) - 1
 }
 
 // Whether choice c of the pair k, exchanged, is one of the pair j.
@@ -97,9 +102,8 @@ fn answered(block: &[u8; 1604], k: usize, j: usize, a: u8, b: u8, c: u16) -> boo
     ensures { λ r. ⌜ (r ≡ true → Answered (now (block .entry)) a b k j c) ⌝ }
 {
     let step = transition(block, k, c);
-    let target = other(step.target, a, b);
-    // pairs that can be exchanged have their choices in much the same order
-    offered(block, j, step.output, target, earlier(c))
+    let image = other(step.target, a, b);
+    offered(block, j, step.output, image, near(c, step.target, image))
 }
 
 // Whether this holds of every choice of the pair k.

@@ -1,5 +1,6 @@
-// Mutants of a sheet (01: boards): run one, find the first test that it fails, compare it with the specification; judge the test
-// suite (01: list).
+// The operations on the mutants of a sheet (01: boards): run, first failed test, compare; and judge, on its test suite (01: list).
+// Promises for every input the answer and every lent byte, by the definitions of `model`, and what the answer means.
+// Called by users, and by `capi` and `report`.
 ghost use mathlib.Core.Path.{_≡_};
 ghost use lib.ListN.{length};
 ghost use Rattle.sheet.specs.Lists.{overlay};

@@ -1,5 +1,6 @@
 // Steering by pairs of states (specification's, mutant's): which wide cube may conform, and how far a settled part is known to.
-// Nothing is promised of any result here, but that it comes. For the crate `refutation`.
+// Promises nothing of any result, but that it comes; what it proposes is checked by others.
+// Called by `refutation`.
 mod cells;
 mod proposal;
 mod reach;
@@ -7,4 +8,3 @@ mod witness;
 
 pub use proposal::propose;
 pub use reach::meet;
-pub use witness::witnessed;

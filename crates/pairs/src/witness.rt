@@ -3,12 +3,9 @@ use block::choices;
 use block::pair_of;
 use block::transition;
 use block::wide;
-use leaves::KEPT;
-use leaves::WITNESS;
 use leaves::among;
-use leaves::note;
+use leaves::keep_witness;
 use leaves::packed;
-use leaves::set_note;
 ghost use Prim.Native.Nat.{_<_};
 
 // The choice of a suspect that is a transition, or 256.
@@ -59,34 +56,11 @@ fn noted(block: &[u8; 1604], p: &[u8; 32], settled: u32, at: u8, want: u8, j: u8
 
 // Keeps the settled part, with a wrong output where it can be, as a witness.
 pub fn keep(block: &[u8; 1604], p: &[u8; 32], settled: u32, at: u8, want: u8, notes: &mut [u16]) {
+    let mut kept = [256u16; 32];
     let mut j: u8 = 0;
     while j < 32 {
-        set_note(
-            notes,
-            WITNESS + wide(j),
-            noted(block, p, settled, at, want, j),
-        );
+        kept[wide(j)] = noted(block, p, settled, at, want, j);
         j += 1;
     }
-    set_note(notes, KEPT, 1);
-}
-
-// Whether two choices of a slot differ, neither of them 256.
-fn clash(c: u16, d: u16) -> bool {
-    c != 256 && d != 256 && c != d
-}
-
-// Whether a witness is kept that can have the choices of a prefix (256: unsettled).
-pub fn witnessed(notes: &[u16], prefix: &[u16; 32]) -> bool {
-    if note(notes, KEPT) == 0 {
-        return false;
-    }
-    let mut j: usize = 0;
-    while j < 32 {
-        if clash(note(notes, WITNESS + j), prefix[j]) {
-            return false;
-        }
-        j += 1;
-    }
-    true
+    keep_witness(notes, &kept);
 }

@@ -13,11 +13,10 @@ use Rattle.block.specs.Tabulated.{Wf, Ranged, choicesAt, choiceOf, chosen, Step
 use Rattle.block.specs.declared.layout.Step.{Step}
 use Rattle.block.specs.laws.ChoiceLaw.{chosen-some, choice-at}
 use Rattle.cubes.specs.Sets.{Has}
-use Rattle.cubes.specs.Cube.{Means, MeansStep, In, NoneIn, Joining, Adds, MeetsAll, AddsOk}
+use Rattle.cubes.specs.Cube.{Means, MeansStep, In, NoneIn, Joining, Adds, MeetsAll, AddsOk, Extends}
 use Rattle.cubes.specs.declared.goal.Goal.{Goal}
 use Rattle.cubes.specs.laws.LiteralLaw.{any-means}
 use Rattle.cubes.specs.laws.JoinLaw.{DoneTo, join-none, join-more, join-all, done-skip, done-all}
-use Rattle.refutation.specs.Refuting.{Extends}
 use Rattle.mirror.specs.Reflect.{ReflectedOk}
 use Rattle.mirror.specs.laws.MirrorLaw.{under-meets}
 use Rattle.refutation.specs.Branching.{SplitOk, TurnOk, JoinedOk, PairHas, PrefixIn}

@@ -9,11 +9,10 @@ use Rattle.block.specs.Layout.{siteAt, choicesOf}
 use Rattle.block.specs.Tabulated.{Ranged, choiceOf, chosen, StepIs}
 use Rattle.block.specs.declared.layout.Step.{Step}
 use Rattle.cubes.specs.Sets.{Has}
-use Rattle.cubes.specs.Cube.{Means, In, NoneIn, Joining}
+use Rattle.cubes.specs.Cube.{Means, In, NoneIn, Joining, Extends}
 use Rattle.cubes.specs.declared.goal.Goal.{Goal}
 use Rattle.store.specs.Store.{StoreOk, ToldOk}
 use Rattle.store.specs.declared.entries.Told.{Told}
-use Rattle.refutation.specs.Refuting.{Extends}
 use Rattle.refutation.specs.declared.branch.Split.{Split}
 use Rattle.refutation.specs.declared.branch.Turn.{Turn}
 

@@ -1,5 +1,4 @@
 // A cube without mutant sought for a settled part, by the choices of a suspect in turn.
-use crate::effort::over;
 use crate::node::Node;
 use crate::node::UNHINTED;
 use crate::node::child;
@@ -117,7 +116,6 @@ fn next_split(
     block: &[u8; 1604],
     facts: &[u16; 832],
     log: &[u16],
-    store: &[u32],
     notes: &mut [u16],
     node: Node,
     cursors: &[u32; 256],
@@ -125,9 +123,6 @@ fn next_split(
 ) -> Split
     ensures { λ r. ⌜ (r .k < 256 → SplitOk (now (block .entry)) (node .left) r) ⌝ }
 {
-    if over(store, notes) {
-        return split_at(block, 255, 0);
-    }
     let i = next_suspect(block, facts, log, notes, node, cursors);
     recall(notes, i, known);
     split_at(block, i, node.left)
@@ -265,7 +260,7 @@ pub(crate) fn explore(
         return seen;
     }
     let mut known = [0u16; 272];
-    let split = next_split(block, facts, log, store, notes, node, &cursors, &mut known);
+    let split = next_split(block, facts, log, notes, node, &cursors, &mut known);
     if split.k >= 256 {
         return seen;
     }

@@ -1,5 +1,4 @@
 // What is known of a settled part: by a test, by an entry of the store, or by pairs of states.
-use crate::effort::count_node;
 use crate::node::Node;
 use block::wide16;
 use cubes::conform::closed;
@@ -10,6 +9,7 @@ use cursors::advance_all;
 use cursors::propose_fail;
 use cursors::test_at;
 use leaves::ANY;
+use leaves::count_node;
 use pairs::propose;
 use store::Told;
 use store::find;

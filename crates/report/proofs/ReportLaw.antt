@@ -23,7 +23,7 @@ use Rattle.mutation.specs.declared.verdict.Judged.the-variants as judged
 use Rattle.sheet.specs.Lists.{overlay}
 use Rattle.mutation.specs.Judging.{judgedAnswer, boardWrites, sequenceWrites}
 use Rattle.report.specs.Text.{Appended, completeText, survivorLines, refusedLine, textOf, textIn, suspectsIn}
-use Rattle.report.proofs.TextLaws.{appended-none}
+use Rattle.report.specs.laws.TextLaw.{appended-none}
 
 -- a buffer that is too small is left as it was
 pub no-room : (old : List ℕ) (result : Result Judgement) → length old < 2048 → Appended old old 0 0 (textIn (length old) result)

@@ -1,4 +1,6 @@
-// The bytes that the program prints.
+// The text that the program prints for a sheet.
+// Promises every byte of it, by the judgement of the sheet.
+// Called by `judge`.
 ghost use mathlib.Core.Path.{_≡_};
 ghost use lib.ListN.{length};
 ghost use Rattle.sheet.specs.Reading.{reading};

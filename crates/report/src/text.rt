@@ -5,7 +5,7 @@ ghost use lib.ListN.{length};
 ghost use Rattle.report.specs.Text.{Appended, decimal, fields, line, survivorLines, refusedLine};
 
 // One byte.
-pub fn put(out: &mut [u8], at: usize, b: u8) -> usize
+pub(crate) fn put(out: &mut [u8], at: usize, b: u8) -> usize
     requires { ⌜ at < length (now out) ⌝ }
     ensures { λ r. ⌜ Appended (now (out .entry)) (now (out .exit)) at r (b ∷ []) ⌝ }
 {
@@ -14,7 +14,7 @@ pub fn put(out: &mut [u8], at: usize, b: u8) -> usize
 }
 
 // Some bytes.
-pub fn put_all(out: &mut [u8], at: usize, text: &[u8]) -> usize
+pub(crate) fn put_all(out: &mut [u8], at: usize, text: &[u8]) -> usize
     requires { ⌜ at + length (now text) ≤ length (now out) ⌝ }
     ensures { λ r. ⌜ Appended (now (out .entry)) (now (out .exit)) at r (now (text .entry)) ⌝ }
 {
@@ -28,7 +28,7 @@ pub fn put_all(out: &mut [u8], at: usize, text: &[u8]) -> usize
 }
 
 // A number in decimal.
-pub fn put_number(out: &mut [u8], at: usize, n: usize) -> usize
+pub(crate) fn put_number(out: &mut [u8], at: usize, n: usize) -> usize
     requires { ⌜ at + length (decimal n) ≤ length (now out) ⌝ }
     ensures { λ r. ⌜ Appended (now (out .entry)) (now (out .exit)) at r (decimal n) ⌝ }
 {
@@ -41,7 +41,7 @@ pub fn put_number(out: &mut [u8], at: usize, n: usize) -> usize
 }
 
 // Numbers, each after a blank: a byte takes at most four.
-pub fn put_fields(out: &mut [u8], at: usize, numbers: &[u8]) -> usize
+pub(crate) fn put_fields(out: &mut [u8], at: usize, numbers: &[u8]) -> usize
     requires { ⌜ at + 4 * length (now numbers) ≤ length (now out) ⌝ }
     ensures text { λ r. ⌜ Appended (now (out .entry)) (now (out .exit)) at r (fields (now (numbers .entry))) ⌝ }
     ensures short { λ r. ⌜ r ≤ at + 4 * length (now (numbers .entry)) ⌝ }
@@ -57,7 +57,7 @@ pub fn put_fields(out: &mut [u8], at: usize, numbers: &[u8]) -> usize
 }
 
 // A line: a word and numbers.
-pub fn put_line(out: &mut [u8], at: usize, name: &[u8], numbers: &[u8]) -> usize
+pub(crate) fn put_line(out: &mut [u8], at: usize, name: &[u8], numbers: &[u8]) -> usize
     requires { ⌜ at + length (now name) + 4 * length (now numbers) < length (now out) ⌝ }
     ensures text { λ r. ⌜ Appended (now (out .entry)) (now (out .exit)) at r (line (now (name .entry)) (now (numbers .entry))) ⌝ }
     ensures short { λ r. ⌜ r ≤ at + length (now (name .entry)) + 4 * length (now (numbers .entry)) + 1 ⌝ }
@@ -68,7 +68,7 @@ pub fn put_line(out: &mut [u8], at: usize, name: &[u8], numbers: &[u8]) -> usize
 }
 
 // The three lines of a survivor.
-pub fn put_survivor(out: &mut [u8], mutant: &[u8], sequence: &[u8]) -> usize
+pub(crate) fn put_survivor(out: &mut [u8], mutant: &[u8], sequence: &[u8]) -> usize
     requires { ⌜ 21 + 4 * length (now mutant) + 4 * length (now sequence) ≤ length (now out) ⌝ }
     ensures { λ r. ⌜ Appended (now (out .entry)) (now (out .exit)) 0 r (survivorLines (now (mutant .entry)) (now (sequence .entry))) ⌝ }
 {
@@ -78,7 +78,7 @@ pub fn put_survivor(out: &mut [u8], mutant: &[u8], sequence: &[u8]) -> usize
 }
 
 // The line of a refusal: at most 3 digits for the number and 20 for the place.
-pub fn put_refused(out: &mut [u8], number: u8, place: usize) -> usize
+pub(crate) fn put_refused(out: &mut [u8], number: u8, place: usize) -> usize
     requires { ⌜ 36 ≤ length (now out) ⌝ }
     ensures { λ r. ⌜ Appended (now (out .entry)) (now (out .exit)) 0 r (refusedLine number place) ⌝ }
 {

@@ -24,10 +24,9 @@ use Rattle.model.specs.laws.OperationLaw.{mutant-length, in-range-at, in-range}
 use Rattle.block.specs.Layout.{choicesOf, slotsOf}
 use Rattle.block.specs.Tabled.{Tabled}
 use Rattle.block.specs.laws.TabledLaw.{getD-default, start-same, pair-same, ranged, gives-same, well-formed}
-use Rattle.cubes.specs.Cube.{Sought, Meets as Asked}
+use Rattle.cubes.specs.Cube.{Sought, Meets as Asked, Extends, NoneIf}
 use Rattle.cubes.specs.declared.goal.Goal.{Goal}
 use Rattle.cubes.specs.declared.goal.Goal.the-variants.{Any, Nonconforming}
-use Rattle.refutation.specs.Refuting.{Extends, NoneIf}
 use Rattle.search.specs.declared.settle.Found.{Found}
 use Rattle.search.specs.declared.settle.Found.the-variants.{Nothing, First, GaveUp}
 use Rattle.search.proofs.settle.Found.{the-type}

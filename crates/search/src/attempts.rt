@@ -37,7 +37,7 @@ fn no_facts() -> [u16; 832]
     [0u16; 832]
 }
 
-// Notes without room for hints, and with it.
+// The notes of a quick attempt, and of a thorough one.
 fn short_notes() -> [u16; SHORT] {
     [0u16; SHORT]
 }
@@ -47,46 +47,16 @@ fn long_notes() -> [u16; LONG] {
 }
 
 // The first wanted mutant by a search with a store of refutations.
-fn find_thoroughly(
-    block: &[u8; 1604],
-    facts: &[u16; 832],
-    ready: bool,
-    log: &[u16],
-    goal: Goal,
-    nodes: &mut u32,
-) -> Attempt
-    requires { ⌜ ((sh : Sheet) × ForSheet sh (now block) (now log)) × (ready ≡ true → Ready (now block) (now facts)) ⌝ }
-    ensures { λ r. ⌜ ((sh : Sheet) → ForSheet sh (now (block .entry)) (now (log .entry)) → Answers goal sh nothingSettled 0 (r .found) (r .choices)) ⌝ }
-    ensures { λ r. ⌜ (r .found ≡ GaveUp → ⊥) ⌝ }
-{
-    let mut store = fresh_store();
-    let mut notes = long_notes();
-    let found = search(
-        block,
-        facts,
-        ready,
-        log,
-        goal,
-        &mut store,
-        &mut notes,
-        unsettled(),
-        0,
-    );
-    *nodes = std::num::wrapping_add_u32(*nodes, refutation::nodes(&notes));
-    found
-}
-
-// The same; first by a quick search, which keeps no refutations and may give up.
-fn find(block: &[u8; 1604], log: &[u16], goal: Goal, nodes: &mut u32) -> Attempt
+fn find_thoroughly(block: &[u8; 1604], log: &[u16], goal: Goal, nodes: &mut u32) -> Attempt
     requires { ⌜ ((sh : Sheet) × ForSheet sh (now block) (now log)) ⌝ }
     ensures { λ r. ⌜ ((sh : Sheet) → ForSheet sh (now (block .entry)) (now (log .entry)) → Answers goal sh nothingSettled 0 (r .found) (r .choices)) ⌝ }
     ensures { λ r. ⌜ (r .found ≡ GaveUp → ⊥) ⌝ }
 {
     let mut facts = no_facts();
     let ready = prepare(block, log, &mut facts);
-    let mut store = no_store();
-    let mut notes = short_notes();
-    let quick = search(
+    let mut store = fresh_store();
+    let mut notes = long_notes();
+    let found = search(
         block,
         &facts,
         ready,
@@ -97,10 +67,34 @@ fn find(block: &[u8; 1604], log: &[u16], goal: Goal, nodes: &mut u32) -> Attempt
         unsettled(),
         0,
     );
-    *nodes = refutation::nodes(&notes);
+    *nodes = std::num::wrapping_add_u32(*nodes, leaves::nodes(&notes));
+    found
+}
+
+// The same; first by a quick search, which needs no facts, keeps no refutations and may give up.
+fn find(block: &[u8; 1604], log: &[u16], goal: Goal, nodes: &mut u32) -> Attempt
+    requires { ⌜ ((sh : Sheet) × ForSheet sh (now block) (now log)) ⌝ }
+    ensures { λ r. ⌜ ((sh : Sheet) → ForSheet sh (now (block .entry)) (now (log .entry)) → Answers goal sh nothingSettled 0 (r .found) (r .choices)) ⌝ }
+    ensures { λ r. ⌜ (r .found ≡ GaveUp → ⊥) ⌝ }
+{
+    let facts = no_facts();
+    let mut store = no_store();
+    let mut notes = short_notes();
+    let quick = search(
+        block,
+        &facts,
+        false,
+        log,
+        goal,
+        &mut store,
+        &mut notes,
+        unsettled(),
+        0,
+    );
+    *nodes = leaves::nodes(&notes);
     let found = quick.found;
     match found {
-        Found::GaveUp => find_thoroughly(block, &facts, ready, log, goal, nodes),
+        Found::GaveUp => find_thoroughly(block, log, goal, nodes),
         Found::Nothing | Found::First => quick,
     }
 }

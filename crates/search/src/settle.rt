@@ -5,13 +5,15 @@ use block::slots;
 use block::wide;
 use cubes::goal::Goal;
 use refutation::none_from;
-use refutation::spent;
+use walks::spent;
 ghost use mathlib.Core.Path.{_≡_};
 ghost use mathlib.Core.Bool.{true};
 ghost use lib.ListN.{length};
 ghost use Rattle.sheet.specs.Sheet.{Sheet};
 ghost use Rattle.refutation.specs.Store.{StoreOk};
-ghost use Rattle.refutation.specs.Refuting.{Ready, NoneIf};
+ghost use Rattle.cubes.specs.Cube.{NoneIf};
+ghost use Rattle.block.specs.Tabulated.{Wf};
+ghost use Rattle.refutation.specs.Refuting.{Ready};
 ghost use Rattle.search.specs.declared.settle.Found.the-variants.{GaveUp};
 ghost use Rattle.search.specs.Search.{Searching, Answers, foundIf};
 
@@ -28,7 +30,7 @@ pub(crate) struct Attempt {
     pub choices: [u16; 32],
 }
 
-// Whether the engine refutes the prefix: never without facts.
+// Whether the prefix is refuted: without a store by walks along the log, with one by the facts, where there are any.
 fn refuted(
     block: &[u8; 1604],
     facts: &[u16; 832],
@@ -39,9 +41,12 @@ fn refuted(
     notes: &mut [u16],
     p: &[u16; 32],
 ) -> bool
-    requires { ⌜ (ready ≡ true → Ready (now block) (now facts)) × StoreOk goal (now block) (now log) (now store) ⌝ }
+    requires { ⌜ Wf (now block) × (ready ≡ true → Ready (now block) (now facts)) × StoreOk goal (now block) (now log) (now store) ⌝ }
     ensures { λ r. ⌜ NoneIf goal (now (block .entry)) (now (log .entry)) (now (p .entry)) r × StoreOk goal (now (block .entry)) (now (log .entry)) (now (store .exit)) ⌝ }
 {
+    if store.len() == 0 {
+        return walks::none_from(block, log, goal, notes, p);
+    }
     if !ready {
         return false;
     }
@@ -64,7 +69,7 @@ fn settled(wanted: bool, p: [u16; 32]) -> Attempt
     }
 }
 
-// The first wanted mutant of those that begin as p's first i choices. With an empty store it gives up where its notes are spent.
+// The first wanted mutant of those that begin as p's first i choices. Without a store it gives up where its notes are spent.
 // The number still unsettled falls.
 pub(crate) fn search(
     block: &[u8; 1604],

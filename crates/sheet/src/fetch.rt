@@ -1,4 +1,4 @@
-// The reader: every command byte and every operand of a sheet is read here.
+// The reader: every command byte and every operand that this crate reads is read here.
 ghost use mathlib.Core.Path.{_≡_};
 ghost use Prim.Native.Nat.{_+_, _≤_};
 ghost use lib.ListN.{length};

@@ -1,4 +1,6 @@
-// Reading sheets: the layer below, which knows nothing of mutants.
+// The sheet format: reading a sheet, the part of one test, the tables of an accepted sheet. It knows nothing of mutants.
+// Promises the answers of Read and One test's part for every string of bytes, and every entry of the tables that it hands over.
+// Called by users, and by `writing`, `block`, `mutation`, `report` and `capi`.
 ghost use denote.Ref.{ptr};
 ghost use mathlib.Core.Path.{_≡_};
 ghost use Rattle.sheet.specs.Reading as reading;

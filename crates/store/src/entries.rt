@@ -1,5 +1,6 @@
 // Entries of the store, read and written. Which entry is written, and what is noted of its age and of the suspects it speaks of,
 // steers only.
+use crate::live::admit;
 use block::wide;
 use block::wide16;
 use leaves::ANY;
@@ -198,6 +199,7 @@ pub fn learn(store: &mut [u32], notes: &mut [u16], ok: bool, cube: &[u32; 32])
         return;
     }
     write(store, e, cube);
+    admit(notes, e);
 }
 
 // The literals of an entry in use.

@@ -1,5 +1,8 @@
-// Cubes in which no mutant is sought, kept in a lent slice of numbers (specs/Store.antt says how). For the crate `refutation`.
+// Cubes in which no mutant is sought, kept in a lent slice of numbers (specs/Store.antt says how).
+// Promises that a right store stays one, and that no mutant is sought in a cube that it hands out.
+// Called by `refutation`, which shows what its functions require.
 mod entries;
+mod live;
 mod scan;
 
 pub use entries::Told;
@@ -8,5 +11,6 @@ pub use entries::learn;
 pub use entries::no_store;
 pub use entries::room;
 pub use entries::unknown;
+pub use live::admit_all;
 pub use scan::find;
 pub use scan::look_up;

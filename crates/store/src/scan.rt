@@ -4,7 +4,10 @@ use crate::entries::hand_out;
 use crate::entries::room;
 use crate::entries::spot;
 use crate::entries::unknown;
+use crate::live::level;
+use crate::live::noted_at;
 use block::wide16;
+use block::wide32;
 use cubes::literals::lit_next;
 use cubes::literals::lit_out;
 use cubes::literals::means;
@@ -12,8 +15,10 @@ use cursors::mark;
 use leaves::DEAD;
 use leaves::FILLED;
 use leaves::HINTS;
+use leaves::add;
 use leaves::low;
 use leaves::note;
+use leaves::set_note;
 ghost use Prim.Native.Nat.{_+_, _*_, _<_, _≤_};
 ghost use lib.ListN.{length};
 ghost use Rattle.store.specs.Store.{Kept, Tells};
@@ -83,24 +88,6 @@ fn mark_entry(store: &[u32], notes: &mut [u16], e: usize, j: usize)
     );
 }
 
-// Whether an entry has the settled part. Of one that lacks a single suspect the meaning there is noted.
-fn weigh(store: &[u32], notes: &mut [u16], p: &[u8; 32], settled: u32, e: usize) -> bool
-    requires { ⌜ e * 34 + 34 ≤ length (now store) ⌝ }
-{
-    let open = open_in(store, e, settled);
-    if open == 0 {
-        return agrees(store, e, p, settled);
-    }
-    if without_least(open) > 0 {
-        return false;
-    }
-    if !agrees(store, e, p, settled) {
-        return false;
-    }
-    mark_entry(store, notes, e, least(open));
-    false
-}
-
 // How many entries are filled.
 fn filled(store: &[u32], notes: &[u16]) -> usize
     ensures { λ r. ⌜ r * 34 ≤ length (now (store .entry)) ⌝ }
@@ -113,15 +100,65 @@ fn filled(store: &[u32], notes: &[u16]) -> usize
     end
 }
 
+// What an entry is to a settled part: it disagrees, it agrees as far as that goes, or it has the part.
+enum Fit {
+    Disagrees,
+    Agrees,
+    Has,
+}
+
+// Of an entry that agrees and lacks a single suspect the meaning there is noted.
+fn weigh(store: &[u32], notes: &mut [u16], p: &[u8; 32], settled: u32, e: usize) -> Fit {
+    if e >= filled(store, notes) {
+        return Fit::Disagrees;
+    }
+    if !agrees(store, e, p, settled) {
+        return Fit::Disagrees;
+    }
+    let open = open_in(store, e, settled);
+    if open == 0 {
+        return Fit::Has;
+    }
+    if without_least(open) == 0 {
+        mark_entry(store, notes, e, least(open));
+    }
+    Fit::Agrees
+}
+
+// Of the entries from 16 * w on, one that has the settled part; past the last if there is none. Those that agree are noted for the
+// parts with one more suspect.
+fn scan_word(store: &[u32], notes: &mut [u16], p: &[u8; 32], settled: u32, w: usize) -> usize
+    requires { ⌜ w < 32 ⌝ }
+{
+    let n = level(settled);
+    let mut left = wide32(note(notes, noted_at(n, w)));
+    let mut live: u16 = 0;
+    while left > 0 {
+        let e = w * 16 + least(left);
+        match weigh(store, notes, p, settled, e) {
+            Fit::Has => {
+                return e;
+            }
+            Fit::Agrees => {
+                live = add(live, (e % 16) as u8);
+            }
+            Fit::Disagrees => {}
+        }
+        left = without_least(left);
+    }
+    set_note(notes, noted_at(n + 1, w), live);
+    room(store)
+}
+
 // An entry that has the settled part; past the last if there is none.
 fn scan(store: &[u32], notes: &mut [u16], p: &[u8; 32], settled: u32) -> usize {
-    let end = filled(store, notes);
-    let mut e: usize = 0;
-    while e < end {
-        if weigh(store, notes, p, settled, e) {
+    let mut w: usize = 0;
+    while w < 32 {
+        let e = scan_word(store, notes, p, settled, w);
+        if e < room(store) {
             return e;
         }
-        e += 1;
+        w += 1;
     }
     room(store)
 }

@@ -2,48 +2,27 @@
 use mathlib.Core.Path.{_≡_, sym, ap, _∙_, subst}
 use mathlib.Core.Bool.{Bool, true, false}
 use mathlib.Core.List.{List}
-use Prim.Native.Nat.{ℕ, _+_, _*_, _<_, _≤_, _^_}
+use Prim.Native.Nat.{ℕ, _+_, _*_, _<_, _≤_}
 use native.Mathlib.Omega.{arith}
-use native.Mathlib.Decide.{ℕ-discrete}
 use borrow.Author.Count.{below-more}
-use lib.ListN.{length, getD, set, length-set}
-use lib.Seq.{getD-set-same, getD-set-other}
+use lib.ListN.{length, getD}
 use Rattle.sheet.specs.laws.Basics.{never}
-use Rattle.cubes.specs.Sets.{Has, Joined}
+use Rattle.cubes.specs.Sets.{Has, Grows, Put}
 use Rattle.block.specs.Layout.{siteAt, choicesOf}
-use Rattle.block.specs.Tabulated.{Wf, choicesAt, choiceOf}
+use Rattle.block.specs.Tabulated.{Wf, choiceOf}
 use Rattle.block.specs.Tabulated.{StepIs}
 use Rattle.block.specs.declared.layout.Step.{Step}
 use Rattle.block.specs.laws.ChoiceLaw.{choice-at, choice-low}
 use Rattle.cubes.specs.Cube.{FreeOk}
-use Rattle.cubes.specs.Tables.{Grows, Put, ChoiceIn, PairIn, Entered, PairEntered, AllEntered}
-use Rattle.cubes.specs.laws.SetLaw.{one-same}
-
-pub put-one : {old : List ℕ} (at s e u : ℕ) → length old ≡ 832 → at < 832 → e ≡ 2 ^ s → Joined (getD old at 0) e u → Put old (set old at u) at s
-put-one {old} at s e u len l ee jo = record {
-  grows = record { long = length-set old at u ∙ len; more = λ j t. go j t (ℕ-discrete j at) };
-  here = subst (λ (y : ℕ). Has y s) (sym same) (jo .right s (subst (λ (y : ℕ). Has y s) (sym ee) (one-same s)));
-}
-  where
-    same : getD (set old at u) at 0 ≡ u
-    same = getD-set-same old at u 0 (omega (arith, len))
-
-    go : (j t : ℕ) → Dec (j ≡ at) → Has (getD old j 0) t → Has (getD (set old at u) j 0) t
-    go j t (yes w) h = subst (λ (y : ℕ). Has y t) (sym (ap (λ (y : ℕ). getD (set old at u) y 0) w ∙ same)) (jo .left t (subst (λ (y : ℕ). Has (getD old y 0) t) w h))
-    go j t (no d) h = subst (λ (y : ℕ). Has y t) (sym (getD-set-other old at j u 0 d)) h
-
-grows-none : {old : List ℕ} → length old ≡ 832 → Grows old old
-grows-none l = record { long = l; more = λ j t h. h }
-
-grows-more : {a b c : List ℕ} → Grows a b → Grows b c → Grows a c
-grows-more f g = record { long = g .long; more = λ j t h. g .more j t (f .more j t h) }
+use Rattle.cubes.specs.Tables.{ChoiceIn, PairIn, Entered, PairEntered, AllEntered}
+use Rattle.cubes.specs.laws.SetLaw.{grows-none, grows-more}
 
 choice-more : {m old new : List ℕ} {k c : ℕ} → Grows old new → ChoiceIn m old k c → ChoiceIn m new k c
 choice-more g h = record { few = h .few; going = g .more _ _ (h .going); sounding = g .more _ _ (h .sounding) }
 
 -- ---- a choice
-pub entered-not : {m facts : List ℕ} {k c : ℕ} → length facts ≡ 832 → Entered m facts facts k c false
-entered-not l = record { grows = grows-none l; has = λ e. never (cc) }
+pub entered-not : {m facts : List ℕ} {k c : ℕ} → Entered m facts facts k c false
+entered-not = record { grows = grows-none; has = λ e. never (cc) }
 
 pub step-few : {m : List ℕ} {k i c : ℕ} {r : Step} → Wf m → k < 256 → i ≡ siteAt m k → i < 32 → c < choicesOf m i → StepIs m k c r → r .target < 16
 step-few {m} {k} {i} {c} wf lk ei li lc is =
@@ -71,14 +50,14 @@ pub record PairTo (m old new : List ℕ) (k c : ℕ) : Type 0 where
   pub grows : Grows old new
   pub at : (d : ℕ) → d < c → ChoiceIn m new k d
 
-pub pair-none : {m facts : List ℕ} {k : ℕ} → length facts ≡ 832 → PairTo m facts facts k 0
-pair-none l = record { grows = grows-none l; at = λ d l. absurd (omega arith) }
+pub pair-none : {m facts : List ℕ} {k : ℕ} → PairTo m facts facts k 0
+pair-none = record { grows = grows-none; at = λ d l. absurd (omega arith) }
 
 pub pair-more : {m old mid new : List ℕ} {k c : ℕ} (r : Bool) → PairTo m old mid k c → Entered m mid new k c r → r ≡ true → PairTo m old new k (c + 1)
 pair-more {c = c} r p en e = record { grows = grows-more (p .grows) (en .grows); at = below-more _ c (λ d l. choice-more (en .grows) (p .at d l)) (en .has e) }
 
-pub pair-skip : {m facts : List ℕ} {k : ℕ} → length facts ≡ 832 → siteAt m k ≡ 255 → PairEntered m facts facts k true
-pair-skip l e = record { grows = grows-none l; has = λ t. record { at = λ n. absurd (n e) } }
+pub pair-skip : {m facts : List ℕ} {k : ℕ} → siteAt m k ≡ 255 → PairEntered m facts facts k true
+pair-skip e = record { grows = grows-none; has = λ t. record { at = λ n. absurd (n e) } }
 
 pub pair-not : {m old mid new : List ℕ} {k c : ℕ} (r : Bool) → PairTo m old mid k c → Entered m mid new k c r → PairEntered m old new k false
 pair-not r p en = record { grows = grows-more (p .grows) (en .grows); has = λ e. never (cc) }
@@ -96,12 +75,12 @@ all-none l = record { long = l; at = λ j l. absurd (omega arith) }
 
 pub all-more : {m old new : List ℕ} {k : ℕ} (r : Bool) → AllTo m old k → PairEntered m old new k r → r ≡ true → AllTo m new (k + 1)
 all-more {k = k} r a en e = record {
-  long = en .grows .long;
+  long = en .grows .long ∙ a .long;
   at = below-more _ k (λ j l. record { at = λ n c lc. choice-more (en .grows) (a .at j l .at n c lc) }) (en .has e);
 }
 
-pub all-not : {m old new : List ℕ} {k : ℕ} (r : Bool) → PairEntered m old new k r → AllEntered m new false
-all-not r en = record { long = en .grows .long; has = λ e. never (cc) }
+pub all-not : {m old new : List ℕ} {k : ℕ} (r : Bool) → AllTo m old k → PairEntered m old new k r → AllEntered m new false
+all-not r a en = record { long = en .grows .long ∙ a .long; has = λ e. never (cc) }
 
 pub all-all : {m facts : List ℕ} {k : ℕ} → AllTo m facts k → 256 ≤ k → AllEntered m facts true
 all-all a l = record {

@@ -1,13 +1,16 @@
 -- One bit of a number, and so sets of numbers below 16.
 use mathlib.Core.Logic.{_⊎_, inl, inr}
-use mathlib.Core.Path.{_≡_, refl, sym, ap, _∙_}
+use mathlib.Core.Path.{_≡_, refl, sym, ap, _∙_, subst}
+use mathlib.Core.List.{List}
 use Prim.Native.Nat.{ℕ, zero, suc, _*_, _/_, _%_, _^_, _<_, max, min}
 use native.Mathlib.Nat.{div-eq-of-lt, mul-div-mul-right, pow-suc, div-one, zero-lt-suc}
 use native.Mathlib.Omega.{arith}
 use native.Mathlib.Decide.{ℕ-discrete}
 use lib.Bits.{bitOr, bitAnd, or-step, and-step, or-shr, and-shr}
+use lib.ListN.{length, getD, set, length-set}
+use lib.Seq.{getD-set-same, getD-set-other}
 use lib.Pow.{pow-lt, pow-pos, shl-exact}
-use Rattle.cubes.specs.Sets.{Has, HasAll, Joined}
+use Rattle.cubes.specs.Sets.{Has, HasAll, Joined, Grows, Put}
 use Rattle.cubes.specs.Cube.{Shared}
 
 or-odd : (a b : ℕ) → bitOr a b % 2 ≡ max (a % 2) (b % 2)
@@ -28,9 +31,9 @@ one-other zero (suc j) h = ap (λ (n : ℕ). n % 2) (div-eq-of-lt (pow-lt (zero-
 one-other (suc i) zero h = rw (pow-suc 2 i, div-one) (omega arith)
 one-other (suc i) (suc j) h = rw (pow-suc 2 i, pow-suc 2 j, mul-div-mul-right (2 ^ i) (2 ^ j) (zero-lt-suc 1)) (one-other i j (λ e. h (ap suc e)))
 
--- the code's `1 << i`
-pub one-shl : (i : ℕ) → i < 16 → (1 * 2 ^ i) % 2 ^ 16 ≡ 2 ^ i
-one-shl i h = shl-exact 1 i 16 (omega arith) (omega arith) ∙ omega arith
+-- the code's `1 << i` in w bits
+pub one-shl : (w i : ℕ) → i < w → (1 * 2 ^ i) % 2 ^ w ≡ 2 ^ i
+one-shl w i h = shl-exact 1 i w (omega arith) (omega arith) ∙ omega arith
 
 -- the empty set has no members
 pub nothing : (j : ℕ) → Has 0 j → ⊥
@@ -75,3 +78,23 @@ pub one-same : (i : ℕ) → Has (2 ^ i) i
 unfolding Has
 one-same zero = refl
 one-same (suc i) = rw (pow-suc 2 i, mul-div-mul-right (2 ^ i) (2 ^ i) (zero-lt-suc 1)) (one-same i)
+
+-- ---- tables of sets
+pub put-one : {old : List ℕ} (at s e u : ℕ) → at < length old → e ≡ 2 ^ s → Joined (getD old at 0) e u → Put old (set old at u) at s
+put-one {old} at s e u l ee jo = record {
+  grows = record { long = length-set old at u; more = λ j t. go j t (ℕ-discrete j at) };
+  here = subst (λ (y : ℕ). Has y s) (sym same) (jo .right s (subst (λ (y : ℕ). Has y s) (sym ee) (one-same s)));
+}
+  where
+    same : getD (set old at u) at 0 ≡ u
+    same = getD-set-same old at u 0 l
+
+    go : (j t : ℕ) → Dec (j ≡ at) → Has (getD old j 0) t → Has (getD (set old at u) j 0) t
+    go j t (yes w) h = subst (λ (y : ℕ). Has y t) (sym (ap (λ (y : ℕ). getD (set old at u) y 0) w ∙ same)) (jo .left t (subst (λ (y : ℕ). Has (getD old y 0) t) w h))
+    go j t (no d) h = subst (λ (y : ℕ). Has y t) (sym (getD-set-other old at j u 0 d)) h
+
+pub grows-none : {old : List ℕ} → Grows old old
+grows-none = record { long = refl; more = λ j t h. h }
+
+pub grows-more : {a b c : List ℕ} → Grows a b → Grows b c → Grows a c
+grows-more f g = record { long = g .long ∙ f .long; more = λ j t h. g .more j t (f .more j t h) }

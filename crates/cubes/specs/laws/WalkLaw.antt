@@ -68,7 +68,7 @@ on-all on l = record { at = λ q h. on .at q (omega arith) }
 -- ---- the log at an offset
 module _ (move : ℕ → ℕ → Move) (start : ℕ) where
   -- what gives a log gives each later part of it from some state
-  later-part : (log : List ℕ) (i s : ℕ) → GivesFrom move start s (observations log) → (q : ℕ) × GivesFrom move start q (observations (drop i log))
+  pub later-part : (log : List ℕ) (i s : ℕ) → GivesFrom move start s (observations log) → (q : ℕ) × GivesFrom move start q (observations (drop i log))
   unfolding GivesFrom
   later-part log zero s g = (s, g)
   later-part [] (suc i) s g = (s, g)
@@ -83,12 +83,12 @@ module _ (move : ℕ → ℕ → Move) (start : ℕ) where
   at-offset log at s l g = rw add-one (subst (λ (r : List ℕ). GivesFrom move start s (observations r)) (drop-cons log at 0 l) g)
 
   -- a reset
-  after-reset : (log : List ℕ) (at s : ℕ) → at < length log → getD log at 0 ≡ 256 → GivesFrom move start s (observations (drop at log)) → GivesFrom move start start (observations (drop (at + 1) log))
+  pub after-reset : (log : List ℕ) (at s : ℕ) → at < length log → getD log at 0 ≡ 256 → GivesFrom move start s (observations (drop at log)) → GivesFrom move start start (observations (drop (at + 1) log))
   unfolding GivesFrom observation
   after-reset log at s l e g = rw e at (at-offset log at s l g)
 
   -- an input with its output
-  after-seen : (log : List ℕ) (at s : ℕ) → at < length log → (getD log at 0 ≡ 256 → ⊥) → GivesFrom move start s (observations (drop at log))
+  pub after-seen : (log : List ℕ) (at s : ℕ) → at < length log → (getD log at 0 ≡ 256 → ⊥) → GivesFrom move start s (observations (drop at log))
       → (move s (getD log at 0 / 16) .output ≡ getD log at 0 % 16) × GivesFrom move start (move s (getD log at 0 / 16) .target) (observations (drop (at + 1) log))
   unfolding GivesFrom observation
   after-seen log at s l n g = rw (ne-eqb (getD log at 0) 256 n) at (at-offset log at s l g)

@@ -37,11 +37,4 @@ returns-3 c =
 
 pub generate-spec : {M : Type 1} → statement M
 generate-spec =
-    tie.close
-    (tie.spec
-    (λ c κs. search needs)
-    returns
-    returns-2
-    spell-requires
-    (λ c. search needs)
-    returns-3)
+    tie.close (tie.spec (λ c κs. search needs) returns returns-2 spell-requires (λ c. search needs) returns-3)

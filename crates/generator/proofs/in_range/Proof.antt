@@ -14,16 +14,9 @@ returns-2 c =
     let at-one-to-sixteen = c .before .before .before in
     rw (sym (at-one-to-sixteen .one-to-sixteen .ensures) ∙ c .before .before .if1 .taken, sym (c .before .one-to-sixteen2 .ensures) ∙ c .if2 .left)
 
-returns-3 : tie.Need-returns-3
-returns-3 c = rw (sym (c .before .one-to-sixteen .ensures) ∙ c .if1 .left)
-
 pub in-range-spec : {M : Type 1} → statement M
 in-range-spec =
     tie.close
     (tie.spec
-    (λ c κs. search needs)
-    (λ c κs. search needs)
-    (λ c κs. search needs)
-    returns
-    returns-2
-    returns-3)
+    (λ c κs. search needs) (λ c κs. search needs) (λ c κs. search needs) returns returns-2
+    (λ c. rw (sym (c .before .one-to-sixteen .ensures) ∙ c .if1 .left)))

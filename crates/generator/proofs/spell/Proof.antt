@@ -63,18 +63,6 @@ pub spell-spec : {M : Type 1} → statement M
 spell-spec =
     tie.close
     (tie.spec
-    (λ c. search needs)
-    (λ c. search needs)
-    (λ c κs. search needs)
-    (λ c κs. search needs)
-    mul-ruled
-    mul-faulted
-    array-share-prefix-rules
-    slice-aggregate-write
-    array-share-prefix-faults
-    slice-aggregate-write-2
-    (λ c. search needs)
-    (λ c. search needs)
-    (λ c κs. search needs)
-    (λ c. search needs)
-    returns)
+    (λ c. search needs) (λ c. search needs) (λ c κs. search needs) (λ c κs. search needs) mul-ruled mul-faulted
+    array-share-prefix-rules slice-aggregate-write array-share-prefix-faults slice-aggregate-write-2 (λ c. search needs)
+    (λ c. search needs) (λ c κs. search needs) (λ c. search needs) returns)

@@ -1,82 +1,18 @@
 -- The bytes that were read, and those to print, lie in their buffers.
 use borrow.Author.Needs.{needs}
-use Rattle.report.proofs.TextLaws.{appended-front}
+use Rattle.report.specs.laws.TextLaw.{appended-front}
 use Rattle.judge.proofs.main.Statement.{statement}
 use Rattle.judge.proofs.main.Tie as tie
-
-slice-aggregate-read-input : tie.Need-slice-aggregate-read-input
-slice-aggregate-read-input c = search needs
-
-read-input-requires : tie.Need-read-input-requires
-read-input-requires c κs = search needs
-
-enum-known-n : tie.Need-enum-known-n
-enum-known-n c = search needs
-
-enum-told : tie.Need-enum-told
-enum-told c = search needs
-
-slice-aggregate-write-all : tie.Need-slice-aggregate-write-all
-slice-aggregate-write-all c = search needs
-
-write-all-requires : tie.Need-write-all-requires
-write-all-requires c κs = search needs
-
-returns : tie.Need-returns
-returns c = search needs
-
-array-share-prefix-buffer : tie.Need-array-share-prefix-buffer
-array-share-prefix-buffer c = (rw (c .before .n .given .1) at (c .before .before .before .before .read-input .ensures)) .0
-
-slice-aggregate-report : tie.Need-slice-aggregate-report
-slice-aggregate-report c = (rw (c .before .before .n .given .1) at (c .before .before .before .before .before .read-input .ensures)) .1
-
-slice-aggregate-report-2 : tie.Need-slice-aggregate-report-2
-slice-aggregate-report-2 c = search needs
-
-report-requires : tie.Need-report-requires
-report-requires c κs = search needs
-
-array-share-prefix-text : tie.Need-array-share-prefix-text
-array-share-prefix-text c = appended-front (c .before .report .ensures) .0
-
-slice-aggregate-write-all-2 : tie.Need-slice-aggregate-write-all-2
-slice-aggregate-write-all-2 c = appended-front (c .before .before .report .ensures) .1
-
-write-all-requires-2 : tie.Need-write-all-requires-2
-write-all-requires-2 c κs = search needs
-
-slice-aggregate-write-all-3 : tie.Need-slice-aggregate-write-all-3
-slice-aggregate-write-all-3 c = search needs
-
-write-all-requires-3 : tie.Need-write-all-requires-3
-write-all-requires-3 c κs = search needs
-
-returns-2 : tie.Need-returns-2
-returns-2 c = search needs
-
-returns-3 : tie.Need-returns-3
-returns-3 c = search needs
 
 pub main-spec : {M : Type 1} → statement M
 main-spec =
     tie.close
     (tie.spec
-    slice-aggregate-read-input
-    read-input-requires
-    enum-known-n
-    enum-told
-    slice-aggregate-write-all
-    write-all-requires
-    returns
-    array-share-prefix-buffer
-    slice-aggregate-report
-    slice-aggregate-report-2
-    report-requires
-    array-share-prefix-text
-    slice-aggregate-write-all-2
-    write-all-requires-2
-    slice-aggregate-write-all-3
-    write-all-requires-3
-    returns-2
-    returns-3)
+    (λ c. search needs) (λ c κs. search needs) (λ c. search needs) (λ c. search needs) (λ c. search needs) (λ c κs. search needs)
+    (λ c. search needs)
+    (λ c. (rw (c .before .n .given .1) at (c .before .before .before .before .read-input .ensures)) .0)
+    (λ c. (rw (c .before .before .n .given .1) at (c .before .before .before .before .before .read-input .ensures)) .1)
+    (λ c. search needs) (λ c κs. search needs)
+    (λ c. appended-front (c .before .report .ensures) .0)
+    (λ c. appended-front (c .before .before .report .ensures) .1)
+    (λ c κs. search needs) (λ c. search needs) (λ c κs. search needs) (λ c. search needs) (λ c. search needs))

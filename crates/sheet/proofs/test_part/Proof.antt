@@ -5,18 +5,6 @@ use borrow.Author.Needs.{needs}
 use Rattle.sheet.proofs.test_part.Statement.{statement}
 use Rattle.sheet.proofs.test_part.Tie as tie
 
-test-span-requires : tie.Need-test-span-requires
-test-span-requires c κs = search needs
-
-enum-known-parting : tie.Need-enum-known-parting
-enum-known-parting c = search needs
-
-enum-told : tie.Need-enum-told
-enum-told c = search needs
-
-slice-aggregate-result : tie.Need-slice-aggregate-result
-slice-aggregate-result c = search needs
-
 returns : tie.Need-returns
 returns c =
     let a = c .before .before .before .before .before .args in
@@ -36,12 +24,6 @@ add-end c =
     let t = at-test-span .test-span in
     let k = laws.part-room s (a .i) (t .result) _ (t .ensures) (c .before .before .parting .given .1) in
     omega arith
-
-sub-result : tie.Need-sub-result
-sub-result c = search needs
-
-part-result-start : tie.Need-part-result-start
-part-result-start c = search needs
 
 part-result-end : tie.Need-part-result-end
 part-result-end c =
@@ -68,13 +50,5 @@ pub test-part-spec : {M : Type 1} → statement M
 test-part-spec =
     tie.close
     (tie.spec
-    test-span-requires
-    enum-known-parting
-    enum-told
-    slice-aggregate-result
-    returns
-    add-end
-    sub-result
-    part-result-start
-    part-result-end
-    returns-2)
+    (λ c κs. search needs) (λ c. search needs) (λ c. search needs) (λ c. search needs) returns add-end (λ c. search needs)
+    (λ c. search needs) part-result-end returns-2)

@@ -8,18 +8,6 @@ use borrow.Author.Needs.{needs}
 use Rattle.sheet.proofs.test_span.Statement.{statement}
 use Rattle.sheet.proofs.test_span.Tie as tie
 
-read-requires : tie.Need-read-requires
-read-requires c κs = search needs
-
-enum-known-reading : tie.Need-enum-known-reading
-enum-known-reading c = search needs
-
-enum-told : tie.Need-enum-told
-enum-told c = search needs
-
-refusal-of-requires : tie.Need-refusal-of-requires
-refusal-of-requires c κs = search needs
-
 returns : tie.Need-returns
 returns c =
     let at-read = c .before .before .before in
@@ -105,15 +93,5 @@ pub test-span-spec : {M : Type 1} → statement M
 test-span-spec =
     tie.close
     (tie.spec
-    read-requires
-    enum-known-reading
-    enum-told
-    refusal-of-requires
-    returns
-    mul-place
-    add-place
-    mul-place-2
-    add-place-2
-    test-from-requires
-    returns-2
-    returns-3)
+    (λ c κs. search needs) (λ c. search needs) (λ c. search needs) (λ c κs. search needs) returns mul-place add-place mul-place-2
+    add-place-2 test-from-requires returns-2 returns-3)

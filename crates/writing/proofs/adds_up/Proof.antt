@@ -16,18 +16,6 @@ Inv-loop lengths presses left₀ i₀ left i = total lengths + left ≡ presses 
 abbrev μ-loop : tie.MeasureT-loop
 μ-loop lengths presses left₀ i₀ left i = length lengths - i
 
-loop-holds : tie.Need-loop-holds Inv-loop μ-loop
-loop-holds c = omega arith
-
-mul-wide : tie.Need-mul-wide Inv-loop μ-loop
-mul-wide c = search needs
-
-shared-slice-read-wide : tie.Need-shared-slice-read-wide Inv-loop μ-loop
-shared-slice-read-wide c = search needs
-
-wide-requires : tie.Need-wide-requires Inv-loop μ-loop
-wide-requires c κs = search needs
-
 returns : tie.Need-returns Inv-loop μ-loop
 returns c =
     let at-loop-test = c .before .before .before in
@@ -35,12 +23,6 @@ returns c =
     let entry = at-loop .before .before in
     let a = entry .args in
     sym (ne-eqb (total (a .lengths .now)) (a .presses) (λ e. omega (arith, at-loop .loop .inv, total-next (a .lengths .now) (at-loop .loop .i) (c .before .wide .result) (c .before .wide .ensures) (at-loop-test .loop-test .taken))))
-
-add-i : tie.Need-add-i Inv-loop μ-loop
-add-i c = search needs
-
-loop-less : tie.Need-loop-less Inv-loop μ-loop
-loop-less c = search needs
 
 loop-again : tie.Need-loop-again Inv-loop μ-loop
 loop-again c =
@@ -58,4 +40,9 @@ returns-2 c =
 
 pub adds-up-spec : {M : Type 1} → statement M
 adds-up-spec =
-    tie.close (tie.spec Inv-loop μ-loop loop-holds mul-wide shared-slice-read-wide wide-requires returns add-i loop-less loop-again returns-2)
+    tie.close
+    (tie.spec
+    Inv-loop μ-loop
+    (λ c. omega arith)
+    (λ c. search needs) (λ c. search needs) (λ c κs. search needs) returns (λ c. search needs) (λ c. search needs) loop-again
+    returns-2)

@@ -19,9 +19,6 @@ returns-2 c size =
     let a = entry .args in
     rw (eq-eqb (length (a .rules .now) % 4) 0 (c .before .if1 .left), ne-eqb (length (a .faults .now) % 4) 0 (c .if2 .taken)) refl
 
-adds-up-requires : tie.Need-adds-up-requires
-adds-up-requires c κs = search needs
-
 returns-3 : tie.Need-returns-3
 unfolding isCut
 returns-3 c size =
@@ -30,4 +27,5 @@ returns-3 c size =
     rw (eq-eqb (length (a .rules .now) % 4) 0 (c .before .before .if1 .left), eq-eqb (length (a .faults .now) % 4) 0 (c .before .if2 .left), c .adds-up .ensures) refl
 
 pub is-cut-spec : {M : Type 1} → statement M
-is-cut-spec = tie.close (tie.spec returns returns-2 adds-up-requires returns-3)
+is-cut-spec =
+    tie.close (tie.spec returns returns-2 (λ c κs. search needs) returns-3)

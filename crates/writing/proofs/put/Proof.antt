@@ -5,18 +5,6 @@ use Rattle.writing.proofs.WriteLaw.{puts-refused, puts-accepted, placed
 use Rattle.writing.proofs.put.Statement.{statement}
 use Rattle.writing.proofs.put.Tie as tie
 
-read-requires : tie.Need-read-requires
-read-requires c κs = search needs
-
-enum-told : tie.Need-enum-told
-enum-told c = search needs
-
-enum-told-2 : tie.Need-enum-told-2
-enum-told-2 c = search needs
-
-refusal-of-requires : tie.Need-refusal-of-requires
-refusal-of-requires c κs = search needs
-
 returns : tie.Need-returns
 returns c =
     let at-read = c .before .before .before in
@@ -31,12 +19,6 @@ returns-2 c =
     let a = entry .args in
     puts-refused _ 16 (a .buffer .now) (placed-short (a .sheet .now) (length (a .buffer .now)) (at-read .read .result) (at-read .read .ensures) _ (c .before .enum-told .given .1) (c .if1 .taken))
 
-bytes-requires : tie.Need-bytes-requires
-bytes-requires c κs = search needs
-
-same-length : tie.Need-same-length
-same-length c = search needs
-
 returns-3 : tie.Need-returns-3
 returns-3 c =
     let at-if1 = c .before .before .before .before in
@@ -50,12 +32,5 @@ pub put-spec : {M : Type 1} → statement M
 put-spec =
     tie.close
     (tie.spec
-    read-requires
-    enum-told
-    enum-told-2
-    refusal-of-requires
-    returns
-    returns-2
-    bytes-requires
-    same-length
-    returns-3)
+    (λ c κs. search needs) (λ c. search needs) (λ c. search needs) (λ c κs. search needs) returns returns-2 (λ c κs. search needs)
+    (λ c. search needs) returns-3)

@@ -10,18 +10,12 @@ use Rattle.writing.proofs.WriteLaw.{write-cut, write-long, spell-room, 
 use Rattle.writing.proofs.write.Statement.{statement}
 use Rattle.writing.proofs.write.Tie as tie
 
-is-cut-requires : tie.Need-is-cut-requires
-is-cut-requires c κs = search needs
-
 returns : tie.Need-returns
 returns c =
     let entry = c .before .before .before .before .before .before .before in
     let a = entry .args in
     let d = drawing (a .size) (a .rules .now) (a .faults .now) (a .lengths .now) (a .presses .now) in
     write-cut d (length (a .buffer .now)) (a .buffer .now) (sym (c .before .is-cut .ensures (a .size)) ∙ c .if1 .taken)
-
-is-long-requires : tie.Need-is-long-requires
-is-long-requires c κs = search needs
 
 returns-2 : tie.Need-returns-2
 returns-2 c =
@@ -30,9 +24,6 @@ returns-2 c =
     let a = entry .args in
     let d = drawing (a .size) (a .rules .now) (a .faults .now) (a .lengths .now) (a .presses .now) in
     write-long d (length (a .buffer .now)) (sym (at-is-cut .is-cut .ensures (a .size)) ∙ c .before .before .if1 .left) (c .before .is-long .result) (c .before .is-long .ensures) (a .buffer .now) (c .if2 .taken)
-
-slice-aggregate-spell : tie.Need-slice-aggregate-spell
-slice-aggregate-spell c = search needs
 
 spell-requires : tie.Need-spell-requires
 spell-requires c κs =
@@ -65,12 +56,6 @@ slice-aggregate-put c =
     let d = drawing (a .size) (a .rules .now) (a .faults .now) (a .lengths .now) (a .presses .now) in
     sym (length-take-le _ _ (spelled-inside d (length (a .buffer .now)) (sym (at-is-cut .is-cut .ensures (a .size)) ∙ at-if1 .if1 .left) (at-is-long .is-long .result) (at-is-long .is-long .ensures) (at-if2 .if2 .left) (c .before .before .spell .ensures)))
 
-put-requires : tie.Need-put-requires
-put-requires c κs = search needs
-
-same-length : tie.Need-same-length
-same-length c = search needs
-
 returns-3 : tie.Need-returns-3
 returns-3 c =
     let at-spell = c .before .before .before .before .before .before in
@@ -87,14 +72,5 @@ pub write-spec : {M : Type 1} → statement M
 write-spec =
     tie.close
     (tie.spec
-    is-cut-requires
-    returns
-    is-long-requires
-    returns-2
-    slice-aggregate-spell
-    spell-requires
-    array-share-prefix-sheet
-    slice-aggregate-put
-    put-requires
-    same-length
-    returns-3)
+    (λ c κs. search needs) returns (λ c κs. search needs) returns-2 (λ c. search needs) spell-requires array-share-prefix-sheet
+    slice-aggregate-put (λ c κs. search needs) (λ c. search needs) returns-3)

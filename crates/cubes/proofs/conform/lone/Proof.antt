@@ -4,17 +4,14 @@ use borrow.Author.Needs.{needs}
 use Rattle.cubes.proofs.conform.lone.Statement.{statement}
 use Rattle.cubes.proofs.conform.lone.Tie as tie
 
-transition-requires : tie.Need-transition-requires
-transition-requires c κs = search needs
-
-returns : tie.Need-returns
-returns c = λ e. never (cc)
-
-holds-requires : tie.Need-holds-requires
-holds-requires c κs = lone-low (c .before .before .before .pre .0) (c .before .before .before .pre .1) (c .before .before .before .pre .2) (c .before .before .transition .ensures)
-
 returns-2 : tie.Need-returns-2
 returns-2 c = λ e. lone-ok (c .before .before .before .before .pre .0) (c .before .before .before .before .pre .2) (c .before .before .before .transition .ensures) (c .before .if1 .left) (c .holds .ensures .0 e)
 
 pub lone-spec : {M : Type 1} → statement M
-lone-spec = tie.close (tie.spec transition-requires returns holds-requires returns-2)
+lone-spec =
+    tie.close
+    (tie.spec
+    (λ c κs. search needs)
+    (λ c. λ e. never (cc))
+    (λ c κs. lone-low (c .before .before .before .pre .0) (c .before .before .before .pre .1) (c .before .before .before .pre .2) (c .before .before .transition .ensures))
+    returns-2)

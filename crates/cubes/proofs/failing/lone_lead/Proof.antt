@@ -4,17 +4,11 @@ use borrow.Author.Needs.{needs}
 use Rattle.cubes.proofs.failing.lone_lead.Statement.{statement}
 use Rattle.cubes.proofs.failing.lone_lead.Tie as tie
 
-transition-requires : tie.Need-transition-requires
-transition-requires c κs = search needs
-
-returns : tie.Need-returns
-returns c = lone-not (c .before .before .before .pre .0) (c .before .before .before .pre .2) (c .before .before .transition .ensures) (c .if1 .taken)
-
-one-requires : tie.Need-one-requires
-one-requires c κs = lone-low (c .before .before .before .pre .0) (c .before .before .before .pre .1) (c .before .before .before .pre .2) (c .before .before .transition .ensures)
-
-returns-2 : tie.Need-returns-2
-returns-2 c = lone-one (c .before .before .before .before .pre .0) (c .before .before .before .before .pre .2) (c .before .before .before .transition .ensures) (c .one .ensures)
-
 pub lone-lead-spec : {M : Type 1} → statement M
-lone-lead-spec = tie.close (tie.spec transition-requires returns one-requires returns-2)
+lone-lead-spec =
+    tie.close
+    (tie.spec
+    (λ c κs. search needs)
+    (λ c. lone-not (c .before .before .before .pre .0) (c .before .before .before .pre .2) (c .before .before .transition .ensures) (c .if1 .taken))
+    (λ c κs. lone-low (c .before .before .before .pre .0) (c .before .before .before .pre .1) (c .before .before .before .pre .2) (c .before .before .transition .ensures))
+    (λ c. lone-one (c .before .before .before .before .pre .0) (c .before .before .before .before .pre .2) (c .before .before .before .transition .ensures) (c .one .ensures)))

@@ -6,24 +6,6 @@ use borrow.Author.Needs.{needs}
 use Rattle.cubes.proofs.literals.means.Statement.{statement}
 use Rattle.cubes.proofs.literals.means.Tie as tie
 
-returns : tie.Need-returns
-returns c = λ e. any-means _ _ (c .if1 .taken)
-
-lit-out-requires : tie.Need-lit-out-requires
-lit-out-requires c κs = search needs
-
-wide-requires : tie.Need-wide-requires
-wide-requires c κs = search needs
-
-returns-2 : tie.Need-returns-2
-returns-2 c = λ e. never (cc)
-
-lit-next-requires : tie.Need-lit-next-requires
-lit-next-requires c κs = search needs
-
-holds-requires : tie.Need-holds-requires
-holds-requires c κs = search needs
-
 returns-3 : tie.Need-returns-3
 returns-3 c = λ e. meaning _ _ (sym (c .before .before .before .before .lit-out .ensures) ∙ c .before .before .if2 .left ∙ c .before .before .before .wide .ensures .0) (rw (c .before .lit-next .ensures) at (c .holds .ensures .0 e))
 
@@ -31,10 +13,7 @@ pub means-spec : {M : Type 1} → statement M
 means-spec =
     tie.close
     (tie.spec
-    returns
-    lit-out-requires
-    wide-requires
-    returns-2
-    lit-next-requires
-    holds-requires
-    returns-3)
+    (λ c. λ e. any-means _ _ (c .if1 .taken))
+    (λ c κs. search needs) (λ c κs. search needs)
+    (λ c. λ e. never (cc))
+    (λ c κs. search needs) (λ c κs. search needs) returns-3)

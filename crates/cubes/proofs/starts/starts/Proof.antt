@@ -6,11 +6,9 @@ use Rattle.cubes.proofs.starts.starts.Reads as reads
 use Rattle.cubes.proofs.starts.starts.Lts as lts
 use Rattle.cubes.proofs.words.one.Reads as one-reads
 
-one-requires : tie.Need-one-requires
-one-requires c κs = search needs
-
-returns : tie.Need-returns
-returns c = starts-zero (c .one .ensures)
-
 pub starts-spec : {M : Type 1} → statement M
-starts-spec = tie.close (tie.spec one-requires returns)
+starts-spec =
+    tie.close
+    (tie.spec
+    (λ c κs. search needs)
+    (λ c. starts-zero (c .one .ensures)))

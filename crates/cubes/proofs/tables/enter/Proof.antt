@@ -10,37 +10,10 @@ use Rattle.block.proofs.transition.Reads as transition-reads
 use Rattle.block.proofs.wide.Reads as wide-reads
 use Rattle.cubes.proofs.tables.put.Reads as put-reads
 
-transition-requires : tie.Need-transition-requires
-transition-requires c κs = search needs
-
-returns : tie.Need-returns
-returns c = entered-not (c .before .before .pre .5)
-
-wide-requires : tie.Need-wide-requires
-wide-requires c κs = search needs
-
-mul-at : tie.Need-mul-at
-mul-at c = search needs
-
-wide-requires-2 : tie.Need-wide-requires-2
-wide-requires-2 c κs = search needs
-
-add-at : tie.Need-add-at
-add-at c = search needs
-
 put-requires : tie.Need-put-requires
 put-requires c κs =
     let entry = c .before .before .before .before .before in
     (entry .pre .5, omega (arith, c .before .before .wide .ensures, c .before .wide2 .ensures, c .before .before .before .if1 .left, entry .pre .3), step-few (entry .pre .0) (entry .pre .1) (entry .pre .2) (entry .pre .3) (entry .pre .4) (c .before .before .before .before .transition .ensures))
-
-wide-requires-3 : tie.Need-wide-requires-3
-wide-requires-3 c κs = search needs
-
-add-put : tie.Need-add-put
-add-put c = search needs
-
-put-requires-2 : tie.Need-put-requires-2
-put-requires-2 c κs = search needs
 
 returns-2 : tie.Need-returns-2
 returns-2 c =
@@ -53,14 +26,7 @@ pub enter-spec : {M : Type 1} → statement M
 enter-spec =
     tie.close
     (tie.spec
-    transition-requires
-    returns
-    wide-requires
-    mul-at
-    wide-requires-2
-    add-at
-    put-requires
-    wide-requires-3
-    add-put
-    put-requires-2
-    returns-2)
+    (λ c κs. search needs)
+    (λ c. entered-not)
+    (λ c κs. search needs) (λ c. search needs) (λ c κs. search needs) (λ c. search needs) put-requires (λ c κs. search needs)
+    (λ c. search needs) (λ c κs. search needs) returns-2)

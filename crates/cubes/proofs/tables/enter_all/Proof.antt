@@ -11,37 +11,14 @@ Inv-loop block facts₀ k₀ facts k = AllTo block facts k
 abbrev μ-loop : tie.MeasureT-loop
 μ-loop block facts₀ k₀ facts k = 256 - k
 
-loop-holds : tie.Need-loop-holds Inv-loop μ-loop
-loop-holds c = all-none (c .pre .1)
-
-enter-pair-requires : tie.Need-enter-pair-requires Inv-loop μ-loop
-enter-pair-requires c κs = (c .before .before .before .pre .0, c .before .loop-test .taken, c .before .before .loop .inv .long)
-
-returns : tie.Need-returns Inv-loop μ-loop
-returns c = all-not _ (c .before .enter-pair .ensures)
-
-add-k : tie.Need-add-k Inv-loop μ-loop
-add-k c = search needs
-
-loop-less : tie.Need-loop-less Inv-loop μ-loop
-loop-less c = search needs
-
-loop-again : tie.Need-loop-again Inv-loop μ-loop
-loop-again c = all-more _ (c .before .before .before .before .loop .inv) (c .before .enter-pair .ensures) (not-false _ (c .if1 .left))
-
-returns-2 : tie.Need-returns-2 Inv-loop μ-loop
-returns-2 c = all-all (c .before .loop .inv) (c .loop-test .left)
-
 pub enter-all-spec : {M : Type 1} → statement M
 enter-all-spec =
     tie.close
     (tie.spec
-    Inv-loop
-    μ-loop
-    loop-holds
-    enter-pair-requires
-    returns
-    add-k
-    loop-less
-    loop-again
-    returns-2)
+    Inv-loop μ-loop
+    (λ c. all-none (c .pre .1))
+    (λ c κs. (c .before .before .before .pre .0, c .before .loop-test .taken, c .before .before .loop .inv .long))
+    (λ c. all-not _ (c .before .before .before .before .loop .inv) (c .before .enter-pair .ensures))
+    (λ c. search needs) (λ c. search needs)
+    (λ c. all-more _ (c .before .before .before .before .loop .inv) (c .before .enter-pair .ensures) (not-false _ (c .if1 .left)))
+    (λ c. all-all (c .before .loop .inv) (c .loop-test .left)))

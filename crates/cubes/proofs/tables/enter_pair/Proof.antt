@@ -13,51 +13,21 @@ Inv-loop block facts₀ k i end c₀ facts c = PairTo block facts₀ facts k c
 abbrev μ-loop : tie.MeasureT-loop
 μ-loop block facts₀ k i end c₀ facts c = end - c
 
-site-requires : tie.Need-site-requires Inv-loop μ-loop
-site-requires c κs = search needs
-
-returns : tie.Need-returns Inv-loop μ-loop
-returns c = pair-skip (c .before .before .pre .2) (sym (c .before .site .ensures) ∙ c .if1 .taken)
-
-choices-requires : tie.Need-choices-requires Inv-loop μ-loop
-choices-requires c κs = omega (arith, c .before .site .ensures, c .before .before .pre .0 .sites (c .before .before .args .k) (c .before .before .pre .1) (rw (c .before .site .ensures) at (c .if1 .left)))
-
-loop-holds : tie.Need-loop-holds Inv-loop μ-loop
-loop-holds c = pair-none (c .before .before .before .pre .2)
-
 enter-requires : tie.Need-enter-requires Inv-loop μ-loop
 enter-requires c κs =
     let i = c .before .before .before .before .before .site .ensures in
-    (c .before .before .before .before .before .before .pre .0, c .before .before .before .before .before .before .pre .1, i, omega (arith, i, c .before .before .before .before .before .before .pre .0 .sites (c .before .before .before .before .before .before .args .k) (c .before .before .before .before .before .before .pre .1) (rw i at (c .before .before .before .before .if1 .left))), rw (c .before .before .before .choices .ensures) at (c .before .loop-test .taken), c .before .before .loop .inv .grows .long)
-
-returns-2 : tie.Need-returns-2 Inv-loop μ-loop
-returns-2 c = pair-not _ (c .before .before .before .before .loop .inv) (c .before .enter .ensures)
-
-add-c : tie.Need-add-c Inv-loop μ-loop
-add-c c = search needs
-
-loop-less : tie.Need-loop-less Inv-loop μ-loop
-loop-less c = search needs
-
-loop-again : tie.Need-loop-again Inv-loop μ-loop
-loop-again c = pair-more _ (c .before .before .before .before .loop .inv) (c .before .enter .ensures) (not-false _ (c .if2 .left))
-
-returns-3 : tie.Need-returns-3 Inv-loop μ-loop
-returns-3 c = pair-all (c .before .loop .inv) (c .before .before .before .before .site .ensures) (rw (c .before .before .choices .ensures) at (c .loop-test .left))
+    (c .before .before .before .before .before .before .pre .0, c .before .before .before .before .before .before .pre .1, i, omega (arith, i, c .before .before .before .before .before .before .pre .0 .sites (c .before .before .before .before .before .before .args .k) (c .before .before .before .before .before .before .pre .1) (rw i at (c .before .before .before .before .if1 .left))), rw (c .before .before .before .choices .ensures) at (c .before .loop-test .taken), c .before .before .loop .inv .grows .long ∙ c .before .before .before .before .before .before .pre .2)
 
 pub enter-pair-spec : {M : Type 1} → statement M
 enter-pair-spec =
     tie.close
     (tie.spec
-    Inv-loop
-    μ-loop
-    site-requires
-    returns
-    choices-requires
-    loop-holds
+    Inv-loop μ-loop (λ c κs. search needs)
+    (λ c. pair-skip (sym (c .before .site .ensures) ∙ c .if1 .taken))
+    (λ c κs. omega (arith, c .before .site .ensures, c .before .before .pre .0 .sites (c .before .before .args .k) (c .before .before .pre .1) (rw (c .before .site .ensures) at (c .if1 .left))))
+    (λ c. pair-none)
     enter-requires
-    returns-2
-    add-c
-    loop-less
-    loop-again
-    returns-3)
+    (λ c. pair-not _ (c .before .before .before .before .loop .inv) (c .before .enter .ensures))
+    (λ c. search needs) (λ c. search needs)
+    (λ c. pair-more _ (c .before .before .before .before .loop .inv) (c .before .enter .ensures) (not-false _ (c .if2 .left)))
+    (λ c. pair-all (c .before .loop .inv) (c .before .before .before .before .site .ensures) (rw (c .before .before .choices .ensures) at (c .loop-test .left))))

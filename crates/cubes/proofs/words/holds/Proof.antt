@@ -4,12 +4,10 @@ use borrow.Author.Needs.{needs}
 use Rattle.cubes.proofs.words.holds.Statement.{statement}
 use Rattle.cubes.proofs.words.holds.Tie as tie
 
-shr-result : tie.Need-shr-result
-shr-result c = search needs
-
 returns : tie.Need-returns
 unfolding Has
 returns c = (λ e. eqb-true _ _ e, λ e. eqb-false _ _ e)
 
 pub holds-spec : {M : Type 1} → statement M
-holds-spec = tie.close (tie.spec shr-result returns)
+holds-spec =
+    tie.close (tie.spec (λ c. search needs) returns)

@@ -9,4 +9,5 @@ unfolding drawn
 returns c = rw (c .remainder .ensures, c .before .wrapping-add-u32 .ensures) refl
 
 pub draw-spec : {M : Type 1} → statement M
-draw-spec = tie.close (tie.spec (λ c κs. search needs) (λ c κs. search needs) returns)
+draw-spec =
+    tie.close (tie.spec (λ c κs. search needs) (λ c κs. search needs) returns)

@@ -8,7 +8,6 @@ pub pairs-of-spec : {M : Type 1} → statement M
 pairs-of-spec =
     tie.close
     (tie.spec
-    (λ c. search needs)
-    (λ c. search needs)
+    (λ c. search needs) (λ c. search needs)
     (λ c. let entry = c .before .before in omega (arith, few-pairs (entry .args .size) (entry .pre)))
     (λ c. search needs))

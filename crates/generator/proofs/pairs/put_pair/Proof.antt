@@ -61,15 +61,5 @@ pub put-pair-spec : {M : Type 1} → statement M
 put-pair-spec =
     tie.close
     (tie.spec
-    (λ c. search needs)
-    (λ c. search needs)
-    cast-s
-    (λ c. search needs)
-    cast-x
-    draw-pair-requires
-    mul-put
-    put-requires
-    put-fault-requires
-    (λ c. search needs)
-    (λ c. search needs)
-    returns)
+    (λ c. search needs) (λ c. search needs) cast-s (λ c. search needs) cast-x draw-pair-requires mul-put put-requires
+    put-fault-requires (λ c. search needs) (λ c. search needs) returns)

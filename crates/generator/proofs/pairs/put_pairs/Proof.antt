@@ -16,9 +16,6 @@ Inv-loop seed size rules₀ faults₀ pairs place₀ i₀ rules faults place i =
 abbrev μ-loop : tie.MeasureT-loop
 μ-loop seed size rules₀ faults₀ pairs place₀ i₀ rules faults place i = pairs - i
 
-pairs-of-requires : tie.Need-pairs-of-requires Inv-loop μ-loop
-pairs-of-requires c κs = c .before .before .pre .size
-
 loop-holds : tie.Need-loop-holds Inv-loop μ-loop
 loop-holds c =
     let entry = c .before .before .before in
@@ -65,14 +62,9 @@ pub put-pairs-spec : {M : Type 1} → statement M
 put-pairs-spec =
     tie.close
     (tie.spec
-    Inv-loop
-    μ-loop
-    pairs-of-requires
-    loop-holds
-    put-pair-requires
-    add-i
-    loop-less
-    loop-again
+    Inv-loop μ-loop
+    (λ c κs. c .before .before .pre .size)
+    loop-holds put-pair-requires add-i loop-less loop-again
     (λ c. c .before .loop .inv .1 .rules .long)
     (λ c. c .before .loop .inv .1 .faults .long)
     returns)

@@ -7,7 +7,6 @@ pub target-of-spec : {M : Type 1} → statement M
 target-of-spec =
     tie.close
     (tie.spec
-    (λ c. search needs)
-    (λ c. search needs)
+    (λ c. search needs) (λ c. search needs)
     (λ c. rw (eq-eqb (c .before .before .args .x) 0 (c .before .if1 .taken)))
     (λ c. rw (ne-eqb (c .before .args .x) 0 (c .if1 .left))))

@@ -7,37 +7,10 @@ use borrow.Author.Needs.{needs}
 use Rattle.machine.proofs.distance.cell.Statement.{statement}
 use Rattle.machine.proofs.distance.cell.Tie as tie
 
-mul-d : tie.Need-mul-d
-mul-d c = omega arith
-
-element-copy-out-d : tie.Need-element-copy-out-d
-element-copy-out-d c = search needs
-
-returns : tie.Need-returns
-returns c = λ start. sym (cell-old _ _ _ _ _ (c .if1 .taken))
-
-cast-p : tie.Need-cast-p
-cast-p c = search needs
-
-cast-q : tie.Need-cast-q
-cast-q c = search needs
-
-states-requires : tie.Need-states-requires
-states-requires c κs = search needs
-
 returns-2 : tie.Need-returns-2
 returns-2 c =
     let entry = c .before .before .before .before in
     λ start. sym (cell-no-q _ _ _ _ _ (c .before .before .if1 .left) (entry .pre .1 .0) (omega (arith, c .if2 .taken, c .before .states .ensures)))
-
-first-showing-requires : tie.Need-first-showing-requires
-first-showing-requires c κs = search needs
-
-inputs-requires : tie.Need-inputs-requires
-inputs-requires c κs = search needs
-
-add-result : tie.Need-add-result
-add-result c = search needs
 
 returns-3 : tie.Need-returns-3
 returns-3 c =
@@ -59,15 +32,8 @@ pub cell-spec : {M : Type 1} → statement M
 cell-spec =
     tie.close
     (tie.spec
-    mul-d
-    element-copy-out-d
-    returns
-    cast-p
-    cast-q
-    states-requires
-    returns-2
-    first-showing-requires
-    inputs-requires
-    add-result
-    returns-3
-    returns-4)
+    (λ c. omega arith)
+    (λ c. search needs)
+    (λ c. λ start. sym (cell-old _ _ _ _ _ (c .if1 .taken)))
+    (λ c. search needs) (λ c. search needs) (λ c κs. search needs) returns-2 (λ c κs. search needs) (λ c κs. search needs)
+    (λ c. search needs) returns-3 returns-4)

@@ -19,15 +19,6 @@ Inv-loop block outputs targets start buf₀ dist₀ top j₀ buf dist j =
 abbrev μ-loop : tie.MeasureT-loop
 μ-loop block outputs targets start buf₀ dist₀ top j₀ buf dist j = top - j
 
-unmarked-requires : tie.Need-unmarked-requires Inv-loop μ-loop
-unmarked-requires c κs = tt
-
-states-requires : tie.Need-states-requires Inv-loop μ-loop
-states-requires c κs = tt
-
-wide-requires : tie.Need-wide-requires Inv-loop μ-loop
-wide-requires c κs = tt
-
 bound-requires : tie.Need-bound-requires Inv-loop μ-loop
 bound-requires c κs =
     let entry = c .before .before .before .before in
@@ -46,12 +37,6 @@ first-showing-requires c κs =
     let entry = c .before .before .before .before .before .before .before .before in
     (entry .pre .0, (entry .pre .0 .formed .some-states, entry .pre .1 .0))
 
-inputs-requires : tie.Need-inputs-requires Inv-loop μ-loop
-inputs-requires c κs = tt
-
-add-d : tie.Need-add-d Inv-loop μ-loop
-add-d c = omega arith
-
 follow-requires : tie.Need-follow-requires Inv-loop μ-loop
 follow-requires c κs =
     let at-inputs = c .before .before .before in
@@ -62,9 +47,6 @@ follow-requires c κs =
     let s = at-loop .loop .inv .3 in
     let e : at-loop .loop .j + 1 - 1 ≡ at-loop .loop .j = omega arith in
     (entry .pre .0, (entry .pre .1 .0, (rw e (s .marks), (found-exact (closed (entry .pre .0) _ _) (entry .pre .1 .0) (at-loop .loop .inv .3) (at-first-showing .first-showing .ensures (entry .args .start)) (rw (at-inputs .inputs .ensures) at (c .before .before .if1 .taken)), omega (arith, ap length (s .untouched), entry .pre .1 .1, at-loop .loop .inv .0, at-loop-test .loop-test .taken)))))
-
-cast-t21 : tie.Need-cast-t21 Inv-loop μ-loop
-cast-t21 c = omega arith
 
 same-length : tie.Need-same-length Inv-loop μ-loop
 same-length c =
@@ -99,12 +81,6 @@ returns-2 c =
     let entry = at-loop .before .before .before .before .before .before in
     tells-stable (closed (entry .pre .0) _ _) (entry .pre .1 .0) (at-loop .loop .inv .3) (c .before .round .last .1 .1 .1 .0) (entry .pre .0 .formed .few-states) (omega (arith, at-loop .loop .inv .1, at-loop-test .loop-test .taken)) (c .before .round .ensures .1 .0 (entry .args .start)) (c .before .round .ensures .1 .1 (not-true (c .before .round .result) (c .if2 .taken)))
 
-add-j : tie.Need-add-j Inv-loop μ-loop
-add-j c = omega arith
-
-loop-less : tie.Need-loop-less Inv-loop μ-loop
-loop-less c = omega arith
-
 loop-again : tie.Need-loop-again Inv-loop μ-loop
 loop-again c =
     let at-if1 = c .before .before .before in
@@ -115,9 +91,6 @@ loop-again c =
     let entry = at-loop .before .before .before .before .before .before in
     (at-loop .loop .inv .0, at-loop .loop .inv .1, omega arith, search-more (closed (entry .pre .0) _ _) (entry .pre .1 .0) (at-loop .loop .inv .3) _ (entry .pre .0 .formed .few-states) (omega (arith, at-loop .loop .inv .1, at-loop-test .loop-test .taken)) (c .before .round .ensures .1 .0 (entry .args .start)) (at-first-showing .first-showing .ensures (entry .args .start)) (rw (at-inputs .inputs .ensures) at (at-if1 .if1 .left)) (c .before .round .ensures .0))
 
-same-length-3 : tie.Need-same-length-3 Inv-loop μ-loop
-same-length-3 c = ap length (c .before .loop .inv .3 .untouched)
-
 returns-3 : tie.Need-returns-3 Inv-loop μ-loop
 returns-3 c =
     let entry = c .before .before .before .before .before .before .before in
@@ -127,25 +100,18 @@ pub distinguish-spec : {M : Type 1} → statement M
 distinguish-spec =
     tie.close
     (tie.spec
-    Inv-loop
-    μ-loop
-    unmarked-requires
-    states-requires
-    wide-requires
-    bound-requires
-    loop-holds
-    first-showing-requires
-    inputs-requires
-    add-d
+    Inv-loop μ-loop
+    (λ c κs. tt)
+    (λ c κs. tt)
+    (λ c κs. tt)
+    bound-requires loop-holds first-showing-requires
+    (λ c κs. tt)
+    (λ c. omega arith)
     follow-requires
-    cast-t21
-    same-length
-    returns
-    round-requires
-    same-length-2
-    returns-2
-    add-j
-    loop-less
+    (λ c. omega arith)
+    same-length returns round-requires same-length-2 returns-2
+    (λ c. omega arith)
+    (λ c. omega arith)
     loop-again
-    same-length-3
+    (λ c. ap length (c .before .loop .inv .3 .untouched))
     returns-3)

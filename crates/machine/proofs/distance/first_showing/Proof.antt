@@ -19,12 +19,6 @@ Inv-loop block outputs targets dist p q j k x₀ x =
 abbrev μ-loop : tie.MeasureT-loop
 μ-loop block outputs targets dist p q j k x₀ x = k - x
 
-inputs-requires : tie.Need-inputs-requires Inv-loop μ-loop
-inputs-requires c κs = search needs
-
-loop-holds : tie.Need-loop-holds Inv-loop μ-loop
-loop-holds c = (c .inputs .ensures, omega arith, λ start i l. absurd (omega arith))
-
 shows-requires : tie.Need-shows-requires Inv-loop μ-loop
 shows-requires c κs =
     let entry = c .before .before .before in
@@ -35,31 +29,19 @@ returns c =
     let at-loop = c .before .before .before in
     λ start. sym (least-unique _ _ (at-loop .loop .x) (omega arith) (at-loop .loop .inv .2 start) (λ _. sym (c .before .shows .ensures start) ∙ c .if1 .taken))
 
-add-x : tie.Need-add-x Inv-loop μ-loop
-add-x c = omega arith
-
-loop-less : tie.Need-loop-less Inv-loop μ-loop
-loop-less c = omega arith
-
 loop-again : tie.Need-loop-again Inv-loop μ-loop
 loop-again c =
     let at-loop = c .before .before .before in
     (at-loop .loop .inv .0, omega arith, λ start. below-more _ _ (at-loop .loop .inv .2 start) (sym (c .before .shows .ensures start) ∙ c .if1 .left))
 
-returns-2 : tie.Need-returns-2 Inv-loop μ-loop
-returns-2 c = λ start. sym (least-unique _ _ (c .before .loop .x) (omega arith) (c .before .loop .inv .2 start) (λ l. absurd (omega arith)))
-
 pub first-showing-spec : {M : Type 1} → statement M
 first-showing-spec =
     tie.close
     (tie.spec
-    Inv-loop
-    μ-loop
-    inputs-requires
-    loop-holds
-    shows-requires
-    returns
-    add-x
-    loop-less
+    Inv-loop μ-loop (λ c κs. search needs)
+    (λ c. (c .inputs .ensures, omega arith, λ start i l. absurd (omega arith)))
+    shows-requires returns
+    (λ c. omega arith)
+    (λ c. omega arith)
     loop-again
-    returns-2)
+    (λ c. λ start. sym (least-unique _ _ (c .before .loop .x) (omega arith) (c .before .loop .inv .2 start) (λ l. absurd (omega arith)))))

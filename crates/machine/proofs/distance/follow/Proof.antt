@@ -16,12 +16,6 @@ Inv-loop block outputs targets dist start d buf₀ p₀ q₀ i₀ left₀ buf p 
 abbrev μ-loop : tie.MeasureT-loop
 μ-loop block outputs targets dist start d buf₀ p₀ q₀ i₀ left₀ buf p q i left = left
 
-loop-holds : tie.Need-loop-holds Inv-loop μ-loop
-loop-holds c = follow-start _ _ _ (c .before .pre .1 .0) (c .before .pre .1 .1 .1 .0)
-
-sub-left : tie.Need-sub-left Inv-loop μ-loop
-sub-left c = omega arith
-
 first-showing-requires : tie.Need-first-showing-requires Inv-loop μ-loop
 first-showing-requires c κs =
     let entry = c .before .before .before in
@@ -48,26 +42,17 @@ place-requires c κs =
     let entry = c .before .before .before .before in
     (omega (arith, c .before .before .loop .inv .p-below, entry .pre .0 .formed .few-states), omega (arith, found c .took .below, entry .pre .0 .formed .few-inputs))
 
-rule-target-requires : tie.Need-rule-target-requires Inv-loop μ-loop
-rule-target-requires c κs = c .place .ensures .1
-
 place-requires-2 : tie.Need-place-requires-2 Inv-loop μ-loop
 place-requires-2 c κs =
     let at-loop = c .before .before .before .before in
     let entry = at-loop .before .before in
     (omega (arith, at-loop .loop .inv .q-below, entry .pre .0 .formed .few-states), omega (arith, found (c .before .before) .took .below, entry .pre .0 .formed .few-inputs))
 
-element-copy-out-q : tie.Need-element-copy-out-q Inv-loop μ-loop
-element-copy-out-q c = c .place2 .ensures .1
-
 add-i : tie.Need-add-i Inv-loop μ-loop
 add-i c =
     let at-loop = c .before .before .before .before .before .before in
     let entry = at-loop .before .before in
     omega (arith, at-loop .loop .inv .counts, entry .fits .d)
-
-loop-less : tie.Need-loop-less Inv-loop μ-loop
-loop-less c = omega arith
 
 loop-again : tie.Need-loop-again Inv-loop μ-loop
 loop-again c =
@@ -79,28 +64,19 @@ loop-again c =
     (c .before .before .rule-target .ensures ∙ rw (at-before .place .ensures .0) (rule-target _ _ _ _ (t .took .specified)))
     (rw (c .before .place2 .ensures .0) (sym (ap (λ (r : Move). r .target) (move-at _ (entry .args .outputs .now) _ _ _ (at-loop .loop .inv .q-below) (t .took .below)))))
 
-same-length : tie.Need-same-length Inv-loop μ-loop
-same-length c = c .before .loop .inv .long
-
-returns : tie.Need-returns Inv-loop μ-loop
-returns c = follow-end (c .before .loop .inv) (omega arith)
-
 pub follow-spec : {M : Type 1} → statement M
 follow-spec =
     tie.close
     (tie.spec
-    Inv-loop
-    μ-loop
-    loop-holds
-    sub-left
-    first-showing-requires
-    slice-write-buf
-    place-requires
-    rule-target-requires
+    Inv-loop μ-loop
+    (λ c. follow-start _ _ _ (c .before .pre .1 .0) (c .before .pre .1 .1 .1 .0))
+    (λ c. omega arith)
+    first-showing-requires slice-write-buf place-requires
+    (λ c κs. c .place .ensures .1)
     place-requires-2
-    element-copy-out-q
+    (λ c. c .place2 .ensures .1)
     add-i
-    loop-less
+    (λ c. omega arith)
     loop-again
-    same-length
-    returns)
+    (λ c. c .before .loop .inv .long)
+    (λ c. follow-end (c .before .loop .inv) (omega arith)))

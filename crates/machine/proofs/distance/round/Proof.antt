@@ -1,14 +1,16 @@
 -- `round`: the cells below i are done, and each of the others is as it was.
-use Prim.Native.Nat.{ℕ, _*_, _<_, _-_}
+use Prim.Native.Nat.{ℕ, _+_, _*_, _<_, _-_}
 use mathlib.Core.Path.{_≡_, refl, sym, _∙_}
 use mathlib.Core.Bool.{false}
 use mathlib.Core.Logic.{⊎-elim}
 use native.Mathlib.Omega.{arith}
+use mathlib.Core.List.{List}
 use lib.ListN.{length, length-set, getD}
 use Rattle.sheet.specs.laws.Basics.{never}
+use Rattle.model.specs.Machine.{Pair}
 use Rattle.block.specs.Layout.{statesOf}
 use Rattle.machine.specs.Tables.{tables}
-use Rattle.machine.proofs.MarksLaw.{Done, done-none, done-more, done-same, done-all}
+use Rattle.machine.proofs.MarksLaw.{Done, done-none, done-more, done-same, done-skip, done-all}
 use borrow.Author.Needs.{needs}
 use Rattle.machine.proofs.distance.round.Statement.{statement}
 use Rattle.machine.proofs.distance.round.Tie as tie
@@ -20,18 +22,6 @@ Inv-loop block outputs targets dist₀ j n changed₀ i₀ dist changed i =
 
 abbrev μ-loop : tie.MeasureT-loop
 μ-loop block outputs targets dist₀ j n changed₀ i₀ dist changed i = 16 * n - i
-
-states-requires : tie.Need-states-requires Inv-loop μ-loop
-states-requires c κs = search needs
-
-wide-requires : tie.Need-wide-requires Inv-loop μ-loop
-wide-requires c κs = search needs
-
-loop-holds : tie.Need-loop-holds Inv-loop μ-loop
-loop-holds c = (c .wide .ensures .0 ∙ c .before .states .ensures, c .before .before .pre .1 .1, λ start. done-none _ _ _, λ _ t. refl)
-
-mul-loop : tie.Need-mul-loop Inv-loop μ-loop
-mul-loop c = omega arith
 
 cell-requires : tie.Need-cell-requires Inv-loop μ-loop
 cell-requires c κs =
@@ -58,53 +48,50 @@ element-write-dist c =
     let entry = c .before .before .before .before .before .before .before .before in
     omega (arith, entry .pre .0 .formed .few-states)
 
-add-i : tie.Need-add-i Inv-loop μ-loop
-add-i c = omega arith
-
-loop-less : tie.Need-loop-less Inv-loop μ-loop
-loop-less c = omega arith
+following-requires : tie.Need-following-requires Inv-loop μ-loop
+following-requires c κs =
+    let at-loop = c .before .before .before .before .before in
+    let entry = at-loop .before .before .before in
+    (omega (arith, entry .pre .0 .formed .few-states), omega (arith, entry .pre .0 .formed .few-states, at-loop .loop .inv .0))
 
 loop-again : tie.Need-loop-again Inv-loop μ-loop
 loop-again c =
-    let at-loop = c .before .before .before .before .before in
+    let at-if1 = c .before in
+    let at-cell = at-if1 .before .before in
+    let at-loop = at-cell .before .before .before in
     let entry = at-loop .before .before .before in
     let l = at-loop .loop in
-    let e = c .before .before .cell .ensures in
+    let e = at-cell .cell .ensures in
+    let next = c .following .ensures in
     let lt : l .i < length (l .dist) = omega (arith, entry .pre .0 .formed .few-states) in
+    let a = entry .args in
+    let after = at-if1 .if1 .dist in
+    let m : ℕ → Pair = λ start. tables (a .block .now) start (a .outputs .now) (a .targets .now) in
+    let skip : (start : ℕ) → Done (m start) (a .dist .now) (a .j) after (l .i + 1) → Done (m start) (a .dist .now) (a .j) after (c .following .result) =
+    λ start d. done-skip (m start) (a .dist .now) (a .j) after (l .i + 1) (c .following .result) d (omega (arith, next .0)) (λ t h k. rw (sym (l .inv .0)) (next .1 t (omega arith) k)) in
     ⊎-elim
     (λ w. (
       l .inv .0,
       rw (w .1) (simp length-set (l .inv .1)),
-      λ start. rw (w .1) (done-more _ _ _ _ _ (l .inv .2 start) _ lt (e start)),
+      λ start. skip start (rw (w .1) (done-more _ _ _ _ _ (l .inv .2 start) _ lt (e start))),
       λ f. never (cc),
     ))
     (λ w. (
       l .inv .0,
       rw (w .1) (l .inv .1),
-      λ start. rw (w .1) (done-same _ _ _ _ _ (l .inv .2 start) lt (sym (w .0 .left) ∙ e start)),
+      λ start. skip start (rw (w .1) (done-same _ _ _ _ _ (l .inv .2 start) lt (sym (w .0 .left) ∙ e start))),
       λ f t. rw (w .1) (l .inv .3 (sym (w .2) ∙ f) t),
     ))
-    (c .if1 .came)
-
-returns : tie.Need-returns Inv-loop μ-loop
-returns c = (c .before .loop .inv .1, (λ start t _. done-all _ _ _ _ _ t (c .before .loop .inv .2 start) (omega arith), c .before .loop .inv .3))
+    (at-if1 .if1 .came)
 
 pub round-spec : {M : Type 1} → statement M
 round-spec =
     tie.close
     (tie.spec
-    Inv-loop
-    μ-loop
-    states-requires
-    wide-requires
-    loop-holds
-    mul-loop
-    cell-requires
-    mul-if1
-    element-copy-out-if1
-    mul-dist
-    element-write-dist
-    add-i
-    loop-less
+    Inv-loop μ-loop (λ c κs. search needs) (λ c κs. search needs)
+    (λ c. (c .wide .ensures .0 ∙ c .before .states .ensures, c .before .before .pre .1 .1, λ start. done-none _ _ _, λ _ t. refl))
+    (λ c. omega arith)
+    cell-requires mul-if1 element-copy-out-if1 mul-dist element-write-dist following-requires
+    (λ c. omega (arith, c .following .ensures .0))
     loop-again
-    returns)
+    (λ c. (c .before .loop .inv .1, (λ start t _. done-all _ _ _ _ _ t (c .before .loop .inv .2 start) (omega arith), c .before .loop .inv .3))))

@@ -4,26 +4,11 @@ use borrow.Author.Needs.{needs}
 use Rattle.machine.proofs.distance.shows.Statement.{statement}
 use Rattle.machine.proofs.distance.shows.Tie as tie
 
-place-requires : tie.Need-place-requires
-place-requires c κs = search needs
-
-place-requires-2 : tie.Need-place-requires-2
-place-requires-2 c κs = search needs
-
-rule-target-requires : tie.Need-rule-target-requires
-rule-target-requires c κs = search needs
-
 returns : tie.Need-returns
 returns c =
     let at-place = c .before .before .before in
     let entry = at-place .before in
     shows-none (entry .pre .0) (entry .args .outputs .now) (entry .args .dist .now) (entry .args .p) (entry .args .q) (entry .args .x) (entry .args .j) (entry .pre .1 .0) (entry .pre .1 .1) (entry .pre .1 .2) (at-place .place .ensures .0) (c .before .before .place2 .ensures .0) (c .before .rule-target .ensures) (c .if1 .taken)
-
-rule-output-requires : tie.Need-rule-output-requires
-rule-output-requires c κs = search needs
-
-element-copy-out-if2 : tie.Need-element-copy-out-if2
-element-copy-out-if2 c = search needs
 
 returns-2 : tie.Need-returns-2
 returns-2 c =
@@ -34,9 +19,6 @@ returns-2 c =
     let entry = at-place .before in
     shows-differ (entry .pre .0) (entry .args .outputs .now) (entry .args .dist .now) (entry .args .p) (entry .args .q) (entry .args .x) (entry .args .j) (entry .pre .1 .0) (entry .pre .1 .1) (entry .pre .1 .2) (at-place .place .ensures .0) (at-place2 .place2 .ensures .0) (at-rule-target .rule-target .ensures) (at-if1 .if1 .left) (c .before .before .rule-output .ensures) (c .if2 .taken)
 
-element-copy-out-place : tie.Need-element-copy-out-place
-element-copy-out-place c = search needs
-
 place-requires-3 : tie.Need-place-requires-3
 place-requires-3 c κs =
     let at-if1 = c .before .before .before .before in
@@ -45,12 +27,6 @@ place-requires-3 c κs =
     let at-place = at-place2 .before in
     let entry = at-place .before in
     next-low (entry .pre .0) (entry .args .outputs .now) (entry .args .dist .now) (entry .args .p) (entry .args .q) (entry .args .x) (entry .args .j) (entry .pre .1 .0) (entry .pre .1 .1) (entry .pre .1 .2) (at-place .place .ensures .0) (at-place2 .place2 .ensures .0) (at-rule-target .rule-target .ensures) (at-if1 .if1 .left)
-
-mul-result : tie.Need-mul-result
-mul-result c = search needs
-
-element-copy-out-result : tie.Need-element-copy-out-result
-element-copy-out-result c = search needs
 
 returns-3 : tie.Need-returns-3
 returns-3 c =
@@ -67,15 +43,5 @@ pub shows-spec : {M : Type 1} → statement M
 shows-spec =
     tie.close
     (tie.spec
-    place-requires
-    place-requires-2
-    rule-target-requires
-    returns
-    rule-output-requires
-    element-copy-out-if2
-    returns-2
-    element-copy-out-place
-    place-requires-3
-    mul-result
-    element-copy-out-result
-    returns-3)
+    (λ c κs. search needs) (λ c κs. search needs) (λ c κs. search needs) returns (λ c κs. search needs) (λ c. search needs)
+    returns-2 (λ c. search needs) place-requires-3 (λ c. search needs) (λ c. search needs) returns-3)

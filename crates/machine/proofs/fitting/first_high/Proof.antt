@@ -14,18 +14,6 @@ Inv-loop block mutant i₀ i =
 abbrev μ-loop : tie.MeasureT-loop
 μ-loop block mutant i₀ i = length mutant - i
 
-loop-holds : tie.Need-loop-holds Inv-loop μ-loop
-loop-holds c = (omega arith, λ j l. absurd (omega arith))
-
-cast-choices : tie.Need-cast-choices Inv-loop μ-loop
-cast-choices c = omega arith
-
-choices-requires : tie.Need-choices-requires Inv-loop μ-loop
-choices-requires c κs = omega arith
-
-shared-slice-read-if1 : tie.Need-shared-slice-read-if1 Inv-loop μ-loop
-shared-slice-read-if1 c = omega arith
-
 cast-if1 : tie.Need-cast-if1 Inv-loop μ-loop
 cast-if1 c =
     let at-loop = c .before .before .before in
@@ -36,33 +24,22 @@ returns c =
     let at-loop = c .before .before .before .before in
     record { most = at-loop .loop .inv .0; low = at-loop .loop .inv .1; high = λ l. rw (← c .before .before .choices .ensures) (c .if1 .taken) }
 
-add-i : tie.Need-add-i Inv-loop μ-loop
-add-i c = omega arith
-
-loop-less : tie.Need-loop-less Inv-loop μ-loop
-loop-less c = omega arith
-
 loop-again : tie.Need-loop-again Inv-loop μ-loop
 loop-again c =
     let at-loop = c .before .before .before .before in
     (omega arith, below-more _ _ (at-loop .loop .inv .1) (rw (← c .before .before .choices .ensures) (c .if1 .left)))
 
-returns-2 : tie.Need-returns-2 Inv-loop μ-loop
-returns-2 c = record { most = c .before .loop .inv .0; low = c .before .loop .inv .1; high = λ l. absurd (omega arith) }
-
 pub first-high-spec : {M : Type 1} → statement M
 first-high-spec =
     tie.close
     (tie.spec
-    Inv-loop
-    μ-loop
-    loop-holds
-    cast-choices
-    choices-requires
-    shared-slice-read-if1
-    cast-if1
-    returns
-    add-i
-    loop-less
+    Inv-loop μ-loop
+    (λ c. (omega arith, λ j l. absurd (omega arith)))
+    (λ c. omega arith)
+    (λ c κs. omega arith)
+    (λ c. omega arith)
+    cast-if1 returns
+    (λ c. omega arith)
+    (λ c. omega arith)
     loop-again
-    returns-2)
+    (λ c. record { most = c .before .loop .inv .0; low = c .before .loop .inv .1; high = λ l. absurd (omega arith) }))

@@ -5,15 +5,6 @@ use borrow.Author.Needs.{needs}
 use Rattle.machine.proofs.fitting.fits.Statement.{statement}
 use Rattle.machine.proofs.fitting.fits.Tie as tie
 
-slots-requires : tie.Need-slots-requires
-slots-requires c κs = search needs
-
-wide-requires : tie.Need-wide-requires
-wide-requires c κs = search needs
-
-returns : tie.Need-returns
-returns c = λ sh tb. fit-length tb _ (λ e. c .if1 .taken (rw (c .before .wide .ensures .0, c .before .before .slots .ensures) e))
-
 first-high-requires : tie.Need-first-high-requires
 first-high-requires c κs =
     let entry = c .before .before .before .before in
@@ -34,4 +25,7 @@ returns-3 c =
 pub fits-spec : {M : Type 1} → statement M
 fits-spec =
     tie.close
-    (tie.spec slots-requires wide-requires returns first-high-requires returns-2 returns-3)
+    (tie.spec
+    (λ c κs. search needs) (λ c κs. search needs)
+    (λ c. λ sh tb. fit-length tb _ (λ e. c .if1 .taken (rw (c .before .wide .ensures .0, c .before .before .slots .ensures) e)))
+    first-high-requires returns-2 returns-3)

@@ -4,21 +4,6 @@ use borrow.Author.Needs.{needs}
 use Rattle.machine.proofs.laying.act.Statement.{statement}
 use Rattle.machine.proofs.laying.act.Tie as tie
 
-inputs-requires : tie.Need-inputs-requires
-inputs-requires c κs = search needs
-
-wide-requires : tie.Need-wide-requires
-wide-requires c κs = search needs
-
-returns : tie.Need-returns
-returns c = acts-outside _ _ _ (omega (arith, c .if1 .taken, c .before .wide .ensures, c .before .before .inputs .ensures))
-
-choice-at-requires : tie.Need-choice-at-requires
-choice-at-requires c κs = search needs
-
-transition-requires : tie.Need-transition-requires
-transition-requires c κs = search needs
-
 returns-2 : tie.Need-returns-2
 returns-2 c =
     let at-wide = c .before .before .before in
@@ -30,9 +15,6 @@ pub act-spec : {M : Type 1} → statement M
 act-spec =
     tie.close
     (tie.spec
-    inputs-requires
-    wide-requires
-    returns
-    choice-at-requires
-    transition-requires
-    returns-2)
+    (λ c κs. search needs) (λ c κs. search needs)
+    (λ c. acts-outside _ _ _ (omega (arith, c .if1 .taken, c .before .wide .ensures, c .before .before .inputs .ensures)))
+    (λ c κs. search needs) (λ c κs. search needs) returns-2)

@@ -5,18 +5,6 @@ use borrow.Author.Needs.{needs}
 use Rattle.machine.proofs.laying.choice_at.Statement.{statement}
 use Rattle.machine.proofs.laying.choice_at.Tie as tie
 
-site-requires : tie.Need-site-requires
-site-requires c κs = search needs
-
-returns : tie.Need-returns
-returns c = sym (chosen-none _ _ _ (rw (c .before .site .ensures) at (c .if1 .taken)))
-
-wide-requires : tie.Need-wide-requires
-wide-requires c κs = search needs
-
-mul-result : tie.Need-mul-result
-mul-result c = search needs
-
 element-copy-out-result : tie.Need-element-copy-out-result
 element-copy-out-result c =
     let at-site = c .before .before in
@@ -31,4 +19,7 @@ returns-2 c =
 pub choice-at-spec : {M : Type 1} → statement M
 choice-at-spec =
     tie.close
-    (tie.spec site-requires returns wide-requires mul-result element-copy-out-result returns-2)
+    (tie.spec
+    (λ c κs. search needs)
+    (λ c. sym (chosen-none _ _ _ (rw (c .before .site .ensures) at (c .if1 .taken))))
+    (λ c κs. search needs) (λ c. search needs) element-copy-out-result returns-2)

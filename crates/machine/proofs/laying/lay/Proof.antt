@@ -18,19 +18,10 @@ Inv-loop block p outputs₀ targets₀ n k₀ outputs targets k =
 abbrev μ-loop : tie.MeasureT-loop
 μ-loop block p outputs₀ targets₀ n k₀ outputs targets k = 16 * n - k
 
-states-requires : tie.Need-states-requires Inv-loop μ-loop
-states-requires c κs = search needs
-
-wide-requires : tie.Need-wide-requires Inv-loop μ-loop
-wide-requires c κs = search needs
-
 loop-holds : tie.Need-loop-holds Inv-loop μ-loop
 loop-holds c =
     let entry = c .before .before in
     (c .wide .ensures .0 ∙ c .before .states .ensures, entry .pre .1 .0, entry .pre .1 .1, moves-none)
-
-mul-loop : tie.Need-mul-loop Inv-loop μ-loop
-mul-loop c = omega arith
 
 act-requires : tie.Need-act-requires Inv-loop μ-loop
 act-requires c κs =
@@ -47,35 +38,20 @@ element-write-targets c =
     let entry = c .before .before .before .before .before in
     omega (arith, entry .pre .0 .0 .few-states)
 
-add-k : tie.Need-add-k Inv-loop μ-loop
-add-k c = omega arith
-
-loop-less : tie.Need-loop-less Inv-loop μ-loop
-loop-less c = omega arith
-
 loop-again : tie.Need-loop-again Inv-loop μ-loop
 loop-again c =
     let at-loop = c .before .before in
     let entry = at-loop .before .before .before in
     (at-loop .loop .inv .0, simp length-set (at-loop .loop .inv .1), simp length-set (at-loop .loop .inv .2), moves-more (c .act .result) (omega (arith, entry .pre .0 .0 .few-states)) (omega (arith, entry .pre .0 .0 .few-states)) (at-loop .loop .inv .3) (c .act .ensures))
 
-returns : tie.Need-returns Inv-loop μ-loop
-returns c = moves-fewer (omega arith) (c .before .loop .inv .3)
-
 pub lay-spec : {M : Type 1} → statement M
 lay-spec =
     tie.close
     (tie.spec
-    Inv-loop
-    μ-loop
-    states-requires
-    wide-requires
-    loop-holds
-    mul-loop
-    act-requires
-    element-write-outputs
-    element-write-targets
-    add-k
-    loop-less
+    Inv-loop μ-loop (λ c κs. search needs) (λ c κs. search needs) loop-holds
+    (λ c. omega arith)
+    act-requires element-write-outputs element-write-targets
+    (λ c. omega arith)
+    (λ c. omega arith)
     loop-again
-    returns)
+    (λ c. moves-fewer (omega arith) (c .before .loop .inv .3)))

@@ -10,33 +10,12 @@ use borrow.Author.Needs.{needs}
 use Rattle.machine.proofs.laying.machine_of.Statement.{statement}
 use Rattle.machine.proofs.laying.machine_of.Tie as tie
 
-widened-requires : tie.Need-widened-requires
-widened-requires c κs = search needs
-
-initial-requires : tie.Need-initial-requires
-initial-requires c κs = search needs
-
-blank-requires : tie.Need-blank-requires
-blank-requires c κs = search needs
-
-blank-requires-2 : tie.Need-blank-requires-2
-blank-requires-2 c κs = search needs
-
-fits-requires : tie.Need-fits-requires
-fits-requires c κs = search needs
-
-enum-told : tie.Need-enum-told
-enum-told c = search needs
-
 returns : tie.Need-returns
 returns c =
     let at-fits2 = c .before .before in
     let at-initial = at-fits2 .before .before .before in
     let at-widened = at-initial .before .before in
     λ sh tb. machined tb (at-widened .widened .ensures) (at-fits2 .fits2 .ensures sh tb) (at-initial .initial .ensures) (λ is. absurd (not-mutant sh _ _ _ (sym (at-fits2 .fits2 .ensures sh tb) ∙ c .enum-told .given .1) is))
-
-enum-told-2 : tie.Need-enum-told-2
-enum-told-2 c = search needs
 
 lay-requires : tie.Need-lay-requires
 lay-requires c κs =
@@ -63,13 +42,5 @@ pub machine-of-spec : {M : Type 1} → statement M
 machine-of-spec =
     tie.close
     (tie.spec
-    widened-requires
-    initial-requires
-    blank-requires
-    blank-requires-2
-    fits-requires
-    enum-told
-    returns
-    enum-told-2
-    lay-requires
-    returns-2)
+    (λ c κs. search needs) (λ c κs. search needs) (λ c κs. search needs) (λ c κs. search needs) (λ c κs. search needs)
+    (λ c. search needs) returns (λ c. search needs) lay-requires returns-2)

@@ -15,48 +15,22 @@ Inv-loop bytes p₀ i₀ p i =
 abbrev μ-loop : tie.MeasureT-loop
 μ-loop bytes p₀ i₀ p i = 32 - i
 
-no-choices-requires : tie.Need-no-choices-requires Inv-loop μ-loop
-no-choices-requires c κs = search needs
-
-loop-holds : tie.Need-loop-holds Inv-loop μ-loop
-loop-holds c = (ap length (c .no-choices .ensures) ∙ length-replicate {A = ℕ} 32 0, λ t l. absurd (omega arith))
-
-byte-at-requires : tie.Need-byte-at-requires Inv-loop μ-loop
-byte-at-requires c κs = search needs
-
-mul-p : tie.Need-mul-p Inv-loop μ-loop
-mul-p c = omega arith
-
-array-write-p : tie.Need-array-write-p Inv-loop μ-loop
-array-write-p c = omega arith
-
-add-i : tie.Need-add-i Inv-loop μ-loop
-add-i c = omega arith
-
-loop-less : tie.Need-loop-less Inv-loop μ-loop
-loop-less c = omega arith
-
 loop-again : tie.Need-loop-again Inv-loop μ-loop
 loop-again c =
     let at-loop = c .before .before in
     let entry = at-loop .before .before .before in
     (simp length-set (at-loop .loop .inv .0), one-more (at-loop .loop .p) (λ t. getD (entry .args .bytes .now) t 0) (at-loop .loop .i) (c .byte-at .result) (omega arith) (at-loop .loop .inv .1) (c .byte-at .ensures))
 
-returns : tie.Need-returns Inv-loop μ-loop
-returns c = record { long = c .before .loop .inv .0; at = λ t l. c .before .loop .inv .1 t (omega arith) }
-
 pub widened-spec : {M : Type 1} → statement M
 widened-spec =
     tie.close
     (tie.spec
-    Inv-loop
-    μ-loop
-    no-choices-requires
-    loop-holds
-    byte-at-requires
-    mul-p
-    array-write-p
-    add-i
-    loop-less
+    Inv-loop μ-loop (λ c κs. search needs)
+    (λ c. (ap length (c .no-choices .ensures) ∙ length-replicate {A = ℕ} 32 0, λ t l. absurd (omega arith)))
+    (λ c κs. search needs)
+    (λ c. omega arith)
+    (λ c. omega arith)
+    (λ c. omega arith)
+    (λ c. omega arith)
     loop-again
-    returns)
+    (λ c. record { long = c .before .loop .inv .0; at = λ t l. c .before .loop .inv .1 t (omega arith) }))

@@ -9,10 +9,5 @@ narrow-spec =
     (tie.spec
     (λ block facts safe cube₀ pairs₀ rounds₀ cube pairs rounds. rounds ≤ 600)
     (λ block facts safe cube₀ pairs₀ rounds₀ cube pairs rounds. 600 - rounds)
-    (λ c. search needs)
-    (λ c κs. search needs)
-    (λ c. search needs)
-    (λ c. search needs)
-    (λ c. search needs)
-    (λ c. search needs)
+    (λ c. search needs) (λ c κs. search needs) (λ c. search needs) (λ c. search needs) (λ c. search needs) (λ c. search needs)
     (λ c. search needs))

@@ -9,11 +9,5 @@ pair-safe-spec =
     (tie.spec
     (λ block facts cube safe z end x₀ x. x ≤ end)
     (λ block facts cube safe z end x₀ x. end - x)
-    (λ c κs. search needs)
-    (λ c. search needs)
-    (λ c κs. search needs)
-    (λ c. search needs)
-    (λ c. search needs)
-    (λ c. search needs)
-    (λ c. search needs)
-    (λ c. search needs))
+    (λ c κs. search needs) (λ c. search needs) (λ c κs. search needs) (λ c. search needs) (λ c. search needs) (λ c. search needs)
+    (λ c. search needs) (λ c. search needs))

@@ -9,10 +9,5 @@ safe-pairs-spec =
     (tie.spec
     (λ block facts cube safe₀ rounds₀ safe rounds. rounds ≤ 300)
     (λ block facts cube safe₀ rounds₀ safe rounds. 300 - rounds)
-    (λ c. search needs)
-    (λ c κs. search needs)
-    (λ c. search needs)
-    (λ c. search needs)
-    (λ c. search needs)
-    (λ c. search needs)
+    (λ c. search needs) (λ c κs. search needs) (λ c. search needs) (λ c. search needs) (λ c. search needs) (λ c. search needs)
     (λ c. search needs))

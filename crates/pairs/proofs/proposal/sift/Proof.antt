@@ -9,11 +9,5 @@ sift-spec =
     (tie.spec
     (λ block facts cube safe₀ end changed₀ h₀ safe changed h. h ≤ end)
     (λ block facts cube safe₀ end changed₀ h₀ safe changed h. end - h)
-    (λ c κs. search needs)
-    (λ c. search needs)
-    (λ c κs. search needs)
-    (λ c κs. search needs)
-    (λ c. search needs)
-    (λ c. search needs)
-    (λ c. search needs)
-    (λ c. search needs))
+    (λ c κs. search needs) (λ c. search needs) (λ c κs. search needs) (λ c κs. search needs) (λ c. search needs)
+    (λ c. search needs) (λ c. search needs) (λ c. search needs))

@@ -9,11 +9,5 @@ spread-pair-spec =
     (tie.spec
     (λ block facts safe cube₀ pairs₀ z end w₀ x₀ cube pairs w x. x ≤ end)
     (λ block facts safe cube₀ pairs₀ z end w₀ x₀ cube pairs w x. end - x)
-    (λ c κs. search needs)
-    (λ c. search needs)
-    (λ c κs. search needs)
-    (λ c. search needs)
-    (λ c. search needs)
-    (λ c. search needs)
-    (λ c. search needs)
-    (λ c. search needs))
+    (λ c κs. search needs) (λ c. search needs) (λ c κs. search needs) (λ c. search needs) (λ c. search needs) (λ c. search needs)
+    (λ c. search needs) (λ c. search needs))

@@ -9,11 +9,5 @@ walk-pair-spec =
     (tie.spec
     (λ block facts cube seen₀ list₀ z end w₀ x₀ seen list w x. x ≤ end)
     (λ block facts cube seen₀ list₀ z end w₀ x₀ seen list w x. end - x)
-    (λ c κs. search needs)
-    (λ c. search needs)
-    (λ c κs. search needs)
-    (λ c. search needs)
-    (λ c. search needs)
-    (λ c. search needs)
-    (λ c. search needs)
-    (λ c. search needs))
+    (λ c κs. search needs) (λ c. search needs) (λ c κs. search needs) (λ c. search needs) (λ c. search needs) (λ c. search needs)
+    (λ c. search needs) (λ c. search needs))

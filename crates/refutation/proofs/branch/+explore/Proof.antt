@@ -45,130 +45,82 @@ explore-μ-loop block facts log goal store₀ notes₀ node from cursors seen kn
 explore-look-requires : (t : ℕ) → explore-lts.Need-look-requires (cs t) (explore-at t) explore.Post explore-Inv-loop explore-μ-loop
 explore-look-requires t c κs = c .before .before .before .before .before .before .before .pre .1
 
-explore-same-length : (t : ℕ) → explore-lts.Need-same-length (cs t) (explore-at t) explore.Post explore-Inv-loop explore-μ-loop
-explore-same-length t c = search needs
-
-explore-same-length-2 : (t : ℕ) → explore-lts.Need-same-length-2 (cs t) (explore-at t) explore.Post explore-Inv-loop explore-μ-loop
-explore-same-length-2 t c = search needs
-
 explore-returns : (t : ℕ) → explore-lts.Need-returns (cs t) (explore-at t) explore.Post explore-Inv-loop explore-μ-loop
 explore-returns t c = c .before .before .before .before .before .look .ensures
 
-explore-next-split-requires : (t : ℕ) → explore-lts.Need-next-split-requires (cs t) (explore-at t) explore.Post explore-Inv-loop explore-μ-loop
-explore-next-split-requires t c κs = search needs
-
-explore-same-length-3 : (t : ℕ) → explore-lts.Need-same-length-3 (cs t) (explore-at t) explore.Post explore-Inv-loop explore-μ-loop
-explore-same-length-3 t c = search needs
-
-explore-same-length-4 : (t : ℕ) → explore-lts.Need-same-length-4 (cs t) (explore-at t) explore.Post explore-Inv-loop explore-μ-loop
-explore-same-length-4 t c = search needs
-
 explore-returns-2 : (t : ℕ) → explore-lts.Need-returns-2 (cs t) (explore-at t) explore.Post explore-Inv-loop explore-μ-loop
-explore-returns-2 t c = c .before .before .before .before .before .before .before .before .before .before .before .before .before .before .look .ensures
+explore-returns-2 t c = c .before .before .before .before .before .before .before .before .before .before .before .before .before .look .ensures
 
 explore-loop-holds : (t : ℕ) → explore-lts.Need-loop-holds (cs t) (explore-at t) explore.Post explore-Inv-loop explore-μ-loop
-explore-loop-holds t c = (trying-start, c .before .before .before .before .next-split .ensures (omega arith), c .before .before .before .before .before .before .before .before .before .before .before .before .before .before .look .ensures .kept, refl, refl)
+explore-loop-holds t c = (trying-start, c .before .before .before .before .next-split .ensures (omega arith), c .before .before .before .before .before .before .before .before .before .before .before .before .before .look .ensures .kept, refl, refl)
 
 explore-add-if3 : (t : ℕ) → explore-lts.Need-add-if3 (cs t) (explore-at t) explore.Post explore-Inv-loop explore-μ-loop
-explore-add-if3 t c = omega (arith, c .before .loop .inv .1 .count, c .before .before .before .before .before .before .before .before .before .before .before .before .before .before .before .before .before .before .before .before .before .before .before .before .pre .1 .0 .wf .choices _ (c .before .loop .inv .1 .low))
+explore-add-if3 t c = omega (arith, c .before .loop .inv .1 .count, c .before .before .before .before .before .before .before .before .before .before .before .before .before .before .before .before .before .before .before .before .before .before .before .pre .1 .0 .wf .choices _ (c .before .loop .inv .1 .low))
 
 explore-at-turn-requires : (t : ℕ) → explore-lts.Need-at-turn-requires (cs t) (explore-at t) explore.Post explore-Inv-loop explore-μ-loop
 explore-at-turn-requires t c κs = c .before .before .before .before .loop .inv .1 .pair
 
 explore-add-r : (t : ℕ) → explore-lts.Need-add-r (cs t) (explore-at t) explore.Post explore-Inv-loop explore-μ-loop
-explore-add-r t c = omega (arith, c .before .before .before .before .if3 .taken, c .before .before .before .before .before .before .loop .inv .1 .count, c .before .before .before .before .before .before .before .before .before .before .before .before .before .before .before .before .before .before .before .before .before .before .before .before .before .before .before .before .before .pre .1 .0 .wf .choices _ (c .before .before .before .before .before .before .loop .inv .1 .low))
-
-explore-loop-less : (t : ℕ) → explore-lts.Need-loop-less (cs t) (explore-at t) explore.Post explore-Inv-loop explore-μ-loop
-explore-loop-less t c = search needs
+explore-add-r t c = omega (arith, c .before .before .before .before .if3 .taken, c .before .before .before .before .before .before .loop .inv .1 .count, c .before .before .before .before .before .before .before .before .before .before .before .before .before .before .before .before .before .before .before .before .before .before .before .before .before .before .before .before .pre .1 .0 .wf .choices _ (c .before .before .before .before .before .before .loop .inv .1 .low))
 
 explore-loop-again : (t : ℕ) → explore-lts.Need-loop-again (cs t) (explore-at t) explore.Post explore-Inv-loop explore-μ-loop
-explore-loop-again t c = let inv = c .before .before .before .before .before .before .loop .inv in (trying-skip (c .before .before .before .before .before .before .before .before .before .before .before .before .before .before .before .before .before .before .before .before .before .before .before .before .before .before .before .before .before .pre .1 .0 .wf) (inv .1) (c .before .before .before .before .if3 .taken) (c .before .at-turn .ensures) (inv .0) (c .if4 .taken), inv .1, inv .2, inv .3, inv .4)
+explore-loop-again t c = let inv = c .before .before .before .before .before .before .loop .inv in (trying-skip (c .before .before .before .before .before .before .before .before .before .before .before .before .before .before .before .before .before .before .before .before .before .before .before .before .before .before .before .before .pre .1 .0 .wf) (inv .1) (c .before .before .before .before .if3 .taken) (c .before .at-turn .ensures) (inv .0) (c .if4 .taken), inv .1, inv .2, inv .3, inv .4)
 
 explore-child-requires : (t : ℕ) → explore-lts.Need-child-requires (cs t) (explore-at t) explore.Post explore-Inv-loop explore-μ-loop
 explore-child-requires t c κs = c .before .before .before .before .before .before .loop .inv .1 .some
 
 explore-explore-requires : (t : ℕ) → explore-lts.Need-explore-requires (cs t) (explore-at t) explore.Post explore-Inv-loop explore-μ-loop
-explore-explore-requires t c κs = (omega (arith, c .before .before .before .child .ensures, c .before .before .before .before .before .before .before .before .before .before .before .before .before .before .before .before .before .before .before .before .before .before .before .before .before .before .before .before .before .before .before .before .before .pre .0), (c .before .before .before .before .before .before .before .before .before .before .before .before .before .before .before .before .before .before .before .before .before .before .before .before .before .before .before .before .before .before .before .before .before .pre .1 .0, c .before .before .before .before .before .before .before .before .before .before .loop .inv .2))
-
-explore-final-at-requires : (t : ℕ) → explore-lts.Need-final-at-requires (cs t) (explore-at t) explore.Post explore-Inv-loop explore-μ-loop
-explore-final-at-requires t c κs = search needs
+explore-explore-requires t c κs = (omega (arith, c .before .before .before .child .ensures, c .before .before .before .before .before .before .before .before .before .before .before .before .before .before .before .before .before .before .before .before .before .before .before .before .before .before .before .before .before .before .before .before .pre .0), (c .before .before .before .before .before .before .before .before .before .before .before .before .before .before .before .before .before .before .before .before .before .before .before .before .before .before .before .before .before .before .before .before .pre .1 .0, c .before .before .before .before .before .before .before .before .before .before .loop .inv .2))
 
 explore-same-length-5 : (t : ℕ) → explore-lts.Need-same-length-5 (cs t) (explore-at t) explore.Post explore-Inv-loop explore-μ-loop
-explore-same-length-5 t c = omega (arith, c .before .before .before .before .before .before .before .store2 .given, c .before .before .before .before .before .before .before .before .before .before .before .before .before .before .before .before .before .before .before .loop .inv .3, c .before .before .before .before .before .before .before .before .before .before .before .before .before .before .before .before .before .before .before .before .before .before .before .before .before .before .before .before .before .before .before .before .before .store .given)
+explore-same-length-5 t c = omega (arith, c .before .before .before .before .before .before .before .store2 .given, c .before .before .before .before .before .before .before .before .before .before .before .before .before .before .before .before .before .before .before .loop .inv .3, c .before .before .before .before .before .before .before .before .before .before .before .before .before .before .before .before .before .before .before .before .before .before .before .before .before .before .before .before .before .before .before .before .store .given)
 
 explore-same-length-6 : (t : ℕ) → explore-lts.Need-same-length-6 (cs t) (explore-at t) explore.Post explore-Inv-loop explore-μ-loop
-explore-same-length-6 t c = omega (arith, c .before .before .before .before .before .notes3 .given, c .before .before .before .before .before .before .before .before .before .before .before .before .before .before .before .before .before .before .before .loop .inv .4, c .before .before .before .before .before .before .before .before .before .before .before .before .before .before .before .before .before .before .before .before .before .before .before .notes2 .given, c .before .before .before .before .before .before .before .before .before .before .before .before .before .before .before .before .before .before .before .before .before .before .before .before .before .before .before .before .before .before .before .notes .given)
+explore-same-length-6 t c = omega (arith, c .before .before .before .before .before .notes3 .given, c .before .before .before .before .before .before .before .before .before .before .before .before .before .before .before .before .before .before .before .loop .inv .4, c .before .before .before .before .before .before .before .before .before .before .before .before .before .before .before .before .before .before .before .before .before .before .before .notes2 .given, c .before .before .before .before .before .before .before .before .before .before .before .before .before .before .before .before .before .before .before .before .before .before .before .before .before .before .before .before .before .before .notes .given)
 
 explore-returns-3 : (t : ℕ) → explore-lts.Need-returns-3 (cs t) (explore-at t) explore.Post explore-Inv-loop explore-μ-loop
 explore-returns-3 t c = c .before .before .before .before .before .before .before .before .explore .ensures
 
 explore-join-requires : (t : ℕ) → explore-lts.Need-join-requires (cs t) (explore-at t) explore.Post explore-Inv-loop explore-μ-loop
-explore-join-requires t c κs = let inv = c .before .before .before .before .before .before .before .before .before .before .before .before .before .before .before .before .before .before .before .before .before .before .before .loop .inv in (c .before .before .before .before .before .before .before .before .before .before .before .before .before .before .before .before .before .before .before .before .before .before .before .before .before .before .before .before .before .before .before .before .before .before .before .before .before .before .before .before .before .before .before .before .before .before .pre .1 .0, inv .1 .pair, omega (arith, inv .1 .is, inv .1 .low), inv .0 .all-long, inv .0 .done-long)
+explore-join-requires t c κs = let inv = c .before .before .before .before .before .before .before .before .before .before .before .before .before .before .before .before .before .before .before .before .before .before .before .loop .inv in (c .before .before .before .before .before .before .before .before .before .before .before .before .before .before .before .before .before .before .before .before .before .before .before .before .before .before .before .before .before .before .before .before .before .before .before .before .before .before .before .before .before .before .before .before .before .pre .1 .0, inv .1 .pair, omega (arith, inv .1 .is, inv .1 .low), inv .0 .all-long, inv .0 .done-long)
 
 explore-same-length-7 : (t : ℕ) → explore-lts.Need-same-length-7 (cs t) (explore-at t) explore.Post explore-Inv-loop explore-μ-loop
-explore-same-length-7 t c = omega (arith, c .before .before .before .before .before .before .before .before .before .before .before .before .before .store2 .given, c .before .before .before .before .before .before .before .before .before .before .before .before .before .before .before .before .before .before .before .before .before .before .before .before .before .loop .inv .3, c .before .before .before .before .before .before .before .before .before .before .before .before .before .before .before .before .before .before .before .before .before .before .before .before .before .before .before .before .before .before .before .before .before .before .before .before .before .before .before .store .given)
+explore-same-length-7 t c = omega (arith, c .before .before .before .before .before .before .before .before .before .before .before .before .before .store2 .given, c .before .before .before .before .before .before .before .before .before .before .before .before .before .before .before .before .before .before .before .before .before .before .before .before .before .loop .inv .3, c .before .before .before .before .before .before .before .before .before .before .before .before .before .before .before .before .before .before .before .before .before .before .before .before .before .before .before .before .before .before .before .before .before .before .before .before .before .before .store .given)
 
 explore-same-length-8 : (t : ℕ) → explore-lts.Need-same-length-8 (cs t) (explore-at t) explore.Post explore-Inv-loop explore-μ-loop
-explore-same-length-8 t c = omega (arith, c .before .before .before .before .before .before .before .before .before .before .before .notes3 .given, c .before .before .before .before .before .before .before .before .before .before .before .before .before .before .before .before .before .before .before .before .before .before .before .before .before .loop .inv .4, c .before .before .before .before .before .before .before .before .before .before .before .before .before .before .before .before .before .before .before .before .before .before .before .before .before .before .before .before .before .notes2 .given, c .before .before .before .before .before .before .before .before .before .before .before .before .before .before .before .before .before .before .before .before .before .before .before .before .before .before .before .before .before .before .before .before .before .before .before .before .before .notes .given)
+explore-same-length-8 t c = omega (arith, c .before .before .before .before .before .before .before .before .before .before .before .notes3 .given, c .before .before .before .before .before .before .before .before .before .before .before .before .before .before .before .before .before .before .before .before .before .before .before .before .before .loop .inv .4, c .before .before .before .before .before .before .before .before .before .before .before .before .before .before .before .before .before .before .before .before .before .before .before .before .before .before .before .before .before .notes2 .given, c .before .before .before .before .before .before .before .before .before .before .before .before .before .before .before .before .before .before .before .before .before .before .before .before .before .before .before .before .before .before .before .before .before .before .before .before .notes .given)
 
 explore-returns-4 : (t : ℕ) → explore-lts.Need-returns-4 (cs t) (explore-at t) explore.Post explore-Inv-loop explore-μ-loop
-explore-returns-4 t c = record { told = c .before .before .before .before .before .before .before .before .before .before .before .before .before .before .before .before .before .before .before .before .before .before .before .before .before .before .before .before .before .before .before .before .before .before .before .before .before .before .before .before .look .ensures .told; kept = c .before .before .before .before .before .before .before .before .before .before .before .before .before .before .explore .ensures .kept }
+explore-returns-4 t c = record { told = c .before .before .before .before .before .before .before .before .before .before .before .before .before .before .before .before .before .before .before .before .before .before .before .before .before .before .before .before .before .before .before .before .before .before .before .before .before .before .before .look .ensures .told; kept = c .before .before .before .before .before .before .before .before .before .before .before .before .before .before .explore .ensures .kept }
 
 explore-add-r-2 : (t : ℕ) → explore-lts.Need-add-r-2 (cs t) (explore-at t) explore.Post explore-Inv-loop explore-μ-loop
-explore-add-r-2 t c = omega (arith, c .before .before .before .before .before .before .before .before .before .before .before .before .before .before .before .before .before .before .before .before .before .before .before .if3 .taken, c .before .before .before .before .before .before .before .before .before .before .before .before .before .before .before .before .before .before .before .before .before .before .before .before .before .loop .inv .1 .count, c .before .before .before .before .before .before .before .before .before .before .before .before .before .before .before .before .before .before .before .before .before .before .before .before .before .before .before .before .before .before .before .before .before .before .before .before .before .before .before .before .before .before .before .before .before .before .before .before .pre .1 .0 .wf .choices _ (c .before .before .before .before .before .before .before .before .before .before .before .before .before .before .before .before .before .before .before .before .before .before .before .before .before .loop .inv .1 .low))
+explore-add-r-2 t c = omega (arith, c .before .before .before .before .before .before .before .before .before .before .before .before .before .before .before .before .before .before .before .before .before .before .before .if3 .taken, c .before .before .before .before .before .before .before .before .before .before .before .before .before .before .before .before .before .before .before .before .before .before .before .before .before .loop .inv .1 .count, c .before .before .before .before .before .before .before .before .before .before .before .before .before .before .before .before .before .before .before .before .before .before .before .before .before .before .before .before .before .before .before .before .before .before .before .before .before .before .before .before .before .before .before .before .before .before .before .pre .1 .0 .wf .choices _ (c .before .before .before .before .before .before .before .before .before .before .before .before .before .before .before .before .before .before .before .before .before .before .before .before .before .loop .inv .1 .low))
 
 explore-loop-less-2 : (t : ℕ) → explore-lts.Need-loop-less-2 (cs t) (explore-at t) explore.Post explore-Inv-loop explore-μ-loop
 explore-loop-less-2 t c = omega (arith, c .before .before .before .before .before .before .before .before .before .before .before .before .before .before .before .before .before .before .before .before .before .before .before .if3 .taken)
 
 explore-loop-again-2 : (t : ℕ) → explore-lts.Need-loop-again-2 (cs t) (explore-at t) explore.Post explore-Inv-loop explore-μ-loop
-explore-loop-again-2 t c = let inv = c .before .before .before .before .before .before .before .before .before .before .before .before .before .before .before .before .before .before .before .before .before .before .before .before .before .loop .inv in (trying-more (c .before .before .before .before .before .before .before .before .before .before .before .before .before .before .before .before .before .before .before .before .before .before .before .before .before .before .before .before .before .before .before .before .before .before .before .before .before .before .before .before .before .before .before .before .before .before .before .before .pre .1 .0 .wf) (inv .1) (c .before .before .before .before .before .before .before .before .before .before .before .before .before .before .before .before .before .before .before .before .before .before .before .if3 .taken) (c .before .before .before .before .before .before .before .before .before .before .before .before .before .before .before .before .before .before .before .before .at-turn .ensures) (inv .0) (c .before .before .before .before .before .before .before .before .before .before .before .before .before .before .explore .ensures .told .none (c .before .before .before .before .before .before .before .final-at .ensures (c .before .before .before .before .before .before .if5 .left))) (c .before .join .ensures (not-false _ (c .if6 .left))), inv .1, c .before .before .before .before .before .before .before .before .before .before .before .before .before .before .explore .ensures .kept, omega (arith, c .before .before .before .before .before .before .before .before .before .before .before .before .before .store2 .given, inv .3), omega (arith, c .before .before .before .before .before .before .before .before .before .before .before .notes3 .given, inv .4))
+explore-loop-again-2 t c = let inv = c .before .before .before .before .before .before .before .before .before .before .before .before .before .before .before .before .before .before .before .before .before .before .before .before .before .loop .inv in (trying-more (c .before .before .before .before .before .before .before .before .before .before .before .before .before .before .before .before .before .before .before .before .before .before .before .before .before .before .before .before .before .before .before .before .before .before .before .before .before .before .before .before .before .before .before .before .before .before .before .pre .1 .0 .wf) (inv .1) (c .before .before .before .before .before .before .before .before .before .before .before .before .before .before .before .before .before .before .before .before .before .before .before .if3 .taken) (c .before .before .before .before .before .before .before .before .before .before .before .before .before .before .before .before .before .before .before .before .at-turn .ensures) (inv .0) (c .before .before .before .before .before .before .before .before .before .before .before .before .before .before .explore .ensures .told .none (c .before .before .before .before .before .before .before .final-at .ensures (c .before .before .before .before .before .before .if5 .left))) (c .before .join .ensures (not-false _ (c .if6 .left))), inv .1, c .before .before .before .before .before .before .before .before .before .before .before .before .before .before .explore .ensures .kept, omega (arith, c .before .before .before .before .before .before .before .before .before .before .before .before .before .store2 .given, inv .3), omega (arith, c .before .before .before .before .before .before .before .before .before .before .before .notes3 .given, inv .4))
 
 explore-finish-requires : (t : ℕ) → explore-lts.Need-finish-requires (cs t) (explore-at t) explore.Post explore-Inv-loop explore-μ-loop
 explore-finish-requires t c κs = c .before .before .before .before .before .loop .inv .1 .low
 
 explore-same-length-9 : (t : ℕ) → explore-lts.Need-same-length-9 (cs t) (explore-at t) explore.Post explore-Inv-loop explore-μ-loop
-explore-same-length-9 t c = omega (arith, c .before .before .before .store3 .given, c .before .before .before .before .before .before .before .before .before .before .loop .inv .3, c .before .before .before .before .before .before .before .before .before .before .before .before .before .before .before .before .before .before .before .before .before .before .before .before .store .given)
+explore-same-length-9 t c = omega (arith, c .before .before .before .store3 .given, c .before .before .before .before .before .before .before .before .before .before .loop .inv .3, c .before .before .before .before .before .before .before .before .before .before .before .before .before .before .before .before .before .before .before .before .before .before .before .store .given)
 
 explore-same-length-10 : (t : ℕ) → explore-lts.Need-same-length-10 (cs t) (explore-at t) explore.Post explore-Inv-loop explore-μ-loop
-explore-same-length-10 t c = omega (arith, c .before .notes4 .given, c .before .before .before .before .before .before .before .before .before .before .loop .inv .4, c .before .before .before .before .before .before .before .before .before .before .before .before .before .before .notes2 .given, c .before .before .before .before .before .before .before .before .before .before .before .before .before .before .before .before .before .before .before .before .before .before .notes .given)
+explore-same-length-10 t c = omega (arith, c .before .notes4 .given, c .before .before .before .before .before .before .before .before .before .before .loop .inv .4, c .before .before .before .before .before .before .before .before .before .before .before .before .before .before .notes2 .given, c .before .before .before .before .before .before .before .before .before .before .before .before .before .before .before .before .before .before .before .before .before .notes .given)
 
 explore-returns-5 : (t : ℕ) → explore-lts.Need-returns-5 (cs t) (explore-at t) explore.Post explore-Inv-loop explore-μ-loop
-explore-returns-5 t c = let inv = c .before .before .before .before .before .before .before .before .before .before .loop .inv in found-learnt (c .before .before .before .before .before .before .before .before .before .before .before .before .before .before .before .before .before .before .before .before .before .before .before .before .before .before .before .before .before .before .before .before .before .pre .1 .0 .wf) (inv .2) (record { none = λ e. trying-end (c .before .before .before .before .before .before .before .before .before .before .before .before .before .before .before .before .before .before .before .before .before .before .before .before .before .before .before .before .before .before .before .before .before .pre .1 .0 .wf) (inv .1) (inv .0) (c .before .before .before .before .before .before .before .before .if3 .left) (c .before .before .before .before .finish .ensures .0) }) (c .before .before .before .before .finish .ensures .1)
+explore-returns-5 t c = let inv = c .before .before .before .before .before .before .before .before .before .before .loop .inv in found-learnt (c .before .before .before .before .before .before .before .before .before .before .before .before .before .before .before .before .before .before .before .before .before .before .before .before .before .before .before .before .before .before .before .before .pre .1 .0 .wf) (inv .2) (record { none = λ e. trying-end (c .before .before .before .before .before .before .before .before .before .before .before .before .before .before .before .before .before .before .before .before .before .before .before .before .before .before .before .before .before .before .before .before .pre .1 .0 .wf) (inv .1) (inv .0) (c .before .before .before .before .before .before .before .before .if3 .left) (c .before .before .before .before .finish .ensures .0) }) (c .before .before .before .before .finish .ensures .1)
 
 pub +explore-spec : {M : Type 1} → statement M
 +explore-spec = close μ-explore λ t. explore-lts.spec (cs t)
-    (explore-at t)
-    explore.Post
-    explore-Inv-loop
-    explore-μ-loop
-    (explore-look-requires t)
-    (explore-same-length t)
-    (explore-same-length-2 t)
-    (explore-returns t)
-    (explore-next-split-requires t)
-    (explore-same-length-3 t)
-    (explore-same-length-4 t)
-    (explore-returns-2 t)
-    (explore-loop-holds t)
-    (explore-add-if3 t)
-    (explore-at-turn-requires t)
-    (explore-add-r t)
-    (explore-loop-less t)
-    (explore-loop-again t)
-    (explore-child-requires t)
-    (explore-explore-requires t)
-    (explore-final-at-requires t)
-    (explore-same-length-5 t)
-    (explore-same-length-6 t)
-    (explore-returns-3 t)
-    (explore-join-requires t)
-    (explore-same-length-7 t)
-    (explore-same-length-8 t)
-    (explore-returns-4 t)
-    (explore-add-r-2 t)
-    (explore-loop-less-2 t)
-    (explore-loop-again-2 t)
-    (explore-finish-requires t)
-    (explore-same-length-9 t)
-    (explore-same-length-10 t)
+    (explore-at t) explore.Post explore-Inv-loop explore-μ-loop (explore-look-requires t) (λ c. search needs)
+    (λ c. search needs) (explore-returns t) (λ c κs. search needs) (λ c. search needs) (λ c. search needs)
+    (explore-returns-2 t) (explore-loop-holds t) (explore-add-if3 t) (explore-at-turn-requires t) (explore-add-r t)
+    (λ c. search needs) (explore-loop-again t) (explore-child-requires t) (explore-explore-requires t) (λ c κs. search needs)
+    (explore-same-length-5 t) (explore-same-length-6 t) (explore-returns-3 t) (explore-join-requires t)
+    (explore-same-length-7 t) (explore-same-length-8 t) (explore-returns-4 t) (explore-add-r-2 t) (explore-loop-less-2 t)
+    (explore-loop-again-2 t) (explore-finish-requires t) (explore-same-length-9 t) (explore-same-length-10 t)
     (explore-returns-5 t)

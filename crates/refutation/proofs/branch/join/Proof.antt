@@ -6,59 +6,25 @@ use Rattle.refutation.proofs.BranchLaw.{joined}
 use Rattle.refutation.proofs.branch.join.Statement.{statement}
 use Rattle.refutation.proofs.branch.join.Tie as tie
 
-returns : tie.Need-returns
-returns c = λ e. void e
-
-returns-2 : tie.Need-returns-2
-returns-2 c = λ e. void e
-
-site-requires : tie.Need-site-requires
-site-requires c κs = search needs
-
-wide-requires : tie.Need-wide-requires
-wide-requires c κs = search needs
-
-mul-l : tie.Need-mul-l
-mul-l c = search needs
-
-element-copy-out-l : tie.Need-element-copy-out-l
-element-copy-out-l c = search needs
-
-returns-3 : tie.Need-returns-3
-returns-3 c = λ e. void e
-
-means-requires : tie.Need-means-requires
-means-requires c κs = search needs
-
-returns-4 : tie.Need-returns-4
-returns-4 c = λ e. void e
-
-note-requires : tie.Need-note-requires
-note-requires c κs = search needs
-
-meet-in-requires : tie.Need-meet-in-requires
-meet-in-requires c κs = search needs
-
-reflect-requires : tie.Need-reflect-requires
-reflect-requires c κs = search needs
-
 returns-5 : tie.Need-returns-5
-returns-5 c = λ e. joined (c .before .before .before .before .before .before .before .before .before .before .before .site .result) _ (c .before .before .before .before .before .before .before .before .before .before .before .before .before .before .pre .0 .wf) (c .before .before .before .before .before .before .before .before .before .before .before .before .before .before .pre .1) (c .before .before .before .before .before .before .before .before .before .before .before .before .before .before .pre .2) (c .before .before .before .before .before .before .before .before .before .before .before .site .ensures) (rw (c .before .before .before .before .before .before .before .before .before .before .wide .ensures .0)) (c .before .before .before .before .before .before .before .before .if3 .left) (omega arith) (c .before .before .before .before .before .before .before .means .ensures (not-false _ (c .before .before .before .before .before .before .if4 .left))) (c .before .before .before .before .note .ensures) (c .before .before .meet-in .ensures) (c .reflect .ensures)
+returns-5 c =
+    let at-note = c .before .before .before .before in
+    let at-if4 = at-note .before .before in
+    let at-means = at-if4 .before in
+    let at-if3 = at-means .before in
+    let at-wide = at-if3 .before .before in
+    let at-site = at-wide .before in
+    let at-entry = at-site .before .before .before in
+    λ e. joined (at-site .site .result) _ (at-entry .pre .0 .wf) (at-entry .pre .1) (at-entry .pre .2) (at-site .site .ensures) (rw (at-wide .wide .ensures .0)) (at-if3 .if3 .left) (omega arith) (at-means .means .ensures (not-false _ (at-if4 .if4 .left))) (at-note .note .ensures) (c .before .before .meet-in .ensures) (c .reflect .ensures)
 
 pub join-spec : {M : Type 1} → statement M
 join-spec =
     tie.close
     (tie.spec
-    returns
-    returns-2
-    site-requires
-    wide-requires
-    mul-l
-    element-copy-out-l
-    returns-3
-    means-requires
-    returns-4
-    note-requires
-    meet-in-requires
-    reflect-requires
-    returns-5)
+    (λ c. λ e. void e)
+    (λ c. λ e. void e)
+    (λ c κs. search needs) (λ c κs. search needs) (λ c. search needs) (λ c. search needs)
+    (λ c. λ e. void e)
+    (λ c κs. search needs)
+    (λ c. λ e. void e)
+    (λ c κs. search needs) (λ c κs. search needs) (λ c κs. search needs) returns-5)

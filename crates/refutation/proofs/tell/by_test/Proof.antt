@@ -2,17 +2,15 @@ use borrow.Author.Needs.{needs}
 use Rattle.refutation.proofs.tell.by_test.Statement.{statement}
 use Rattle.refutation.proofs.tell.by_test.Tie as tie
 
-propose-fail-requires : tie.Need-propose-fail-requires
-propose-fail-requires c κs = search needs
-
-test-at-requires : tie.Need-test-at-requires
-test-at-requires c κs = search needs
-
 fails-requires : tie.Need-fails-requires
-fails-requires c κs = record { wf = c .before .before .before .before .before .before .before .pre .wf; tables = c .before .before .before .before .before .before .before .pre .free }
-
-returns : tie.Need-returns
-returns c = λ g. record { none = λ e. c .fails .ensures e g }
+fails-requires c κs =
+    let earlier = c .before .before .before .before .before in
+    let at-entry = earlier .before .before in
+    record { wf = at-entry .pre .wf; tables = at-entry .pre .free }
 
 pub by-test-spec : {M : Type 1} → statement M
-by-test-spec = tie.close (tie.spec propose-fail-requires test-at-requires fails-requires returns)
+by-test-spec =
+    tie.close
+    (tie.spec
+    (λ c κs. search needs) (λ c κs. search needs) fails-requires
+    (λ c. λ g. record { none = λ e. c .fails .ensures e g }))

@@ -4,7 +4,7 @@ use borrow.Fn.Kinds.{In}
 use borrow.Fn.PlainCycle.{Measures, is, falls, and}
 use native.Mathlib.Omega.{arith}
 use mathlib.Core.Path.{_∙_}
-use Rattle.report.proofs.TextLaws.{decimal-some, decimal-longer, number-one, number-more}
+use Rattle.report.specs.laws.TextLaw.{decimal-some, decimal-longer, number-one, number-more}
 use Rattle.report.proofs.text.put_number.Reads as put-number
 use Rattle.report.proofs.text.put_number.Kinds as put-number-kinds
 use Rattle.report.proofs.text.+put_number.Lts-put_number as put-number-lts
@@ -111,14 +111,6 @@ pub +put-number-spec : {M : Type 1} → statement M
   put-number-below t,
   put-number.Post,
 )
-    (put-number-at t)
-    put-number.Post
-    (put-number-cast-digit t)
-    (put-number-add-digit t)
-    (put-number-put-requires t)
-    (put-number-same-length t)
-    (put-number-returns t)
-    (put-number-put-number-requires t)
-    (put-number-put-requires-2 t)
-    (put-number-same-length-2 t)
-    (put-number-returns-2 t)
+    (put-number-at t) put-number.Post (put-number-cast-digit t) (put-number-add-digit t) (put-number-put-requires t)
+    (put-number-same-length t) (put-number-returns t) (put-number-put-number-requires t) (put-number-put-requires-2 t)
+    (put-number-same-length-2 t) (put-number-returns-2 t)

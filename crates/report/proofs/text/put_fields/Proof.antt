@@ -2,7 +2,7 @@
 use Prim.Native.Nat.{_+_, _*_, _≤_, _-_}
 use native.Mathlib.Omega.{arith}
 use lib.ListN.{length, take}
-use Rattle.report.proofs.TextLaws.{byte-digits, field-more, fields-none, fields-all}
+use Rattle.report.specs.laws.TextLaw.{byte-digits, field-more, fields-none, fields-all}
 use Rattle.report.specs.Text.{Appended, fields}
 use Rattle.report.proofs.text.put_fields.Statement.{statement}
 use Rattle.report.proofs.text.put_fields.Tie as tie
@@ -13,29 +13,17 @@ Inv-loop out₀ at numbers i₀ end₀ out i end = (i ≤ length numbers) × (en
 abbrev μ-loop : tie.MeasureT-loop
 μ-loop out₀ at numbers i₀ end₀ out i end = length numbers - i
 
-loop-holds : tie.Need-loop-holds Inv-loop μ-loop
-loop-holds c = (omega arith, omega arith, fields-none _ _)
-
-put-requires : tie.Need-put-requires Inv-loop μ-loop
-put-requires c κs = omega (arith, c .before .before .loop .inv .2 .long)
-
-shared-slice-read-put-number : tie.Need-shared-slice-read-put-number Inv-loop μ-loop
-shared-slice-read-put-number c = omega arith
-
 cast-put-number : tie.Need-cast-put-number Inv-loop μ-loop
-cast-put-number c = omega (arith, c .shared-slice-known2 .given (c .before .before .before .before .before .before .before .loop .i))
+cast-put-number c =
+    let earlier = c .before .before .before .before .before in
+    let at-loop = earlier .before .before in
+    omega (arith, c .shared-slice-known2 .given (at-loop .loop .i))
 
 put-number-requires : tie.Need-put-number-requires Inv-loop μ-loop
 put-number-requires c κs =
     let at-put = c .before .before .before .before in
     let at-loop = at-put .before .before .before in
     omega (arith, at-loop .loop .inv .2 .long, at-put .put .ensures .end, at-put .put .ensures .long, byte-digits _ (c .shared-slice-known2 .given (at-loop .loop .i)))
-
-add-i : tie.Need-add-i Inv-loop μ-loop
-add-i c = omega arith
-
-loop-less : tie.Need-loop-less Inv-loop μ-loop
-loop-less c = omega arith
 
 loop-again : tie.Need-loop-again Inv-loop μ-loop
 loop-again c =
@@ -48,25 +36,17 @@ loop-again c =
       field-more (entry .args .numbers .now) (at-loop .loop .i) (at-loop .loop .inv .2) (at-put .put .ensures) (c .before .before .put-number .ensures) (omega arith),
     )
 
-same-length : tie.Need-same-length Inv-loop μ-loop
-same-length c = c .before .loop .inv .2 .long
-
-returns : tie.Need-returns Inv-loop μ-loop
-returns c = (fields-all (c .before .before .before .before .args .numbers .now) (c .before .loop .i) (c .before .loop .inv .2) (omega arith), omega arith)
-
 pub put-fields-spec : {M : Type 1} → statement M
 put-fields-spec =
     tie.close
     (tie.spec
-    Inv-loop
-    μ-loop
-    loop-holds
-    put-requires
-    shared-slice-read-put-number
-    cast-put-number
-    put-number-requires
-    add-i
-    loop-less
+    Inv-loop μ-loop
+    (λ c. (omega arith, omega arith, fields-none _ _))
+    (λ c κs. omega (arith, c .before .before .loop .inv .2 .long))
+    (λ c. omega arith)
+    cast-put-number put-number-requires
+    (λ c. omega arith)
+    (λ c. omega arith)
     loop-again
-    same-length
-    returns)
+    (λ c. c .before .loop .inv .2 .long)
+    (λ c. (fields-all (c .before .before .before .before .args .numbers .now) (c .before .loop .i) (c .before .loop .inv .2) (omega arith), omega arith)))

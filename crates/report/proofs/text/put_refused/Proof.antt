@@ -2,21 +2,15 @@
 use native.Mathlib.Omega.{arith}
 use borrow.Author.Needs.{needs}
 use Rattle.report.specs.Text.{refusedLine}
-use Rattle.report.proofs.TextLaws.{appended-more, byte-digits, place-digits}
+use Rattle.report.specs.laws.TextLaw.{appended-more, byte-digits, place-digits}
 use Rattle.report.proofs.text.put_refused.Statement.{statement}
 use Rattle.report.proofs.text.put_refused.Tie as tie
 
-slice-aggregate-put-all : tie.Need-slice-aggregate-put-all
-slice-aggregate-put-all c = search needs
-
-put-all-requires : tie.Need-put-all-requires
-put-all-requires c κs = search needs
-
 put-number-requires : tie.Need-put-number-requires
-put-number-requires c κs = omega (arith, byte-digits _ (c .before .before .before .before .before .before .before .fits .number))
-
-slice-aggregate-put-all-2 : tie.Need-slice-aggregate-put-all-2
-slice-aggregate-put-all-2 c = search needs
+put-number-requires c κs =
+    let earlier = c .before .before .before .before .before in
+    let at-fits = earlier .before .before in
+    omega (arith, byte-digits _ (at-fits .fits .number))
 
 put-all-requires-2 : tie.Need-put-all-requires-2
 put-all-requires-2 c κs =
@@ -33,9 +27,6 @@ put-requires c κs =
     let at-fits = c .before .before .before .before .before .before .before .before .before .before .before .before .before .before .before .before .before .before .before .before in
     omega (arith, byte-digits _ (at-fits .fits .number), place-digits _ (at-fits .fits .place))
 
-same-length : tie.Need-same-length
-same-length c = search needs
-
 returns : tie.Need-returns
 unfolding refusedLine
 returns c =
@@ -50,12 +41,5 @@ pub put-refused-spec : {M : Type 1} → statement M
 put-refused-spec =
     tie.close
     (tie.spec
-    slice-aggregate-put-all
-    put-all-requires
-    put-number-requires
-    slice-aggregate-put-all-2
-    put-all-requires-2
-    put-number-requires-2
-    put-requires
-    same-length
-    returns)
+    (λ c. search needs) (λ c κs. search needs) put-number-requires (λ c. search needs) put-all-requires-2 put-number-requires-2
+    put-requires (λ c. search needs) returns)

@@ -1,51 +1,31 @@
--- `find_thoroughly`: the search with a store, which does not give up.
 use borrow.Author.Needs.{needs}
 use native.Mathlib.Omega.{arith}
+use Prim.Native.Nat.{ℕ}
+use lib.ListN.{length-replicate}
+use Rattle.block.specs.laws.TabledLaw.{well-formed}
 use Rattle.search.proofs.SearchLaw.{start}
 use Rattle.search.proofs.attempts.find_thoroughly.Statement.{statement}
 use Rattle.search.proofs.attempts.find_thoroughly.Tie as tie
 
-fresh-store-requires : tie.Need-fresh-store-requires
-fresh-store-requires c κs = search needs
-
-long-notes-requires : tie.Need-long-notes-requires
-long-notes-requires c κs = search needs
-
-slice-aggregate-search : tie.Need-slice-aggregate-search
-slice-aggregate-search c = search needs
-
-slice-aggregate-search-2 : tie.Need-slice-aggregate-search-2
-slice-aggregate-search-2 c = search needs
-
-unsettled-requires : tie.Need-unsettled-requires
-unsettled-requires c κs = search needs
-
 search-requires : tie.Need-search-requires
-search-requires c κs = ((c .before .before .before .before .before .before .pre .0 .0, rw (c .unsettled .ensures) (start (c .before .before .before .before .before .before .pre .0 .1))), (c .before .before .before .before .before .before .pre .1, c .before .before .before .before .fresh-store .ensures _ _ _))
-
-slice-aggregate-nodes : tie.Need-slice-aggregate-nodes
-slice-aggregate-nodes c = search needs
-
-nodes-requires : tie.Need-nodes-requires
-nodes-requires c κs = search needs
-
-wrapping-add-u32-requires : tie.Need-wrapping-add-u32-requires
-wrapping-add-u32-requires c κs = search needs
+search-requires c κs =
+    let at-fresh-store = c .before .before .before .before .before in
+    let at-prepare = at-fresh-store .before in
+    let at-entry = at-prepare .before .before .before .before in
+    ((at-entry .pre .0, rw (c .unsettled .ensures) (start (at-entry .pre .1))), (at-prepare .prepare .ensures, at-fresh-store .fresh-store .ensures _ _ _))
 
 returns : tie.Need-returns
-returns c = (λ sh s. rw (c .before .before .before .before .before .before .before .unsettled .ensures) at (c .before .before .before .before .before .before .search .ensures .0 sh (rw (c .before .before .before .before .before .before .before .unsettled .ensures) (start s))), λ e. omega (arith, c .before .before .before .before .before .before .search .ensures .1 .1 e, c .before .before .before .before .before .before .search .kept .1 .1 .1 .1 .1 .0, c .before .before .before .before .before .store2 .given))
+returns c =
+    let at-store2 = c .before .before .before .before .before in
+    let at-search = at-store2 .before in
+    let at-unsettled = at-search .before in
+    (λ sh s. rw (at-unsettled .unsettled .ensures) at (at-search .search .ensures .0 sh (rw (at-unsettled .unsettled .ensures) (start s))), λ e. omega (arith, at-search .search .ensures .1 .1 e, at-search .search .kept .1 .1 .1 .1 .1 .0, at-store2 .store2 .given))
 
 pub find-thoroughly-spec : {M : Type 1} → statement M
 find-thoroughly-spec =
     tie.close
     (tie.spec
-    fresh-store-requires
-    long-notes-requires
-    slice-aggregate-search
-    slice-aggregate-search-2
-    unsettled-requires
-    search-requires
-    slice-aggregate-nodes
-    nodes-requires
-    wrapping-add-u32-requires
-    returns)
+    (λ c κs. search needs)
+    (λ c κs. (well-formed (c .before .before .before .pre .1 .tabled), rw (c .before .no-facts .ensures) (length-replicate {A = ℕ} 832 0)))
+    (λ c κs. search needs) (λ c κs. search needs) (λ c. search needs) (λ c. search needs) (λ c κs. search needs) search-requires
+    (λ c. search needs) (λ c κs. search needs) (λ c κs. search needs) returns)

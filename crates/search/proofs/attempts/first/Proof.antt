@@ -7,23 +7,19 @@ use Rattle.search.proofs.SearchLaw.{other, nothing, showing}
 use Rattle.search.proofs.attempts.first.Statement.{statement}
 use Rattle.search.proofs.attempts.first.Tie as tie
 
-find-requires : tie.Need-find-requires
-find-requires c κs = search needs
-
-enum-told : tie.Need-enum-told
-enum-told c = search needs
-
 show-requires : tie.Need-show-requires
-show-requires c κs = ((c .before .before .before .before .before .before .before .before .before .before .before .pre .0 .0, showing (c .before .before .before .before .before .before .before .before .before .before .before .pre .0 .1) (rw (c .before .before .before .before .enum-told .given .1) at (c .before .before .before .before .before .before .find .ensures .0 (c .before .before .before .before .before .before .before .before .before .before .before .pre .0 .0) (c .before .before .before .before .before .before .before .before .before .before .before .pre .0 .1)))), c .before .before .before .before .before .before .before .before .before .before .before .pre .1)
-
-same-length : tie.Need-same-length
-same-length c = search needs
-
-same-length-2 : tie.Need-same-length-2
-same-length-2 c = search needs
+show-requires c κs =
+    let at-enum-told = c .before .before .before .before in
+    let at-find = at-enum-told .before .before in
+    let at-entry = at-find .before .before .before .before .before in
+    ((at-entry .pre .0 .0, showing (at-entry .pre .0 .1) (rw (at-enum-told .enum-told .given .1) at (at-find .find .ensures .0 (at-entry .pre .0 .0) (at-entry .pre .0 .1)))), at-entry .pre .1)
 
 returns : tie.Need-returns
-returns c = λ sh s. let a = rw (c .before .before .before .before .before .before .before .before .before .enum-told .given .1) at (c .before .before .before .before .before .before .before .before .before .before .before .find .ensures .0 sh s) in record { mutant = _; first = a .first; written = c .before .before .before .before .show .ensures sh (showing s a) }
+returns c =
+    let at-show = c .before .before .before .before in
+    let at-enum-told = at-show .before .before .before .before .before in
+    let at-find = at-enum-told .before .before in
+    λ sh s. let a = rw (at-enum-told .enum-told .given .1) at (at-find .find .ensures .0 sh s) in record { mutant = _; first = a .first; written = at-show .show .ensures sh (showing s a) }
 
 returns-2 : tie.Need-returns-2
 returns-2 c = λ sh s. (nothing (c .before .find .result .found) _ (other (c .before .find .result .found) First (c .match .keys2) (λ z. omega arith) (λ z. omega arith)) (c .before .find .ensures .1) (c .before .find .ensures .0 sh s), record { board = refl; sequence = refl })
@@ -31,4 +27,5 @@ returns-2 c = λ sh s. (nothing (c .before .find .result .found) _ (other (c .be
 pub first-spec : {M : Type 1} → statement M
 first-spec =
     tie.close
-    (tie.spec find-requires enum-told show-requires same-length same-length-2 returns returns-2)
+    (tie.spec
+    (λ c κs. search needs) (λ c. search needs) show-requires (λ c. search needs) (λ c. search needs) returns returns-2)

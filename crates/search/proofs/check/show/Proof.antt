@@ -5,23 +5,16 @@ use Rattle.search.proofs.CheckLaw.{choice-bytes, front-length, distingu
 use Rattle.search.proofs.check.show.Statement.{statement}
 use Rattle.search.proofs.check.show.Tie as tie
 
-slots-requires : tie.Need-slots-requires
-slots-requires c κs = search needs
-
-wide-requires : tie.Need-wide-requires
-wide-requires c κs = search needs
-
 write-choices-requires : tie.Need-write-choices-requires
 write-choices-requires c κs = let b = choice-bytes (c .before .before .before .before .before .pre .0 .1) (c .before .wide .ensures .0 ∙ c .before .before .slots .ensures) in (b .0, b .1, rw (c .before .wide .ensures .0 ∙ c .before .before .slots .ensures) (c .before .before .before .before .before .pre .1 .choices), b .2)
 
-slice-reshare-prefix-machine-of : tie.Need-slice-reshare-prefix-machine-of
-slice-reshare-prefix-machine-of c = search needs
-
 slice-aggregate-machine-of : tie.Need-slice-aggregate-machine-of
-slice-aggregate-machine-of c = front-length (c .before .before .before .before .before .before .before .before .before .pre .0 .1) (c .before .before .before .before .before .wide .ensures .0 ∙ c .before .before .before .before .before .before .slots .ensures) _ (c .before .before .before .write-choices .ensures)
-
-machine-of-requires : tie.Need-machine-of-requires
-machine-of-requires c κs = search needs
+slice-aggregate-machine-of c =
+    let at-write-choices = c .before .before .before in
+    let at-wide = at-write-choices .before .before in
+    let at-slots = at-wide .before in
+    let at-entry = at-slots .before .before .before in
+    front-length (at-entry .pre .0 .1) (at-wide .wide .ensures .0 ∙ at-slots .slots .ensures) _ (at-write-choices .write-choices .ensures)
 
 distinguish-requires : tie.Need-distinguish-requires
 distinguish-requires c κs =
@@ -29,26 +22,18 @@ distinguish-requires c κs =
     let made = c .before .before .before .before .machine-of .ensures (c .before .before .before .before .before .before .before .before .before .before .before .before .before .before .pre .0 .0) (h .tabled) in
     let a = distinguish-asks h (c .before .before .before .before .before .before .before .before .before .before .wide .ensures .0 ∙ c .before .before .before .before .before .before .before .before .before .before .before .slots .ensures) _ (c .before .before .before .before .before .before .before .before .write-choices .ensures) made in (a .0, (a .1, c .before .before .before .before .before .before .before .before .before .before .before .before .before .before .pre .1 .inputs))
 
-same-length : tie.Need-same-length
-same-length c = search needs
-
-same-length-2 : tie.Need-same-length-2
-same-length-2 c = search needs
-
 returns : tie.Need-returns
-returns c = λ sh h. written h (c .before .before .before .before .before .before .before .before .before .before .before .before .before .wide .ensures .0 ∙ c .before .before .before .before .before .before .before .before .before .before .before .before .before .before .slots .ensures) _ (c .before .before .before .before .before .before .before .before .before .before .before .write-choices .ensures) (c .before .before .before .before .before .before .before .machine-of .ensures sh (h .tabled)) _ (c .before .before .distinguish .ensures .0) (c .before .before .distinguish .ensures .1)
+returns c =
+    let earlier = c .before .before .before .before .before in
+    let at-machine-of = earlier .before .before in
+    let at-write-choices = at-machine-of .before .before .before .before in
+    let at-wide = at-write-choices .before .before in
+    let at-slots = at-wide .before in
+    λ sh h. written h (at-wide .wide .ensures .0 ∙ at-slots .slots .ensures) _ (at-write-choices .write-choices .ensures) (at-machine-of .machine-of .ensures sh (h .tabled)) _ (c .before .before .distinguish .ensures .0) (c .before .before .distinguish .ensures .1)
 
 pub show-spec : {M : Type 1} → statement M
 show-spec =
     tie.close
     (tie.spec
-    slots-requires
-    wide-requires
-    write-choices-requires
-    slice-reshare-prefix-machine-of
-    slice-aggregate-machine-of
-    machine-of-requires
-    distinguish-requires
-    same-length
-    same-length-2
-    returns)
+    (λ c κs. search needs) (λ c κs. search needs) write-choices-requires (λ c. search needs) slice-aggregate-machine-of
+    (λ c κs. search needs) distinguish-requires (λ c. search needs) (λ c. search needs) returns)

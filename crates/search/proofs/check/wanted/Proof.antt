@@ -6,47 +6,35 @@ use Rattle.search.proofs.CheckLaw.{lay-asks, meets-asks, fails, passes}
 use Rattle.search.proofs.check.wanted.Statement.{statement}
 use Rattle.search.proofs.check.wanted.Tie as tie
 
-blank-requires : tie.Need-blank-requires
-blank-requires c κs = search needs
-
-blank-requires-2 : tie.Need-blank-requires-2
-blank-requires-2 c κs = search needs
-
 lay-requires : tie.Need-lay-requires
 lay-requires c κs = (lay-asks (c .before .before .before .before .before .pre .1), (rw (c .before .before .before .blank .ensures) (length-replicate {A = ℕ} 256 0), rw (c .before .before .blank2 .ensures) (length-replicate {A = ℕ} 256 0)))
 
-initial-requires : tie.Need-initial-requires
-initial-requires c κs = search needs
-
-first-wrong-requires : tie.Need-first-wrong-requires
-first-wrong-requires c κs = search needs
-
-enum-told : tie.Need-enum-told
-enum-told c = search needs
-
 meets-requires : tie.Need-meets-requires
-meets-requires c κs = meets-asks (c .before .before .before .before .before .before .before .before .before .before .before .before .before .before .pre .1) (c .before .before .before .before .before .before .before .before .lay .ensures) (c .before .before .before .before .before .before .before .initial .ensures)
-
-enum-told-2 : tie.Need-enum-told-2
-enum-told-2 c = search needs
+meets-requires c κs =
+    let earlier = c .before .before .before .before .before in
+    let at-initial = earlier .before .before in
+    let at-lay = at-initial .before in
+    let earlier′ = at-lay .before .before .before .before .before in
+    let at-entry = earlier′ .before in
+    meets-asks (at-entry .pre .1) (at-lay .lay .ensures) (at-initial .initial .ensures)
 
 returns : tie.Need-returns
-returns c = λ sh w. passes w (c .before .before .before .before .before .before .before .before .before .lay .ensures) (c .before .before .before .before .before .before .before .before .initial .ensures) (c .before .before .before .before .before .first-wrong .ensures) (c .before .before .before .enum-told .given .1) (c .meets .ensures)
+returns c =
+    let at-enum-told = c .before .before .before in
+    let at-first-wrong = at-enum-told .before .before in
+    let at-initial = at-first-wrong .before .before .before in
+    let at-lay = at-initial .before in
+    λ sh w. passes w (at-lay .lay .ensures) (at-initial .initial .ensures) (at-first-wrong .first-wrong .ensures) (at-enum-told .enum-told .given .1) (c .meets .ensures)
 
 returns-2 : tie.Need-returns-2
-returns-2 c = λ sh w. fails w (c .before .before .before .before .before .before .lay .ensures) (c .before .before .before .before .before .initial .ensures) (c .before .before .first-wrong .ensures) (c .enum-told2 .given .1)
+returns-2 c =
+    let at-initial = c .before .before .before .before .before in
+    let at-lay = at-initial .before in
+    λ sh w. fails w (at-lay .lay .ensures) (at-initial .initial .ensures) (c .before .before .first-wrong .ensures) (c .enum-told2 .given .1)
 
 pub wanted-spec : {M : Type 1} → statement M
 wanted-spec =
     tie.close
     (tie.spec
-    blank-requires
-    blank-requires-2
-    lay-requires
-    initial-requires
-    first-wrong-requires
-    enum-told
-    meets-requires
-    enum-told-2
-    returns
-    returns-2)
+    (λ c κs. search needs) (λ c κs. search needs) lay-requires (λ c κs. search needs) (λ c κs. search needs) (λ c. search needs)
+    meets-requires (λ c. search needs) returns returns-2)

@@ -14,30 +14,12 @@ Inv-loop p n board₀ j₀ board j = (j ≤ n) × (board ≡ take j p ++ drop j 
 abbrev μ-loop : tie.MeasureT-loop
 μ-loop p n board₀ j₀ board j = n - j
 
-loop-holds : tie.Need-loop-holds Inv-loop μ-loop
-loop-holds c = (omega arith, refl)
-
-mul-board : tie.Need-mul-board Inv-loop μ-loop
-mul-board c = omega (arith, c .before .before .pre .0)
-
-element-copy-out-board : tie.Need-element-copy-out-board Inv-loop μ-loop
-element-copy-out-board c = omega (arith, c .before .before .pre .0)
-
-cast-board : tie.Need-cast-board Inv-loop μ-loop
-cast-board c = omega (arith, c .before .before .before .pre .3 (c .before .before .loop .j) (c .before .loop-test .taken))
-
 slice-write-board : tie.Need-slice-write-board Inv-loop μ-loop
 slice-write-board c =
     let entry = c .before .before .before in
     let a = entry .args in
     let l = c .before .before .loop in
     omega (arith, entry .pre .0, entry .pre .1, entry .pre .2, choice-room (a .p .now) (a .board .now) (l .board) (l .j) (omega (arith, entry .pre .0, entry .pre .1, l .inv .0)) (omega (arith, entry .pre .2, l .inv .0)) (l .inv .1))
-
-add-j : tie.Need-add-j Inv-loop μ-loop
-add-j c = omega (arith, c .before .before .before .pre .0)
-
-loop-less : tie.Need-loop-less Inv-loop μ-loop
-loop-less c = omega (arith, c .before .before .before .pre .0)
 
 loop-again : tie.Need-loop-again Inv-loop μ-loop
 loop-again c =
@@ -62,15 +44,12 @@ pub write-choices-spec : {M : Type 1} → statement M
 write-choices-spec =
     tie.close
     (tie.spec
-    Inv-loop
-    μ-loop
-    loop-holds
-    mul-board
-    element-copy-out-board
-    cast-board
+    Inv-loop μ-loop
+    (λ c. (omega arith, refl))
+    (λ c. omega (arith, c .before .before .pre .0))
+    (λ c. omega (arith, c .before .before .pre .0))
+    (λ c. omega (arith, c .before .before .before .pre .3 (c .before .before .loop .j) (c .before .loop-test .taken)))
     slice-write-board
-    add-j
-    loop-less
-    loop-again
-    same-length
-    returns)
+    (λ c. omega (arith, c .before .before .before .pre .0))
+    (λ c. omega (arith, c .before .before .before .pre .0))
+    loop-again same-length returns)

@@ -11,6 +11,7 @@ use Rattle.cubes.specs.declared.goal.Goal.{Goal}
 use Rattle.refutation.specs.Store.{StoreOk}
 use Rattle.search.specs.declared.settle.Found.the-variants.{Nothing}
 use Rattle.search.specs.Search.{Searching, Tried}
+use Rattle.block.specs.laws.TabledLaw.{well-formed}
 use Rattle.search.proofs.SearchLaw.{tried-none, refuted, other, full, full-answer, ended, next-low, few-choices, searching-set, all-tried, one-tried, one-found}
 use borrow.Fn.Kinds.{In}
 use borrow.Fn.PlainCycle.{Measures, is, falls, and}
@@ -23,7 +24,7 @@ use Rattle.block.proofs.wide.Reads as wide-reads
 use Rattle.search.proofs.check.wanted.Reads as wanted-reads
 use Rattle.search.proofs.settle.refuted.Reads as refuted-reads
 use Rattle.search.proofs.settle.settled.Reads as settled-reads
-use Rattle.refutation.proofs.spent.Reads as spent-reads
+use Rattle.walks.proofs.spent.Reads as spent-reads
 use Rattle.search.proofs.settle.+search.{statement}
 use Rattle.search.proofs.settle.+search.Tie.{close}
 
@@ -54,49 +55,21 @@ abbrev search-μ-loop : search-lts.MeasureT-loop
 search-μ-loop block facts ready log goal store₀ notes₀ i p k c₀ store notes c = k - c
 
 search-refuted-requires : (t : ℕ) → search-lts.Need-refuted-requires (cs t) (search-at t) search′.Post search-Inv-loop search-μ-loop
-search-refuted-requires t c κs = c .before .before .before .before .before .before .pre .1 .1
-
-search-same-length : (t : ℕ) → search-lts.Need-same-length (cs t) (search-at t) search′.Post search-Inv-loop search-μ-loop
-search-same-length t c = search needs
-
-search-same-length-2 : (t : ℕ) → search-lts.Need-same-length-2 (cs t) (search-at t) search′.Post search-Inv-loop search-μ-loop
-search-same-length-2 t c = search needs
+search-refuted-requires t c κs =
+    let given = c .before .before .before .before .before .before .pre .1 in
+    (well-formed (given .0 .1 .sheet .tabled), given .1 .0, given .1 .1)
 
 search-returns : (t : ℕ) → search-lts.Need-returns (cs t) (search-at t) search′.Post search-Inv-loop search-μ-loop
 search-returns t c = (λ sh w. refuted w (c .before .before .before .before .before .refuted .ensures .0) (c .if1 .taken), (c .before .before .before .before .before .refuted .ensures .1, λ e. never (cc)))
 
-search-slots-requires : (t : ℕ) → search-lts.Need-slots-requires (cs t) (search-at t) search′.Post search-Inv-loop search-μ-loop
-search-slots-requires t c κs = search needs
-
-search-wide-requires : (t : ℕ) → search-lts.Need-wide-requires (cs t) (search-at t) search′.Post search-Inv-loop search-μ-loop
-search-wide-requires t c κs = search needs
-
 search-wanted-requires : (t : ℕ) → search-lts.Need-wanted-requires (cs t) (search-at t) search′.Post search-Inv-loop search-μ-loop
 search-wanted-requires t c κs = (c .before .before .before .before .before .before .before .before .before .before .before .before .before .before .before .before .pre .1 .0 .0, full (c .before .before .before .before .before .before .before .before .before .before .before .before .before .before .before .before .pre .1 .0 .1) (c .before .before .wide .ensures .0 ∙ c .before .before .before .slots .ensures) (c .before .if2 .taken))
-
-search-settled-requires : (t : ℕ) → search-lts.Need-settled-requires (cs t) (search-at t) search′.Post search-Inv-loop search-μ-loop
-search-settled-requires t c κs = search needs
-
-search-same-length-3 : (t : ℕ) → search-lts.Need-same-length-3 (cs t) (search-at t) search′.Post search-Inv-loop search-μ-loop
-search-same-length-3 t c = search needs
-
-search-same-length-4 : (t : ℕ) → search-lts.Need-same-length-4 (cs t) (search-at t) search′.Post search-Inv-loop search-μ-loop
-search-same-length-4 t c = search needs
 
 search-returns-2 : (t : ℕ) → search-lts.Need-returns-2 (cs t) (search-at t) search′.Post search-Inv-loop search-μ-loop
 search-returns-2 t c =
     let en = (c .before .before .before .before .wide .ensures .0 ∙ c .before .before .before .before .before .slots .ensures) in
     let told = c .settled .ensures in
     (λ sh w. full-answer w en (c .before .before .before .if2 .taken) _ (c .before .wanted .ensures sh (full w en (c .before .before .before .if2 .taken))) _ _ (told .0) (told .1), (c .before .before .before .before .before .before .before .before .before .before .before .refuted .ensures .1, λ e. ended (c .before .wanted .result) (sym (told .0) ∙ e)))
-
-search-spent-requires : (t : ℕ) → search-lts.Need-spent-requires (cs t) (search-at t) search′.Post search-Inv-loop search-μ-loop
-search-spent-requires t c κs = search needs
-
-search-same-length-5 : (t : ℕ) → search-lts.Need-same-length-5 (cs t) (search-at t) search′.Post search-Inv-loop search-μ-loop
-search-same-length-5 t c = search needs
-
-search-same-length-6 : (t : ℕ) → search-lts.Need-same-length-6 (cs t) (search-at t) search′.Post search-Inv-loop search-μ-loop
-search-same-length-6 t c = search needs
 
 search-returns-3 : (t : ℕ) → search-lts.Need-returns-3 (cs t) (search-at t) search′.Post search-Inv-loop search-μ-loop
 search-returns-3 t c = (λ sh w. tt, (c .before .before .before .before .before .before .before .before .before .before .before .before .refuted .ensures .1, λ e. sym (c .before .before .before .before .before .before .before .before .before .before .before .before .refuted .kept .1 .1 .1 .1 .1 .0) ∙ c .before .before .before .if3 .taken))
@@ -132,9 +105,6 @@ search-search-requires t c κs =
     let en = (c .before .before .before .before .before .before .before .wide .ensures .0 ∙ c .before .before .before .before .before .before .before .before .slots .ensures) in
     let set = searching-set w en (c .before .before .before .before .before .before .if2 .left) (c .before .before .before .before .choices .ensures) (c .before .before .loop-test .taken) in
     (omega (arith, c .before .before .before .before .before .before .before .before .before .before .before .before .before .before .before .before .before .before .before .before .before .pre .0, next-low w en (c .before .before .before .before .before .before .if2 .left) .0), ((c .before .before .before .before .before .before .before .before .before .before .before .before .before .before .before .before .before .before .before .before .before .pre .1 .0 .0, set), (c .before .before .before .before .before .before .before .before .before .before .before .before .before .before .before .before .before .before .before .before .before .pre .1 .1 .0, c .before .before .before .loop .inv .ok)))
-
-search-enum-told : (t : ℕ) → search-lts.Need-enum-told (cs t) (search-at t) search′.Post search-Inv-loop search-μ-loop
-search-enum-told t c = search needs
 
 search-same-length-7 : (t : ℕ) → search-lts.Need-same-length-7 (cs t) (search-at t) search′.Post search-Inv-loop search-μ-loop
 search-same-length-7 t c = c .before .before .before .before .before .search .kept .1 .1 .1 .1 .1 .0 ∙ c .before .before .before .before .before .before .before .before .before .loop .inv .same-store ∙ c .before .before .before .before .before .before .before .before .before .before .before .before .before .before .before .before .before .before .before .before .refuted .kept .1 .1 .1 .1 .1 .0
@@ -181,39 +151,10 @@ search-returns-5 t c = (λ sh w. all-tried w (c .before .before .before .before 
 
 pub +search-spec : {M : Type 1} → statement M
 +search-spec = close μ-search λ t. search-lts.spec (cs t)
-    (search-at t)
-    search′.Post
-    search-Inv-loop
-    search-μ-loop
-    (search-refuted-requires t)
-    (search-same-length t)
-    (search-same-length-2 t)
-    (search-returns t)
-    (search-slots-requires t)
-    (search-wide-requires t)
-    (search-wanted-requires t)
-    (search-settled-requires t)
-    (search-same-length-3 t)
-    (search-same-length-4 t)
-    (search-returns-2 t)
-    (search-spent-requires t)
-    (search-same-length-5 t)
-    (search-same-length-6 t)
-    (search-returns-3 t)
-    (search-cast-choices t)
-    (search-choices-requires t)
-    (search-loop-holds t)
-    (search-mul-q t)
-    (search-array-write-q t)
-    (search-add-search t)
-    (search-search-requires t)
-    (search-enum-told t)
-    (search-same-length-7 t)
-    (search-same-length-8 t)
-    (search-returns-4 t)
-    (search-add-c t)
-    (search-loop-less t)
-    (search-loop-again t)
-    (search-same-length-9 t)
-    (search-same-length-10 t)
-    (search-returns-5 t)
+    (search-at t) search′.Post search-Inv-loop search-μ-loop (search-refuted-requires t) (λ c. search needs)
+    (λ c. search needs) (search-returns t) (λ c κs. search needs) (λ c κs. search needs) (search-wanted-requires t)
+    (λ c κs. search needs) (λ c. search needs) (λ c. search needs) (search-returns-2 t) (λ c κs. search needs)
+    (λ c. search needs) (λ c. search needs) (search-returns-3 t) (search-cast-choices t) (search-choices-requires t)
+    (search-loop-holds t) (search-mul-q t) (search-array-write-q t) (search-add-search t) (search-search-requires t)
+    (λ c. search needs) (search-same-length-7 t) (search-same-length-8 t) (search-returns-4 t) (search-add-c t)
+    (search-loop-less t) (search-loop-again t) (search-same-length-9 t) (search-same-length-10 t) (search-returns-5 t)

@@ -3,17 +3,10 @@ use borrow.Author.Needs.{needs}
 use Rattle.sheet.proofs.fetch.operand_of.Statement.{statement}
 use Rattle.sheet.proofs.fetch.operand_of.Tie as tie
 
-add-result : tie.Need-add-result
-add-result c = search needs
-
-shared-slice-read-result : tie.Need-shared-slice-read-result
-shared-slice-read-result c = search needs
-
-returns : tie.Need-returns
-returns c = simp (lt-ltb _ _ (c .before .if1 .taken))
-
-returns-2 : tie.Need-returns-2
-returns-2 c = simp (le-ltb _ _ (c .if1 .left))
-
 pub operand-of-spec : {M : Type 1} → statement M
-operand-of-spec = tie.close (tie.spec add-result shared-slice-read-result returns returns-2)
+operand-of-spec =
+    tie.close
+    (tie.spec
+    (λ c. search needs) (λ c. search needs)
+    (λ c. simp (lt-ltb _ _ (c .before .if1 .taken)))
+    (λ c. simp (le-ltb _ _ (c .if1 .left))))

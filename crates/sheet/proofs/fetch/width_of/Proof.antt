@@ -2,18 +2,6 @@ use borrow.Author.Tests.{ne-eqb}
 use Rattle.sheet.proofs.fetch.width_of.Statement.{statement}
 use Rattle.sheet.proofs.fetch.width_of.Tie as tie
 
-returns : tie.Need-returns
-returns c = rw (c .if1 .taken)
-
-returns-2 : tie.Need-returns-2
-returns-2 c = rw (c .if2 .taken)
-
-returns-3 : tie.Need-returns-3
-returns-3 c = rw (c .if3 .taken)
-
-returns-4 : tie.Need-returns-4
-returns-4 c = rw (c .if4 .taken)
-
 returns-5 : tie.Need-returns-5
 returns-5 c =
     simp (
@@ -24,4 +12,11 @@ returns-5 c =
     )
 
 pub width-of-spec : {M : Type 1} → statement M
-width-of-spec = tie.close (tie.spec returns returns-2 returns-3 returns-4 returns-5)
+width-of-spec =
+    tie.close
+    (tie.spec
+    (λ c. rw (c .if1 .taken))
+    (λ c. rw (c .if2 .taken))
+    (λ c. rw (c .if3 .taken))
+    (λ c. rw (c .if4 .taken))
+    returns-5)

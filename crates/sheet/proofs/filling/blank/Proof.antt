@@ -8,4 +8,5 @@ unfolding blankTables
 returns c = refl
 
 pub blank-spec : {M : Type 1} → statement M
-blank-spec = tie.close (tie.spec returns)
+blank-spec =
+    tie.close (tie.spec returns)

@@ -16,21 +16,6 @@ Inv-loop target choices₀ unruled p₀ choices p = (p ≤ 256) × ((z : Size) (
 abbrev μ-loop : tie.MeasureT-loop
 μ-loop target choices₀ unruled p₀ choices p = 256 - p
 
-cast-unruled : tie.Need-cast-unruled Inv-loop μ-loop
-cast-unruled c = search needs
-
-cast-unruled-2 : tie.Need-cast-unruled-2 Inv-loop μ-loop
-cast-unruled-2 c = search needs
-
-mul-unruled : tie.Need-mul-unruled Inv-loop μ-loop
-mul-unruled c = let few = few-pairs (c .before .before .args .size) (c .before .before .pre .0) in record { fits = omega arith }
-
-loop-holds : tie.Need-loop-holds Inv-loop μ-loop
-loop-holds c = (omega arith, λ z sh e h. laws.counting-start z _ _ sh h)
-
-mul-n : tie.Need-mul-n Inv-loop μ-loop
-mul-n c = omega arith
-
 element-copy-out-n : tie.Need-element-copy-out-n Inv-loop μ-loop
 element-copy-out-n c =
     let entry = c .before .before .before .before in
@@ -38,9 +23,6 @@ element-copy-out-n c =
     let l = c .before .loop in
     let g = l .inv .1 (a .size) (entry .pre .1 .0) refl (entry .pre .1 .1) in
     omega (arith, g .size)
-
-element-copy-out-t : tie.Need-element-copy-out-t Inv-loop μ-loop
-element-copy-out-t c = omega (arith, c .before .before .before .before .before .pre .1 .1 .leads .table .size)
 
 choices-of-requires : tie.Need-choices-of-requires Inv-loop μ-loop
 choices-of-requires c κs =
@@ -51,9 +33,6 @@ choices-of-requires c κs =
     let g = l .inv .1 (a .size) (entry .pre .1 .0) refl (entry .pre .1 .1) in
     laws.faults-here (a .size) _ _ (entry .pre .1 .0) (entry .pre .1 .1) (l .p) (omega arith) g
 
-mul-choices : tie.Need-mul-choices Inv-loop μ-loop
-mul-choices c = omega arith
-
 element-write-choices : tie.Need-element-write-choices Inv-loop μ-loop
 element-write-choices c =
     let at-loop = c .before .before .before .before in
@@ -63,35 +42,23 @@ element-write-choices c =
     let g = l .inv .1 (a .size) (entry .pre .1 .0) refl (entry .pre .1 .1) in
     omega (arith, g .size)
 
-add-p : tie.Need-add-p Inv-loop μ-loop
-add-p c = omega arith
-
-loop-less : tie.Need-loop-less Inv-loop μ-loop
-loop-less c = omega arith
-
 loop-again : tie.Need-loop-again Inv-loop μ-loop
 loop-again c = (omega arith, λ z sh e h. laws.counting-next z _ _ sh h (c .before .before .before .before .loop .p) (omega arith) _ _ e (c .choices-of .ensures) (c .before .before .before .before .loop .inv .1 z sh e h))
-
-returns : tie.Need-returns Inv-loop μ-loop
-returns c = λ sh h. laws.counting-end sh (c .before .loop .p) (omega arith) (c .before .loop .inv .1 (c .before .before .before .before .args .size) sh refl h)
 
 pub count-choices-spec : {M : Type 1} → statement M
 count-choices-spec =
     tie.close
     (tie.spec
-    Inv-loop
-    μ-loop
-    cast-unruled
-    cast-unruled-2
-    mul-unruled
-    loop-holds
-    mul-n
+    Inv-loop μ-loop (λ c. search needs) (λ c. search needs)
+    (λ c. let few = few-pairs (c .before .before .args .size) (c .before .before .pre .0) in record { fits = omega arith })
+    (λ c. (omega arith, λ z sh e h. laws.counting-start z _ _ sh h))
+    (λ c. omega arith)
     element-copy-out-n
-    element-copy-out-t
+    (λ c. omega (arith, c .before .before .before .before .before .pre .1 .1 .leads .table .size))
     choices-of-requires
-    mul-choices
+    (λ c. omega arith)
     element-write-choices
-    add-p
-    loop-less
+    (λ c. omega arith)
+    (λ c. omega arith)
     loop-again
-    returns)
+    (λ c. λ sh h. laws.counting-end sh (c .before .loop .p) (omega arith) (c .before .loop .inv .1 (c .before .before .before .before .args .size) sh refl h)))

@@ -86,11 +86,4 @@ pub fill-spec : {M : Type 1} → statement M
 fill-spec =
     tie.close
     (tie.spec
-    mul-faults
-    add-faults
-    mul-tests
-    add-tests
-    fill-faults-requires
-    count-choices-requires
-    fill-tests-requires
-    returns)
+    mul-faults add-faults mul-tests add-tests fill-faults-requires count-choices-requires fill-tests-requires returns)

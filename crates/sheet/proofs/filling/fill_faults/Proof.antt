@@ -17,18 +17,6 @@ Inv-loop sheet place faults count₀ first₀ mutated₀ diverted₀ at₀ i₀ 
 abbrev μ-loop : tie.MeasureT-loop
 μ-loop sheet place faults count₀ first₀ mutated₀ diverted₀ at₀ i₀ count first mutated diverted at i = faults - i
 
-loop-holds : tie.Need-loop-holds Inv-loop μ-loop
-loop-holds c = (omega arith, λ l h e t. laws.filling-start _ _ l _ _ _ _ h t)
-
-fetch-from-requires : tie.Need-fetch-from-requires Inv-loop μ-loop
-fetch-from-requires c κs = search needs
-
-item-in-requires : tie.Need-item-in-requires Inv-loop μ-loop
-item-in-requires c κs = search needs
-
-row-of-requires : tie.Need-row-of-requires Inv-loop μ-loop
-row-of-requires c κs = search needs
-
 note-fault-requires : tie.Need-note-fault-requires Inv-loop μ-loop
 note-fault-requires c κs =
     let at-row-of = c .before .before .before .before in
@@ -46,12 +34,6 @@ note-fault-requires c κs =
     let h : l .i < length rows = omega (arith, entry .pre .0 .2) in
     let same = laws.row-fetched s (a .place) rows from (l .at) (l .i) h _ _ _ _ g (f .result) (at-item-in .item-in .result) (at-row-of .row-of .result) (f .ensures) (at-item-in .item-in .ensures) (at-row-of .row-of .ensures) in
     (laws.row-digits s (a .place) rows from (l .at) (l .i) h _ _ _ _ g _ same, omega (arith, from .few), (_, laws.taken-length s (a .place) rows from (l .at) (l .i) h _ _ _ _ g, g .tables))
-
-add-i : tie.Need-add-i Inv-loop μ-loop
-add-i c = omega arith
-
-loop-less : tie.Need-loop-less Inv-loop μ-loop
-loop-less c = omega arith
 
 loop-again : tie.Need-loop-again Inv-loop μ-loop
 loop-again c =
@@ -73,21 +55,14 @@ loop-again c =
           (c .note-fault .ensures _ (laws.taken-length s (a .place) rows from (l .at) (l .i) h _ _ _ _ g) (g .tables)),
     )
 
-returns : tie.Need-returns Inv-loop μ-loop
-returns c = λ l h e. laws.filling-end _ l _ _ _ _ _ (c .before .loop .i) (omega arith) (c .before .loop .inv .1 l h e (c .before .before .before .pre .1))
-
 pub fill-faults-spec : {M : Type 1} → statement M
 fill-faults-spec =
     tie.close
     (tie.spec
-    Inv-loop
-    μ-loop
-    loop-holds
-    fetch-from-requires
-    item-in-requires
-    row-of-requires
-    note-fault-requires
-    add-i
-    loop-less
+    Inv-loop μ-loop
+    (λ c. (omega arith, λ l h e t. laws.filling-start _ _ l _ _ _ _ h t))
+    (λ c κs. search needs) (λ c κs. search needs) (λ c κs. search needs) note-fault-requires
+    (λ c. omega arith)
+    (λ c. omega arith)
     loop-again
-    returns)
+    (λ c. λ l h e. laws.filling-end _ l _ _ _ _ _ (c .before .loop .i) (omega arith) (c .before .loop .inv .1 l h e (c .before .before .before .pre .1))))

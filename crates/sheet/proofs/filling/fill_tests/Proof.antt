@@ -14,15 +14,6 @@ Inv-loop sheet place tests starts₀ lengths₀ at₀ i₀ starts lengths at i =
 abbrev μ-loop : tie.MeasureT-loop
 μ-loop sheet place tests starts₀ lengths₀ at₀ i₀ starts lengths at i = tests - i
 
-loop-holds : tie.Need-loop-holds Inv-loop μ-loop
-loop-holds c = (omega arith, laws.tests-room _ _ _ (c .before .pre .1), λ l h e t. laws.testing-start _ _ l _ _ h t)
-
-test-at-requires : tie.Need-test-at-requires Inv-loop μ-loop
-test-at-requires c κs = omega arith
-
-cast-starts : tie.Need-cast-starts Inv-loop μ-loop
-cast-starts c = omega (arith, c .before .test-at .ensures .within, c .before .before .before .before .before .pre .1 .short)
-
 mul-starts : tie.Need-mul-starts Inv-loop μ-loop
 mul-starts c =
     let entry = c .before .before .before .before .before in
@@ -38,7 +29,10 @@ element-write-starts c =
     omega (arith, g .tables .starts-are .size, entry .pre .1 .few, entry .pre .2)
 
 cast-lengths : tie.Need-cast-lengths Inv-loop μ-loop
-cast-lengths c = omega (arith, c .before .before .test-at .ensures .within, c .before .before .before .before .before .before .pre .1 .short)
+cast-lengths c =
+    let earlier = c .before .before .before .before .before in
+    let at-entry = earlier .before in
+    omega (arith, c .before .before .test-at .ensures .within, at-entry .pre .1 .short)
 
 mul-lengths : tie.Need-mul-lengths Inv-loop μ-loop
 mul-lengths c =
@@ -54,15 +48,6 @@ element-write-lengths c =
     let g = l .inv .2 (entry .pre .0) (entry .pre .1) (entry .pre .2) (entry .pre .3) in
     omega (arith, g .tables .lengths-are .size, entry .pre .1 .few, entry .pre .2)
 
-add-at : tie.Need-add-at Inv-loop μ-loop
-add-at c = omega (arith, c .before .before .before .test-at .ensures .within)
-
-add-i : tie.Need-add-i Inv-loop μ-loop
-add-i c = omega arith
-
-loop-less : tie.Need-loop-less Inv-loop μ-loop
-loop-less c = omega arith
-
 loop-again : tie.Need-loop-again Inv-loop μ-loop
 loop-again c =
     let at-test-at = c .before .before .before in
@@ -72,25 +57,17 @@ loop-again c =
     let l = at-loop .loop in
     (omega arith, at-test-at .test-at .ensures .within, λ tests h e t. laws.testing-next _ (a .place) tests _ _ (l .at) (l .i) h (omega arith) (at-test-at .test-at .result) (at-test-at .test-at .ensures) (l .inv .2 tests h e t))
 
-returns : tie.Need-returns Inv-loop μ-loop
-returns c = λ l h e t. let q : c .before .loop .i ≡ c .before .before .before .args .tests = omega arith in rw (← q) (c .before .loop .inv .2 l h e t .tables)
-
 pub fill-tests-spec : {M : Type 1} → statement M
 fill-tests-spec =
     tie.close
     (tie.spec
-    Inv-loop
-    μ-loop
-    loop-holds
-    test-at-requires
-    cast-starts
-    mul-starts
-    element-write-starts
-    cast-lengths
-    mul-lengths
-    element-write-lengths
-    add-at
-    add-i
-    loop-less
+    Inv-loop μ-loop
+    (λ c. (omega arith, laws.tests-room _ _ _ (c .before .pre .1), λ l h e t. laws.testing-start _ _ l _ _ h t))
+    (λ c κs. omega arith)
+    (λ c. omega (arith, c .before .test-at .ensures .within, c .before .before .before .before .before .pre .1 .short))
+    mul-starts element-write-starts cast-lengths mul-lengths element-write-lengths
+    (λ c. omega (arith, c .before .before .before .test-at .ensures .within))
+    (λ c. omega arith)
+    (λ c. omega arith)
     loop-again
-    returns)
+    (λ c. λ l h e t. let q : c .before .loop .i ≡ c .before .before .before .args .tests = omega arith in rw (← q) (c .before .loop .inv .2 l h e t .tables)))

@@ -14,27 +14,6 @@ Inv-loop size target n done₀ seen₀ j₀ done seen j = (j ≤ n) × ((sh : Sh
 abbrev μ-loop : tie.MeasureT-loop
 μ-loop size target n done₀ seen₀ j₀ done seen j = n - j
 
-array-write-seen : tie.Need-array-write-seen Inv-loop μ-loop
-array-write-seen c = search needs
-
-loop-holds : tie.Need-loop-holds Inv-loop μ-loop
-loop-holds c = (omega arith, λ sh e h. laws.rounds-start _ sh)
-
-all-marked-requires : tie.Need-all-marked-requires Inv-loop μ-loop
-all-marked-requires c κs = c .before .before .pre .states
-
-returns : tie.Need-returns Inv-loop μ-loop
-returns c = λ sh e h. laws.reached-early sh _ _ e (omega arith) (sym (c .before .all-marked .ensures (reachedWithin sh _) (c .before .before .before .loop .inv .1 sh e h .seen)) ∙ c .if1 .taken)
-
-round-requires : tie.Need-round-requires Inv-loop μ-loop
-round-requires c κs = c .before .before .before .before .pre
-
-add-j : tie.Need-add-j Inv-loop μ-loop
-add-j c = omega (arith, c .before .before .before .before .before .pre)
-
-loop-less : tie.Need-loop-less Inv-loop μ-loop
-loop-less c = omega arith
-
 loop-again : tie.Need-loop-again Inv-loop μ-loop
 loop-again c =
     let at-loop = c .before .before .before .before in
@@ -45,25 +24,17 @@ loop-again c =
           laws.rounds-more (entry .args .size) sh _ e (r .seen) (c .round .ensures (sh .rules) (r .before) (reachedWithin sh _) h (r .done) (r .seen) (r .follows)),
     )
 
-all-marked-requires-2 : tie.Need-all-marked-requires-2 Inv-loop μ-loop
-all-marked-requires-2 c κs = c .before .before .pre .states
-
-returns-2 : tie.Need-returns-2 Inv-loop μ-loop
-returns-2 c = λ sh e h. laws.reached-late sh _ _ _ e (omega arith) (c .all-marked2 .ensures (reachedWithin sh _) (c .before .before .loop .inv .1 sh e h .seen))
-
 pub all-reached-spec : {M : Type 1} → statement M
 all-reached-spec =
     tie.close
     (tie.spec
-    Inv-loop
-    μ-loop
-    array-write-seen
-    loop-holds
-    all-marked-requires
-    returns
-    round-requires
-    add-j
-    loop-less
+    Inv-loop μ-loop (λ c. search needs)
+    (λ c. (omega arith, λ sh e h. laws.rounds-start _ sh))
+    (λ c κs. c .before .before .pre .states)
+    (λ c. λ sh e h. laws.reached-early sh _ _ e (omega arith) (sym (c .before .all-marked .ensures (reachedWithin sh _) (c .before .before .before .loop .inv .1 sh e h .seen)) ∙ c .if1 .taken))
+    (λ c κs. c .before .before .before .before .pre)
+    (λ c. omega (arith, c .before .before .before .before .before .pre))
+    (λ c. omega arith)
     loop-again
-    all-marked-requires-2
-    returns-2)
+    (λ c κs. c .before .before .pre .states)
+    (λ c. λ sh e h. laws.reached-late sh _ _ _ e (omega arith) (c .all-marked2 .ensures (reachedWithin sh _) (c .before .before .loop .inv .1 sh e h .seen))))

@@ -7,21 +7,6 @@ use borrow.Author.Needs.{needs}
 use Rattle.sheet.proofs.finish.finish.Statement.{statement}
 use Rattle.sheet.proofs.finish.finish.Tie as tie
 
-add-if1 : tie.Need-add-if1
-add-if1 c = search needs
-
-add-t10 : tie.Need-add-t10
-add-t10 c = search needs
-
-returns : tie.Need-returns
-returns c = λ sh k. let a = c .before .before .args in laws.end-more sh (now (a .sheet)) (a .at) (c .if1 .taken)
-
-all-reached-requires : tie.Need-all-reached-requires
-all-reached-requires c κs = search needs
-
-open-pairs-requires : tie.Need-open-pairs-requires
-open-pairs-requires c κs = search needs
-
 returns-2 : tie.Need-returns-2
 returns-2 c =
     let at-all-reached = c .before .before .before in
@@ -51,11 +36,6 @@ pub finish-spec : {M : Type 1} → statement M
 finish-spec =
     tie.close
     (tie.spec
-    add-if1
-    add-t10
-    returns
-    all-reached-requires
-    open-pairs-requires
-    returns-2
-    returns-3
-    returns-4)
+    (λ c. search needs) (λ c. search needs)
+    (λ c. λ sh k. let a = c .before .before .args in laws.end-more sh (now (a .sheet)) (a .at) (c .if1 .taken))
+    (λ c κs. search needs) (λ c κs. search needs) returns-2 returns-3 returns-4)

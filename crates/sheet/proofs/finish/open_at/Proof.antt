@@ -17,24 +17,6 @@ Inv-loop size target faulty s k n₀ x₀ n x = (x ≤ k) × (n ≤ x) × ((sh :
 abbrev μ-loop : tie.MeasureT-loop
 μ-loop size target faulty s k n₀ x₀ n x = k - x
 
-cast-k : tie.Need-cast-k Inv-loop μ-loop
-cast-k c = search needs
-
-loop-holds : tie.Need-loop-holds Inv-loop μ-loop
-loop-holds c = (omega arith, omega arith, λ sh h. unfold count in refl)
-
-is-open-requires : tie.Need-is-open-requires Inv-loop μ-loop
-is-open-requires c κs = omega arith
-
-add-n : tie.Need-add-n Inv-loop μ-loop
-add-n c = omega arith
-
-add-x : tie.Need-add-x Inv-loop μ-loop
-add-x c = omega arith
-
-loop-less : tie.Need-loop-less Inv-loop μ-loop
-loop-less c = omega arith
-
 loop-again : tie.Need-loop-again Inv-loop μ-loop
 loop-again c = ⊎-elim
     (λ w. (omega arith, omega (arith, w .1), λ sh h. w .1 ∙ laws.count-yes _ _ _ (sym (c .before .is-open .ensures sh h) ∙ w .0 .taken) (c .before .before .before .loop .inv .2 sh h)))
@@ -48,13 +30,10 @@ pub open-at-spec : {M : Type 1} → statement M
 open-at-spec =
     tie.close
     (tie.spec
-    Inv-loop
-    μ-loop
-    cast-k
-    loop-holds
-    is-open-requires
-    add-n
-    add-x
-    loop-less
-    loop-again
-    returns)
+    Inv-loop μ-loop (λ c. search needs)
+    (λ c. (omega arith, omega arith, λ sh h. unfold count in refl))
+    (λ c κs. omega arith)
+    (λ c. omega arith)
+    (λ c. omega arith)
+    (λ c. omega arith)
+    loop-again returns)

@@ -15,27 +15,6 @@ Inv-loop size target faulty m n₀ s₀ n s = (s ≤ m) × (n ≤ 16 * s) × ((s
 abbrev μ-loop : tie.MeasureT-loop
 μ-loop size target faulty m n₀ s₀ n s = m - s
 
-cast-m : tie.Need-cast-m Inv-loop μ-loop
-cast-m c = search needs
-
-loop-holds : tie.Need-loop-holds Inv-loop μ-loop
-loop-holds c = (omega arith, omega arith, λ sh h. unfold openBelow in refl)
-
-open-at-requires : tie.Need-open-at-requires Inv-loop μ-loop
-open-at-requires c κs = (c .before .before .before .pre, omega (arith, c .before .before .before .pre))
-
-add-n : tie.Need-add-n Inv-loop μ-loop
-add-n c = omega (arith, c .before .before .before .before .pre)
-
-add-s : tie.Need-add-s Inv-loop μ-loop
-add-s c = omega (arith, c .before .before .before .before .pre)
-
-loop-less : tie.Need-loop-less Inv-loop μ-loop
-loop-less c = omega arith
-
-loop-again : tie.Need-loop-again Inv-loop μ-loop
-loop-again c = (omega arith, omega arith, λ sh h. laws.open-more sh _ _ _ (c .before .before .loop .inv .2 sh h) (c .open-at .ensures .1 sh h))
-
 returns : tie.Need-returns Inv-loop μ-loop
 returns c = λ sh h. let e : c .before .loop .s ≡ c .before .before .before .args .size .states = omega arith in laws.open-all sh _ (c .before .loop .inv .2 sh h ∙ ap (openBelow sh) (e ∙ ap (λ (z : Size). z .states) (h .size)))
 
@@ -43,13 +22,11 @@ pub open-pairs-spec : {M : Type 1} → statement M
 open-pairs-spec =
     tie.close
     (tie.spec
-    Inv-loop
-    μ-loop
-    cast-m
-    loop-holds
-    open-at-requires
-    add-n
-    add-s
-    loop-less
-    loop-again
+    Inv-loop μ-loop (λ c. search needs)
+    (λ c. (omega arith, omega arith, λ sh h. unfold openBelow in refl))
+    (λ c κs. (c .before .before .before .pre, omega (arith, c .before .before .before .pre)))
+    (λ c. omega (arith, c .before .before .before .before .pre))
+    (λ c. omega (arith, c .before .before .before .before .pre))
+    (λ c. omega arith)
+    (λ c. (omega arith, omega arith, λ sh h. laws.open-more sh _ _ _ (c .before .before .loop .inv .2 sh h) (c .open-at .ensures .1 sh h)))
     returns)

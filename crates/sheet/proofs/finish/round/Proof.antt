@@ -17,27 +17,6 @@ Inv-loop size target done seen n next₀ s₀ next s = (s ≤ n) × ((rules : Li
 abbrev μ-loop : tie.MeasureT-loop
 μ-loop size target done seen n next₀ s₀ next s = n - s
 
-cast-n : tie.Need-cast-n Inv-loop μ-loop
-cast-n c = search needs
-
-loop-holds : tie.Need-loop-holds Inv-loop μ-loop
-loop-holds c = (omega arith, λ rules f g h d m q. laws.round-none (c .before .args .size) rules g m)
-
-array-read-if1 : tie.Need-array-read-if1 Inv-loop μ-loop
-array-read-if1 c = omega (arith, c .before .before .before .pre)
-
-array-read-if1-2 : tie.Need-array-read-if1-2 Inv-loop μ-loop
-array-read-if1-2 c = omega (arith, c .before .before .before .pre)
-
-spread-requires : tie.Need-spread-requires Inv-loop μ-loop
-spread-requires c κs = (c .before .before .before .before .pre, omega (arith, c .before .before .before .before .pre))
-
-add-s : tie.Need-add-s Inv-loop μ-loop
-add-s c = omega (arith, c .before .before .before .before .pre)
-
-loop-less : tie.Need-loop-less Inv-loop μ-loop
-loop-less c = omega arith
-
 loop-again : tie.Need-loop-again Inv-loop μ-loop
 loop-again c =
     let entry = c .before .before .before .before in
@@ -46,21 +25,16 @@ loop-again c =
     (λ w. (omega arith, λ rules f g h d m q. rw (w .1) (laws.round-known (entry .args .size) rules g d m _ (omega (arith, entry .pre)) q (omega arith) (w .0 .left) (c .before .before .loop .inv .1 rules f g h d m q))))
     (c .if1 .came)
 
-returns : tie.Need-returns Inv-loop μ-loop
-returns c = λ rules f g h d m q. let e : c .before .loop .s ≡ c .before .before .before .args .size .states = omega arith in rw (← e) (c .before .loop .inv .1 rules f g h d m q)
-
 pub round-spec : {M : Type 1} → statement M
 round-spec =
     tie.close
     (tie.spec
-    Inv-loop
-    μ-loop
-    cast-n
-    loop-holds
-    array-read-if1
-    array-read-if1-2
-    spread-requires
-    add-s
-    loop-less
+    Inv-loop μ-loop (λ c. search needs)
+    (λ c. (omega arith, λ rules f g h d m q. laws.round-none (c .before .args .size) rules g m))
+    (λ c. omega (arith, c .before .before .before .pre))
+    (λ c. omega (arith, c .before .before .before .pre))
+    (λ c κs. (c .before .before .before .before .pre, omega (arith, c .before .before .before .before .pre)))
+    (λ c. omega (arith, c .before .before .before .before .pre))
+    (λ c. omega arith)
     loop-again
-    returns)
+    (λ c. λ rules f g h d m q. let e : c .before .loop .s ≡ c .before .before .before .args .size .states = omega arith in rw (← e) (c .before .loop .inv .1 rules f g h d m q)))

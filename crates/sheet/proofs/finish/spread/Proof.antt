@@ -17,56 +17,24 @@ Inv-loop target s k next₀ x₀ next x = (x ≤ k) × ((rules : List Row) (g : 
 abbrev μ-loop : tie.MeasureT-loop
 μ-loop target s k next₀ x₀ next x = k - x
 
-cast-k : tie.Need-cast-k Inv-loop μ-loop
-cast-k c = search needs
-
-loop-holds : tie.Need-loop-holds Inv-loop μ-loop
-loop-holds c = (omega arith, λ rules g h m. laws.spread-none rules g _ m)
-
-mul-p : tie.Need-mul-p Inv-loop μ-loop
-mul-p c = omega arith
-
-add-p : tie.Need-add-p Inv-loop μ-loop
-add-p c = omega arith
-
-element-copy-out-t : tie.Need-element-copy-out-t Inv-loop μ-loop
-element-copy-out-t c = omega arith
-
-cast-i : tie.Need-cast-i Inv-loop μ-loop
-cast-i c = search needs
-
-array-write-next : tie.Need-array-write-next Inv-loop μ-loop
-array-write-next c = omega arith
-
-add-x : tie.Need-add-x Inv-loop μ-loop
-add-x c = omega arith
-
-loop-less : tie.Need-loop-less Inv-loop μ-loop
-loop-less c = omega arith
-
 loop-again : tie.Need-loop-again Inv-loop μ-loop
 loop-again c = ⊎-elim
     (λ w. (omega arith, λ rules g h m. rw (w .1) (laws.spread-hit rules g _ h (omega arith) _ (omega arith) (c .before .before .before .loop .inv .1 rules g h m) (w .0 .taken))))
     (λ w. (omega arith, λ rules g h m. rw (w .1) (laws.spread-miss rules g _ h (omega arith) _ (omega arith) (c .before .before .before .loop .inv .1 rules g h m) (w .0 .left))))
     (c .if1 .came)
 
-returns : tie.Need-returns Inv-loop μ-loop
-returns c = λ rules g h m. let e : c .before .loop .x ≡ c .before .before .before .args .size .inputs = omega arith in rw (← e) (c .before .loop .inv .1 rules g h m)
-
 pub spread-spec : {M : Type 1} → statement M
 spread-spec =
     tie.close
     (tie.spec
-    Inv-loop
-    μ-loop
-    cast-k
-    loop-holds
-    mul-p
-    add-p
-    element-copy-out-t
-    cast-i
-    array-write-next
-    add-x
-    loop-less
+    Inv-loop μ-loop (λ c. search needs)
+    (λ c. (omega arith, λ rules g h m. laws.spread-none rules g _ m))
+    (λ c. omega arith)
+    (λ c. omega arith)
+    (λ c. omega arith)
+    (λ c. search needs)
+    (λ c. omega arith)
+    (λ c. omega arith)
+    (λ c. omega arith)
     loop-again
-    returns)
+    (λ c. λ rules g h m. let e : c .before .loop .x ≡ c .before .before .before .args .size .inputs = omega arith in rw (← e) (c .before .loop .inv .1 rules g h m)))

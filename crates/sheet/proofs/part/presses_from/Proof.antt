@@ -18,18 +18,6 @@ Inv-loop sheet place n₀ at₀ n at = (at ≡ place + 2 * n) × (at ≤ length 
 abbrev μ-loop : tie.MeasureT-loop
 μ-loop sheet place n₀ at₀ n at = length sheet - at
 
-loop-holds : tie.Need-loop-holds Inv-loop μ-loop
-loop-holds c = (omega arith, omega arith, λ xs rest e calm. laws.left-start _ e)
-
-fetch-from-requires : tie.Need-fetch-from-requires Inv-loop μ-loop
-fetch-from-requires c κs = search needs
-
-item-in-requires : tie.Need-item-in-requires Inv-loop μ-loop
-item-in-requires c κs = search needs
-
-add-n : tie.Need-add-n Inv-loop μ-loop
-add-n c = omega arith
-
 loop-less : tie.Need-loop-less Inv-loop μ-loop
 loop-less c =
     let at-fetch-from = c .before .before .before in
@@ -74,12 +62,8 @@ pub presses-from-spec : {M : Type 1} → statement M
 presses-from-spec =
     tie.close
     (tie.spec
-    Inv-loop
-    μ-loop
-    loop-holds
-    fetch-from-requires
-    item-in-requires
-    add-n
-    loop-less
-    loop-again
-    returns)
+    Inv-loop μ-loop
+    (λ c. (omega arith, omega arith, λ xs rest e calm. laws.left-start _ e))
+    (λ c κs. search needs) (λ c κs. search needs)
+    (λ c. omega arith)
+    loop-less loop-again returns)

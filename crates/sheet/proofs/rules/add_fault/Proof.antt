@@ -7,42 +7,6 @@ use borrow.Author.Tests.{not-true, not-false}
 use Rattle.sheet.proofs.rules.add_fault.Statement.{statement}
 use Rattle.sheet.proofs.rules.add_fault.Tie as tie
 
-in-range-requires : tie.Need-in-range-requires
-in-range-requires c κs = search needs
-
-returns : tie.Need-returns
-returns c = λ sh ez ho ht h. fault-outside sh _ _ _ _ ez h (sym (c .before .in-range .ensures) ∙ not-true _ (c .if1 .taken))
-
-cast-p : tie.Need-cast-p
-cast-p c = search needs
-
-mul-p : tie.Need-mul-p
-mul-p c = search needs
-
-cast-p-2 : tie.Need-cast-p-2
-cast-p-2 c = search needs
-
-add-p : tie.Need-add-p
-add-p c = search needs
-
-mul-key : tie.Need-mul-key
-mul-key c = search needs
-
-cast-key : tie.Need-cast-key
-cast-key c = search needs
-
-mul-key-2 : tie.Need-mul-key-2
-mul-key-2 c = search needs
-
-cast-key-2 : tie.Need-cast-key-2
-cast-key-2 c = search needs
-
-add-key : tie.Need-add-key
-add-key c = search needs
-
-add-key-2 : tie.Need-add-key-2
-add-key-2 c = search needs
-
 returns-2 : tie.Need-returns-2
 returns-2 c =
     let at-if1 = c .before .before .before .before .before .before in
@@ -80,12 +44,6 @@ element-write-faulty c =
     let entry = at-in-range .before in
     let a = entry .args in omega (arith, row-in (a .size) (a .row) (sym (at-in-range .in-range .ensures) ∙ not-false _ (at-if1 .if1 .left)))
 
-add-t15 : tie.Need-add-t15
-add-t15 c = search needs
-
-add-t14 : tie.Need-add-t14
-add-t14 c = search needs
-
 returns-5 : tie.Need-returns-5
 returns-5 c =
     let at-if3 = c .before .before .before in
@@ -100,23 +58,8 @@ pub add-fault-spec : {M : Type 1} → statement M
 add-fault-spec =
     tie.close
     (tie.spec
-    in-range-requires
-    returns
-    cast-p
-    mul-p
-    cast-p-2
-    add-p
-    mul-key
-    cast-key
-    mul-key-2
-    cast-key-2
-    add-key
-    add-key-2
-    returns-2
-    is-other-requires
-    returns-3
-    returns-4
-    element-write-faulty
-    add-t15
-    add-t14
-    returns-5)
+    (λ c κs. search needs)
+    (λ c. λ sh ez ho ht h. fault-outside sh _ _ _ _ ez h (sym (c .before .in-range .ensures) ∙ not-true _ (c .if1 .taken)))
+    (λ c. search needs) (λ c. search needs) (λ c. search needs) (λ c. search needs) (λ c. search needs) (λ c. search needs)
+    (λ c. search needs) (λ c. search needs) (λ c. search needs) (λ c. search needs) returns-2 is-other-requires returns-3
+    returns-4 element-write-faulty (λ c. search needs) (λ c. search needs) returns-5)

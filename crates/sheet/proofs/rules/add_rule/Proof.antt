@@ -6,21 +6,6 @@ use borrow.Author.Needs.{needs}
 use Rattle.sheet.proofs.rules.add_rule.Statement.{statement}
 use Rattle.sheet.proofs.rules.add_rule.Tie as tie
 
-in-range-requires : tie.Need-in-range-requires
-in-range-requires c κs = search needs
-
-cast-p : tie.Need-cast-p
-cast-p c = search needs
-
-mul-p : tie.Need-mul-p
-mul-p c = search needs
-
-cast-p-2 : tie.Need-cast-p-2
-cast-p-2 c = search needs
-
-add-p : tie.Need-add-p
-add-p c = search needs
-
 element-write-output : tie.Need-element-write-output
 element-write-output c =
     let at-if1 = c .before .before .before .before in
@@ -34,12 +19,6 @@ element-write-target c =
     let at-in-range = at-if1 .before in
     let entry = at-in-range .before in
     let a = entry .args in omega (arith, row-in (a .size) (a .row) (sym (at-in-range .in-range .ensures) ∙ at-if1 .if1 .taken))
-
-add-t18 : tie.Need-add-t18
-add-t18 c = search needs
-
-add-t19 : tie.Need-add-t19
-add-t19 c = search needs
 
 returns : tie.Need-returns
 returns c =
@@ -55,22 +34,10 @@ returns-2 c =
     let entry = at-in-range .before in
     λ sh ez h. rule-unordered sh _ _ _ _ _ ez h (entry .pre .0) (sym (at-in-range .in-range .ensures) ∙ at-if1 .if1 .taken) (c .if2 .left)
 
-returns-3 : tie.Need-returns-3
-returns-3 c = λ sh ez h. rule-outside sh _ _ _ _ _ ez h (sym (c .before .in-range .ensures) ∙ c .if1 .left)
-
 pub add-rule-spec : {M : Type 1} → statement M
 add-rule-spec =
     tie.close
     (tie.spec
-    in-range-requires
-    cast-p
-    mul-p
-    cast-p-2
-    add-p
-    element-write-output
-    element-write-target
-    add-t18
-    add-t19
-    returns
-    returns-2
-    returns-3)
+    (λ c κs. search needs) (λ c. search needs) (λ c. search needs) (λ c. search needs) (λ c. search needs) element-write-output
+    element-write-target (λ c. search needs) (λ c. search needs) returns returns-2
+    (λ c. λ sh ez h. rule-outside sh _ _ _ _ _ ez h (sym (c .before .in-range .ensures) ∙ c .if1 .left)))

@@ -3,11 +3,9 @@ use borrow.Author.Needs.{needs}
 use Rattle.sheet.proofs.rules.do_fault.Statement.{statement}
 use Rattle.sheet.proofs.rules.do_fault.Tie as tie
 
-add-fault-requires : tie.Need-add-fault-requires
-add-fault-requires c κs = search needs
-
-returns : tie.Need-returns
-returns c = λ p o h. laws.state-fault _ _ _ _ p h _ _ _ o (c .before .add-fault .ensures _ (h .size) (h .rules .outputs) (h .rules .targets) (h .faults))
-
 pub do-fault-spec : {M : Type 1} → statement M
-do-fault-spec = tie.close (tie.spec add-fault-requires returns)
+do-fault-spec =
+    tie.close
+    (tie.spec
+    (λ c κs. search needs)
+    (λ c. λ p o h. laws.state-fault _ _ _ _ p h _ _ _ o (c .before .add-fault .ensures _ (h .size) (h .rules .outputs) (h .rules .targets) (h .faults))))

@@ -3,11 +3,9 @@ use borrow.Author.Needs.{needs}
 use Rattle.sheet.proofs.rules.do_press.Statement.{statement}
 use Rattle.sheet.proofs.rules.do_press.Tie as tie
 
-add-press-requires : tie.Need-add-press-requires
-add-press-requires c κs = search needs
-
-returns : tie.Need-returns
-returns c = λ os ms p o h. laws.state-press _ os _ ms p h _ _ o (c .before .add-press .ensures _ (h .size) (h .rules .targets) (h .tests) (h .ordered .begun o))
-
 pub do-press-spec : {M : Type 1} → statement M
-do-press-spec = tie.close (tie.spec add-press-requires returns)
+do-press-spec =
+    tie.close
+    (tie.spec
+    (λ c κs. search needs)
+    (λ c. λ os ms p o h. laws.state-press _ os _ ms p h _ _ o (c .before .add-press .ensures _ (h .size) (h .rules .targets) (h .tests) (h .ordered .begun o))))

@@ -3,11 +3,9 @@ use borrow.Author.Needs.{needs}
 use Rattle.sheet.proofs.rules.do_rule.Statement.{statement}
 use Rattle.sheet.proofs.rules.do_rule.Tie as tie
 
-add-rule-requires : tie.Need-add-rule-requires
-add-rule-requires c κs = search needs
-
-returns : tie.Need-returns
-returns c = λ ms p o h. laws.state-rule _ _ _ ms p h _ _ _ _ o (c .before .add-rule .ensures _ (h .size) (h .rules))
-
 pub do-rule-spec : {M : Type 1} → statement M
-do-rule-spec = tie.close (tie.spec add-rule-requires returns)
+do-rule-spec =
+    tie.close
+    (tie.spec
+    (λ c κs. search needs)
+    (λ c. λ ms p o h. laws.state-rule _ _ _ ms p h _ _ _ _ o (c .before .add-rule .ensures _ (h .size) (h .rules))))

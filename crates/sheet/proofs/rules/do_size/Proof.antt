@@ -4,15 +4,6 @@ use borrow.Author.Needs.{needs}
 use Rattle.sheet.proofs.rules.do_size.Statement.{statement}
 use Rattle.sheet.proofs.rules.do_size.Tie as tie
 
-one-to-sixteen-requires : tie.Need-one-to-sixteen-requires
-one-to-sixteen-requires c κs = search needs
-
-one-to-sixteen-requires-2 : tie.Need-one-to-sixteen-requires-2
-one-to-sixteen-requires-2 c κs = search needs
-
-one-to-sixteen-requires-3 : tie.Need-one-to-sixteen-requires-3
-one-to-sixteen-requires-3 c κs = search needs
-
 returns : tie.Need-returns
 returns c =
     let at-if3 = c .before .before .before in
@@ -33,17 +24,9 @@ returns-2 c =
 returns-3 : tie.Need-returns-3
 returns-3 c = λ os ts ms p o h. laws.state-big _ os ts ms p h _ (simp ((sym (c .before .before .before .one-to-sixteen .ensures) ∙ c .before .before .if1 .taken), (sym (c .before .one-to-sixteen2 .ensures) ∙ c .if2 .left)))
 
-returns-4 : tie.Need-returns-4
-returns-4 c = λ os ts ms p o h. laws.state-big _ os ts ms p h _ (simp (sym (c .before .one-to-sixteen .ensures) ∙ c .if1 .left))
-
 pub do-size-spec : {M : Type 1} → statement M
 do-size-spec =
     tie.close
     (tie.spec
-    one-to-sixteen-requires
-    one-to-sixteen-requires-2
-    one-to-sixteen-requires-3
-    returns
-    returns-2
-    returns-3
-    returns-4)
+    (λ c κs. search needs) (λ c κs. search needs) (λ c κs. search needs) returns returns-2 returns-3
+    (λ c. λ os ts ms p o h. laws.state-big _ os ts ms p h _ (simp (sym (c .before .one-to-sixteen .ensures) ∙ c .if1 .left))))

@@ -27,4 +27,5 @@ returns-4 c =
     simp (le-ltb (a .row .source) (a .size .states) (omega arith))
 
 pub in-range-spec : {M : Type 1} → statement M
-in-range-spec = tie.close (tie.spec returns returns-2 returns-3 returns-4)
+in-range-spec =
+    tie.close (tie.spec returns returns-2 returns-3 returns-4)

@@ -6,26 +6,8 @@ use borrow.Author.Needs.{needs}
 use Rattle.sheet.proofs.rules.is_other.Statement.{statement}
 use Rattle.sheet.proofs.rules.is_other.Tie as tie
 
-cast-p : tie.Need-cast-p
-cast-p c = search needs
-
-mul-p : tie.Need-mul-p
-mul-p c = search needs
-
-cast-p-2 : tie.Need-cast-p-2
-cast-p-2 c = search needs
-
-add-p : tie.Need-add-p
-add-p c = search needs
-
-element-copy-out-o : tie.Need-element-copy-out-o
-element-copy-out-o c = search needs
-
 returns : tie.Need-returns
 returns c = λ l h k. let a = c .before .before .before .before .args in other-none (ruleAt l (a .row .source) (a .row .input)) (a .row) (rule-digits l _ _ (k .digits)) (h .at (a .row .source) (a .row .input) (omega arith) (omega arith)) (c .if1 .taken)
-
-element-copy-out-t : tie.Need-element-copy-out-t
-element-copy-out-t c = search needs
 
 returns-2 : tie.Need-returns-2
 returns-2 c =
@@ -34,18 +16,14 @@ returns-2 c =
     λ l h k. let a = entry .args in other-target (ruleAt l (a .row .source) (a .row .input)) (a .row) (h .at (a .row .source) (a .row .input) (omega arith) (omega arith)) (k .table .at (a .row .source) (a .row .input) (omega arith) (omega arith)) (at-if1 .if1 .left) (c .before .before .if2 .taken)
 
 returns-3 : tie.Need-returns-3
-returns-3 c = λ l h k. let a = c .before .before .before .before .before .before .args in other-output (ruleAt l (a .row .source) (a .row .input)) (a .row) (h .at (a .row .source) (a .row .input) (omega arith) (omega arith)) (c .before .before .if1 .left) (c .if2 .left)
+returns-3 c =
+    let earlier = c .before .before .before .before .before in
+    let at-entry = earlier .before in
+    λ l h k. let a = at-entry .args in other-output (ruleAt l (a .row .source) (a .row .input)) (a .row) (h .at (a .row .source) (a .row .input) (omega arith) (omega arith)) (c .before .before .if1 .left) (c .if2 .left)
 
 pub is-other-spec : {M : Type 1} → statement M
 is-other-spec =
     tie.close
     (tie.spec
-    cast-p
-    mul-p
-    cast-p-2
-    add-p
-    element-copy-out-o
-    returns
-    element-copy-out-t
-    returns-2
-    returns-3)
+    (λ c. search needs) (λ c. search needs) (λ c. search needs) (λ c. search needs) (λ c. search needs) returns
+    (λ c. search needs) returns-2 returns-3)

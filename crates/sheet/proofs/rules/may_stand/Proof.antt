@@ -3,42 +3,6 @@ use borrow.Author.Needs.{needs}
 use Rattle.sheet.proofs.rules.may_stand.Statement.{statement}
 use Rattle.sheet.proofs.rules.may_stand.Tie as tie
 
-is-during-requires : tie.Need-is-during-requires
-is-during-requires c κs = search needs
-
-returns : tie.Need-returns
-returns c = rw (c .before .if1 .taken) (c .is-during .ensures)
-
-is-during-requires-2 : tie.Need-is-during-requires-2
-is-during-requires-2 c κs = search needs
-
-returns-2 : tie.Need-returns-2
-returns-2 c = rw (c .before .if2 .taken) (c .is-during2 .ensures)
-
-is-during-requires-3 : tie.Need-is-during-requires-3
-is-during-requires-3 c κs = search needs
-
-returns-3 : tie.Need-returns-3
-returns-3 c = rw (c .before .if3 .taken) (c .is-during3 .ensures)
-
-is-during-requires-4 : tie.Need-is-during-requires-4
-is-during-requires-4 c κs = search needs
-
-returns-4 : tie.Need-returns-4
-returns-4 c = rw (c .before .if4 .taken) (c .is-during4 .ensures)
-
-is-during-requires-5 : tie.Need-is-during-requires-5
-is-during-requires-5 c κs = search needs
-
-returns-5 : tie.Need-returns-5
-returns-5 c = rw (c .before .if5 .taken) (c .is-during5 .ensures)
-
-is-during-requires-6 : tie.Need-is-during-requires-6
-is-during-requires-6 c κs = search needs
-
-returns-6 : tie.Need-returns-6
-returns-6 c = rw (c .before .if6 .taken) (c .is-during6 .ensures)
-
 returns-7 : tie.Need-returns-7
 returns-7 c =
     let at-if3 = c .before .before .before in
@@ -57,16 +21,16 @@ pub may-stand-spec : {M : Type 1} → statement M
 may-stand-spec =
     tie.close
     (tie.spec
-    is-during-requires
-    returns
-    is-during-requires-2
-    returns-2
-    is-during-requires-3
-    returns-3
-    is-during-requires-4
-    returns-4
-    is-during-requires-5
-    returns-5
-    is-during-requires-6
-    returns-6
+    (λ c κs. search needs)
+    (λ c. rw (c .before .if1 .taken) (c .is-during .ensures))
+    (λ c κs. search needs)
+    (λ c. rw (c .before .if2 .taken) (c .is-during2 .ensures))
+    (λ c κs. search needs)
+    (λ c. rw (c .before .if3 .taken) (c .is-during3 .ensures))
+    (λ c κs. search needs)
+    (λ c. rw (c .before .if4 .taken) (c .is-during4 .ensures))
+    (λ c κs. search needs)
+    (λ c. rw (c .before .if5 .taken) (c .is-during5 .ensures))
+    (λ c κs. search needs)
+    (λ c. rw (c .before .if6 .taken) (c .is-during6 .ensures))
     returns-7)

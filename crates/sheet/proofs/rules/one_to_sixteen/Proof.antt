@@ -2,11 +2,9 @@ use borrow.Author.Tests.{le-leb, lt-leb}
 use Rattle.sheet.proofs.rules.one_to_sixteen.Statement.{statement}
 use Rattle.sheet.proofs.rules.one_to_sixteen.Tie as tie
 
-returns : tie.Need-returns
-returns c = simp (le-leb _ _ (c .if1 .taken))
-
-returns-2 : tie.Need-returns-2
-returns-2 c = simp (lt-leb _ _ (c .if1 .left))
-
 pub one-to-sixteen-spec : {M : Type 1} → statement M
-one-to-sixteen-spec = tie.close (tie.spec returns returns-2)
+one-to-sixteen-spec =
+    tie.close
+    (tie.spec
+    (λ c. simp (le-leb _ _ (c .if1 .taken)))
+    (λ c. simp (lt-leb _ _ (c .if1 .left))))

@@ -8,15 +8,6 @@ use borrow.Author.Needs.{needs}
 use Rattle.sheet.proofs.scan.command.Statement.{statement}
 use Rattle.sheet.proofs.scan.command.Tie as tie
 
-fetch-from-requires : tie.Need-fetch-from-requires
-fetch-from-requires c κs = search needs
-
-enum-known-taken : tie.Need-enum-known-taken
-enum-known-taken c = search needs
-
-may-stand-requires : tie.Need-may-stand-requires
-may-stand-requires c κs = search needs
-
 obey-requires : tie.Need-obey-requires
 obey-requires c κs =
     let at-if1 = c .before .before .before in
@@ -29,30 +20,6 @@ obey-requires c κs =
     let f = at-fetch-from .fetch-from in
     let k = at-taken .taken .given .0 .0 in
     (fetch.fetched-as s (a .at) (f .result) (f .ensures) k (at-taken .taken .given .1), sym (at-may-stand .may-stand .ensures) ∙ at-if1 .if1 .taken, entry .pre)
-
-refuse-requires : tie.Need-refuse-requires
-refuse-requires c κs = search needs
-
-enum-known-taken-2 : tie.Need-enum-known-taken-2
-enum-known-taken-2 c = search needs
-
-may-stand-requires-2 : tie.Need-may-stand-requires-2
-may-stand-requires-2 c κs = search needs
-
-refuse-requires-2 : tie.Need-refuse-requires-2
-refuse-requires-2 c κs = search needs
-
-refuse-requires-3 : tie.Need-refuse-requires-3
-refuse-requires-3 c κs = search needs
-
-enum-told : tie.Need-enum-told
-enum-told c = search needs
-
-refuse-requires-4 : tie.Need-refuse-requires-4
-refuse-requires-4 c κs = search needs
-
-returns : tie.Need-returns
-returns c = c .obey .ensures
 
 returns-2 : tie.Need-returns-2
 returns-2 c =
@@ -108,19 +75,7 @@ pub command-spec : {M : Type 1} → statement M
 command-spec =
     tie.close
     (tie.spec
-    fetch-from-requires
-    enum-known-taken
-    may-stand-requires
-    obey-requires
-    refuse-requires
-    enum-known-taken-2
-    may-stand-requires-2
-    refuse-requires-2
-    refuse-requires-3
-    enum-told
-    refuse-requires-4
-    returns
-    returns-2
-    returns-3
-    returns-4
-    returns-5)
+    (λ c κs. search needs) (λ c. search needs) (λ c κs. search needs) obey-requires (λ c κs. search needs) (λ c. search needs)
+    (λ c κs. search needs) (λ c κs. search needs) (λ c κs. search needs) (λ c. search needs) (λ c κs. search needs)
+    (λ c. c .obey .ensures)
+    returns-2 returns-3 returns-4 returns-5)

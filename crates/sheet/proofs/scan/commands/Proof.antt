@@ -13,18 +13,6 @@ Inv-loop sheet output₀ target₀ faulty₀ state₀ at₀ output target faulty
 abbrev μ-loop : tie.MeasureT-loop
 μ-loop sheet output₀ target₀ faulty₀ state₀ at₀ output target faulty state at = length sheet - at
 
-fresh-requires : tie.Need-fresh-requires Inv-loop μ-loop
-fresh-requires c κs = search needs
-
-loop-holds : tie.Need-loop-holds Inv-loop μ-loop
-loop-holds c = (omega arith, laws.going-start _ (c .fresh .ensures))
-
-command-requires : tie.Need-command-requires Inv-loop μ-loop
-command-requires c κs = (c .before .before .before .loop .inv .1 .progress, c .before .before .before .loop .inv .1 .holds)
-
-enum-known-verdict : tie.Need-enum-known-verdict Inv-loop μ-loop
-enum-known-verdict c = search needs
-
 loop-less : tie.Need-loop-less Inv-loop μ-loop
 loop-less c =
     let at-command = c .before .before .before .before in
@@ -39,9 +27,6 @@ loop-again c =
     let entry = at-loop .before .before .before .before .before .before in
     let m = laws.going-on (now (entry .args .sheet)) (at-loop .loop .state) (at-loop .loop .output) (at-loop .loop .target) (at-loop .loop .faulty) (at-loop .loop .at) (at-command .command .result) _ _ _ (at-loop .loop .inv .0) (at-command .command .ensures) (at-loop .loop .inv .1) _ (c .before .verdict .given .1) in (m .in', m .on)
 
-enum-known-verdict-2 : tie.Need-enum-known-verdict-2 Inv-loop μ-loop
-enum-known-verdict-2 c = search needs
-
 returns : tie.Need-returns Inv-loop μ-loop
 returns c =
     let at-command = c .before .before .before .before in
@@ -53,13 +38,7 @@ pub commands-spec : {M : Type 1} → statement M
 commands-spec =
     tie.close
     (tie.spec
-    Inv-loop
-    μ-loop
-    fresh-requires
-    loop-holds
-    command-requires
-    enum-known-verdict
-    loop-less
-    loop-again
-    enum-known-verdict-2
-    returns)
+    Inv-loop μ-loop (λ c κs. search needs)
+    (λ c. (omega arith, laws.going-start _ (c .fresh .ensures)))
+    (λ c κs. (c .before .before .before .loop .inv .1 .progress, c .before .before .before .loop .inv .1 .holds))
+    (λ c. search needs) loop-less loop-again (λ c. search needs) returns)

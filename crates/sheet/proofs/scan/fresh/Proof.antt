@@ -2,8 +2,6 @@ use Rattle.sheet.proofs.ScanLaws as laws
 use Rattle.sheet.proofs.scan.fresh.Statement.{statement}
 use Rattle.sheet.proofs.scan.fresh.Tie as tie
 
-returns : tie.Need-returns
-returns c = laws.fresh-holds
-
 pub fresh-spec : {M : Type 1} → statement M
-fresh-spec = tie.close (tie.spec returns)
+fresh-spec =
+    tie.close (tie.spec (λ c. laws.fresh-holds))

@@ -28,9 +28,6 @@ apply-requires c κs =
     let b = known (a .state .phase) (a .item .byte) (entry .pre .1) in
     ((b .0, omega (arith, b .1)), entry .pre .2)
 
-refuse-requires : tie.Need-refuse-requires
-refuse-requires c κs = search needs
-
 returns : tie.Need-returns
 returns c =
     let at-if1 = c .before .before .before .before in
@@ -69,4 +66,5 @@ returns-3 c =
     rw (fetch.refuses p s (a .at) (a .item) _ w al (at-if1 .if1 .left) _ (ok .number) (c .before .if2 .left)) (c .refuse .ensures, tt)
 
 pub obey-spec : {M : Type 1} → statement M
-obey-spec = tie.close (tie.spec finish-requires apply-requires refuse-requires returns returns-2 returns-3)
+obey-spec =
+    tie.close (tie.spec finish-requires apply-requires (λ c κs. search needs) returns returns-2 returns-3)

@@ -5,9 +5,6 @@ use Rattle.writing.specs.laws.SpelledLaw.{spelled-both}
 use Rattle.writing.proofs.spell.command.Statement.{statement}
 use Rattle.writing.proofs.spell.command.Tie as tie
 
-byte-requires : tie.Need-byte-requires
-byte-requires c κs = omega (arith, c .before .before .before .pre)
-
 bytes-requires : tie.Need-bytes-requires
 bytes-requires c κs =
     let at-byte = c .before .before .before in
@@ -28,7 +25,5 @@ pub command-spec : {M : Type 1} → statement M
 command-spec =
     tie.close
     (tie.spec
-    byte-requires
-    bytes-requires
-    same-length
-    returns)
+    (λ c κs. omega (arith, c .before .before .before .pre))
+    bytes-requires same-length returns)

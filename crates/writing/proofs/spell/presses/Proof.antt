@@ -14,29 +14,11 @@ Inv-loop inputs sheet₀ at to₀ i₀ sheet to i = Spelling sheet₀ sheet at t
 abbrev μ-loop : tie.MeasureT-loop
 μ-loop inputs sheet₀ at to₀ i₀ sheet to i = length inputs - i
 
-loop-holds : tie.Need-loop-holds Inv-loop μ-loop
-loop-holds c = spelling-start (c .before .before .pre)
-
-add-end : tie.Need-add-end Inv-loop μ-loop
-add-end c = omega arith
-
-sub-command : tie.Need-sub-command Inv-loop μ-loop
-sub-command c = omega arith
-
-part-command-start : tie.Need-part-command-start Inv-loop μ-loop
-part-command-start c = omega arith
-
-part-command-end : tie.Need-part-command-end Inv-loop μ-loop
-part-command-end c = omega arith
-
 command-requires : tie.Need-command-requires Inv-loop μ-loop
 command-requires c κs =
     let at-loop = c .before .before .before in
     let entry = at-loop .before .before .before in
     spelling-room (at-loop .loop .inv) (presses-next (entry .args .inputs .now) (at-loop .loop .i) (c .before .before .loop-test .taken))
-
-loop-less : tie.Need-loop-less Inv-loop μ-loop
-loop-less c = omega arith
 
 loop-again : tie.Need-loop-again Inv-loop μ-loop
 loop-again c =
@@ -44,9 +26,6 @@ loop-again c =
     let at-loop = at-loop-test .before in
     let entry = at-loop .before .before .before in
     spelling-more (at-loop .loop .inv) (presses-next (entry .args .inputs .now) (at-loop .loop .i) (at-loop-test .loop-test .taken)) (c .before .before .command .ensures)
-
-same-length : tie.Need-same-length Inv-loop μ-loop
-same-length c = c .before .loop .inv .wrote .long
 
 returns : tie.Need-returns Inv-loop μ-loop
 returns c =
@@ -57,15 +36,14 @@ pub presses-spec : {M : Type 1} → statement M
 presses-spec =
     tie.close
     (tie.spec
-    Inv-loop
-    μ-loop
-    loop-holds
-    add-end
-    sub-command
-    part-command-start
-    part-command-end
+    Inv-loop μ-loop
+    (λ c. spelling-start (c .before .before .pre))
+    (λ c. omega arith)
+    (λ c. omega arith)
+    (λ c. omega arith)
+    (λ c. omega arith)
     command-requires
-    loop-less
+    (λ c. omega arith)
     loop-again
-    same-length
+    (λ c. c .before .loop .inv .wrote .long)
     returns)

@@ -15,33 +15,12 @@ Inv-loop b table sheet₀ at to₀ i₀ sheet to i = (i ≤ length table) × Spe
 abbrev μ-loop : tie.MeasureT-loop
 μ-loop b table sheet₀ at to₀ i₀ sheet to i = length table - i
 
-loop-holds : tie.Need-loop-holds Inv-loop μ-loop
-loop-holds c = (omega arith, spelling-start (c .before .before .pre))
-
-sub-loop : tie.Need-sub-loop Inv-loop μ-loop
-sub-loop c = omega arith
-
-add-end : tie.Need-add-end Inv-loop μ-loop
-add-end c = omega arith
-
-sub-command : tie.Need-sub-command Inv-loop μ-loop
-sub-command c = omega arith
-
-part-command-start : tie.Need-part-command-start Inv-loop μ-loop
-part-command-start c = omega arith
-
-part-command-end : tie.Need-part-command-end Inv-loop μ-loop
-part-command-end c = omega arith
-
 command-requires : tie.Need-command-requires Inv-loop μ-loop
 command-requires c κs =
     let at-loop = c .before .before .before in
     let entry = at-loop .before .before .before in
     let a = entry .args in
     spelling-room (at-loop .loop .inv .1) (rows-next (a .b) (a .table .now) (at-loop .loop .i) (c .before .before .loop-test .taken))
-
-loop-less : tie.Need-loop-less Inv-loop μ-loop
-loop-less c = omega arith
 
 loop-again : tie.Need-loop-again Inv-loop μ-loop
 loop-again c =
@@ -50,9 +29,6 @@ loop-again c =
     let entry = at-loop .before .before .before in
     let a = entry .args in
     (omega arith, spelling-more (at-loop .loop .inv .1) (rows-next (a .b) (a .table .now) (at-loop .loop .i) (at-loop-test .loop-test .taken)) (c .before .before .command .ensures))
-
-same-length : tie.Need-same-length Inv-loop μ-loop
-same-length c = c .before .loop .inv .1 .wrote .long
 
 returns : tie.Need-returns Inv-loop μ-loop
 returns c =
@@ -64,16 +40,15 @@ pub rows-spec : {M : Type 1} → statement M
 rows-spec =
     tie.close
     (tie.spec
-    Inv-loop
-    μ-loop
-    loop-holds
-    sub-loop
-    add-end
-    sub-command
-    part-command-start
-    part-command-end
+    Inv-loop μ-loop
+    (λ c. (omega arith, spelling-start (c .before .before .pre)))
+    (λ c. omega arith)
+    (λ c. omega arith)
+    (λ c. omega arith)
+    (λ c. omega arith)
+    (λ c. omega arith)
     command-requires
-    loop-less
+    (λ c. omega arith)
     loop-again
-    same-length
+    (λ c. c .before .loop .inv .1 .wrote .long)
     returns)

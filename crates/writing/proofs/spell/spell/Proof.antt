@@ -13,9 +13,6 @@ use Rattle.writing.specs.laws.LengthLaw.{parts-length}
 use Rattle.writing.proofs.spell.spell.Statement.{statement}
 use Rattle.writing.proofs.spell.spell.Tie as tie
 
-slice-aggregate-command : tie.Need-slice-aggregate-command
-slice-aggregate-command c = search needs
-
 command-requires : tie.Need-command-requires
 unfolding sheetOf
 command-requires c κs =
@@ -66,9 +63,6 @@ byte-requires c κs =
     let d = drawing (a .size) (a .rules .now) (a .faults .now) (a .lengths .now) (a .inputs .now) in
     omega (arith, entry .pre .1, parts-length (sheetOf d), at-command .command .ensures .long, at-command .command .ensures .many, at-rows .rows .ensures .long, at-rows .rows .ensures .many, at-rows2 .rows2 .ensures .long, at-rows2 .rows2 .ensures .many, at-tests .tests .ensures .long, at-tests .tests .ensures .many)
 
-same-length : tie.Need-same-length
-same-length c = search needs
-
 returns : tie.Need-returns
 unfolding sheetOf sizeBytes
 returns c =
@@ -83,4 +77,7 @@ returns c =
     (spelled-both (at-command .command .ensures) (spelled-both (at-rows .rows .ensures) (spelled-both (at-rows2 .rows2 .ensures) (spelled-both (at-tests .tests .ensures) (c .before .before .byte .ensures)))))
 
 pub spell-spec : {M : Type 1} → statement M
-spell-spec = tie.close (tie.spec slice-aggregate-command command-requires rows-requires rows-requires-2 tests-requires byte-requires same-length returns)
+spell-spec =
+    tie.close
+    (tie.spec
+    (λ c. search needs) command-requires rows-requires rows-requires-2 tests-requires byte-requires (λ c. search needs) returns)

@@ -5,9 +5,6 @@ use Rattle.writing.specs.laws.SpelledLaw.{spelled-both}
 use Rattle.writing.proofs.spell.test.Statement.{statement}
 use Rattle.writing.proofs.spell.test.Tie as tie
 
-byte-requires : tie.Need-byte-requires
-byte-requires c κs = omega (arith, c .before .before .before .pre)
-
 presses-requires : tie.Need-presses-requires
 presses-requires c κs =
     let at-byte = c .before .before .before in
@@ -28,7 +25,5 @@ pub test-spec : {M : Type 1} → statement M
 test-spec =
     tie.close
     (tie.spec
-    byte-requires
-    presses-requires
-    same-length
-    returns)
+    (λ c κs. omega (arith, c .before .before .before .pre))
+    presses-requires same-length returns)

@@ -22,26 +22,11 @@ loop-holds c =
     let entry = c .before .before .before in
     (omega (arith, entry .pre .0), spelling-start (entry .pre .1))
 
-mul-wide : tie.Need-mul-wide Inv-loop μ-loop
-mul-wide c = search needs
-
-shared-slice-read-wide : tie.Need-shared-slice-read-wide Inv-loop μ-loop
-shared-slice-read-wide c = c .before .loop-test .taken
-
-wide-requires : tie.Need-wide-requires Inv-loop μ-loop
-wide-requires c κs = search needs
-
 add-end : tie.Need-add-end Inv-loop μ-loop
 add-end c =
     let at-loop = c .before .before .before in
     let entry = at-loop .before .before .before .before in
     omega (arith, at-loop .loop .inv .0, total-next (entry .args .lengths .now) (at-loop .loop .i) (c .wide .result) (c .wide .ensures) (c .before .before .loop-test .taken))
-
-sub-test : tie.Need-sub-test Inv-loop μ-loop
-sub-test c = omega arith
-
-part-test-start : tie.Need-part-test-start Inv-loop μ-loop
-part-test-start c = omega arith
 
 part-test-end : tie.Need-part-test-end Inv-loop μ-loop
 part-test-end c =
@@ -57,12 +42,6 @@ test-requires c κs =
     let a = entry .args in
     spelling-room (at-loop .loop .inv .1) (tests-next (a .lengths .now) (a .inputs .now) (at-loop .loop .i) (at-loop .loop .start) (c .before .before .wide .result) (c .before .before .wide .ensures) (at-loop-test .loop-test .taken))
 
-add-i : tie.Need-add-i Inv-loop μ-loop
-add-i c = omega arith
-
-loop-less : tie.Need-loop-less Inv-loop μ-loop
-loop-less c = omega arith
-
 loop-again : tie.Need-loop-again Inv-loop μ-loop
 loop-again c =
     let at-wide = c .before .before .before .before .before in
@@ -71,9 +50,6 @@ loop-again c =
     let entry = at-loop .before .before .before .before in
     let a = entry .args in
     (omega (arith, at-loop .loop .inv .0, total-next (a .lengths .now) (at-loop .loop .i) (at-wide .wide .result) (at-wide .wide .ensures) (at-loop-test .loop-test .taken)), spelling-more (at-loop .loop .inv .1) (tests-next (a .lengths .now) (a .inputs .now) (at-loop .loop .i) (at-loop .loop .start) (at-wide .wide .result) (at-wide .wide .ensures) (at-loop-test .loop-test .taken)) (c .before .before .test .ensures))
-
-same-length : tie.Need-same-length Inv-loop μ-loop
-same-length c = c .before .loop .inv .1 .wrote .long
 
 returns : tie.Need-returns Inv-loop μ-loop
 returns c =
@@ -85,19 +61,14 @@ pub tests-spec : {M : Type 1} → statement M
 tests-spec =
     tie.close
     (tie.spec
-    Inv-loop
-    μ-loop
-    loop-holds
-    mul-wide
-    shared-slice-read-wide
-    wide-requires
-    add-end
-    sub-test
-    part-test-start
-    part-test-end
-    test-requires
-    add-i
-    loop-less
+    Inv-loop μ-loop loop-holds (λ c. search needs)
+    (λ c. c .before .loop-test .taken)
+    (λ c κs. search needs) add-end
+    (λ c. omega arith)
+    (λ c. omega arith)
+    part-test-end test-requires
+    (λ c. omega arith)
+    (λ c. omega arith)
     loop-again
-    same-length
+    (λ c. c .before .loop .inv .1 .wrote .long)
     returns)

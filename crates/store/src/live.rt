@@ -1,0 +1,40 @@
+// Which entries may agree with a settled part: those that agreed with the part from which it came by one more suspect, and those
+// written since. Noted by how many suspects are settled. This steers only.
+use leaves::LIVE;
+use leaves::add;
+use leaves::note;
+use leaves::set_note;
+ghost use Prim.Native.Nat.{_<_};
+
+// How many suspects are settled.
+pub(crate) fn level(settled: u32) -> usize
+    ensures { λ r. ⌜ r < 64 ⌝ }
+{
+    (u32::count_ones(settled) % 64) as usize
+}
+
+// Where it is noted of the entries from 16 * w on.
+pub(crate) fn noted_at(level: usize, w: usize) -> usize {
+    LIVE + (level % 34) * 32 + w % 32
+}
+
+// Every entry may agree with a part in which so many are settled.
+pub fn admit_all(notes: &mut [u16], settled: u32) {
+    let n = level(settled);
+    let mut w: usize = 0;
+    while w < 32 {
+        set_note(notes, noted_at(n, w), 65535);
+        w += 1;
+    }
+}
+
+// An entry that was written may agree with any part.
+pub(crate) fn admit(notes: &mut [u16], e: usize) {
+    let mut n: usize = 0;
+    while n < 34 {
+        let at = noted_at(n, e / 16);
+        let set = note(notes, at);
+        set_note(notes, at, add(set, (e % 16) as u8));
+        n += 1;
+    }
+}

@@ -1,0 +1,3 @@
+mod StandLaw
+mod SplitLaw
+mod ReachLaw

@@ -1,0 +1,17 @@
+use Rattle.sheet.specs.laws.Basics.{never}
+use Rattle.walks.proofs.StandLaw.{stands-start}
+use Rattle.walks.proofs.SplitLaw.{none-extends}
+use borrow.Author.Needs.{needs}
+use Rattle.walks.proofs.none_from.Statement.{statement}
+use Rattle.walks.proofs.none_from.Tie as tie
+
+pub none-from-spec : {M : Type 1} → statement M
+none-from-spec =
+    tie.close
+    (tie.spec
+    (λ c κs. search needs) (λ c. search needs)
+    (λ c e. never (cc))
+    (λ c κs. search needs)
+    (λ c κs. let s = c .before .before .before .before .before .before .before .before in (s .pre, stands-start (s .pre) (c .before .before .initial .ensures)))
+    (λ c. search needs)
+    (λ c e. none-extends (c .before .before .refute .ensures e)))

@@ -1,0 +1,21 @@
+use borrow.Author.Needs.{needs}
+use mathlib.Core.Path.{_∙_}
+use Prim.Native.Nat.{_-_}
+use Rattle.walks.specs.Reaching.{RowReached}
+use Rattle.walks.proofs.ReachLaw.{row-none, row-more, row-stopped, row-all}
+use Rattle.walks.proofs.reach.row.Statement.{statement}
+use Rattle.walks.proofs.reach.row.Tie as tie
+
+pub row-spec : {M : Type 1} → statement M
+row-spec =
+    tie.close
+    (tie.spec
+    (λ block p k rows₀ queue₀ end reach₀ x₀ rows queue reach x. RowReached block p rows₀ rows reach₀ reach k x)
+    (λ block p k rows₀ queue₀ end reach₀ x₀ rows queue reach x. end - x)
+    (λ c κs. search needs)
+    (λ c. row-none)
+    (λ c κs. let s = c .before .before .before .before .before in (s .pre .0, rw (c .before .before .before .before .inputs .ensures) at (c .before .before .loop-test .taken), c .before .before .before .loop .inv .further .grows .long ∙ s .pre .1))
+    (λ c. row-stopped (c .before .before .before .before .before .before .loop .inv) (c .before .before .cell .ensures) (c .if1 .taken))
+    (λ c. search needs) (λ c. search needs)
+    (λ c. row-more (c .before .before .before .before .before .before .loop .inv) (c .before .before .cell .ensures))
+    (λ c. row-all (c .before .loop .inv) (rw (c .before .before .inputs .ensures) at (c .loop-test .left))))

@@ -1,0 +1,106 @@
+-- `refute`: none of the mutants whose choice at the suspect is below c is sought.
+use borrow.Author.Needs.{needs}
+use native.Mathlib.Omega.{arith}
+use mathlib.Core.Path.{_≡_, refl}
+use mathlib.Core.List.{List}
+use lib.ListN.{length}
+use Rattle.sheet.specs.laws.Basics.{never}
+use Rattle.cubes.specs.declared.goal.Goal.{Goal}
+use Rattle.walks.specs.Walks.{Stands, SplitOk}
+use Rattle.walks.specs.declared.walk.Place.{Place}
+use Rattle.walks.proofs.SplitLaw.{Tried, tried-none, tried-more, tried-all, stands-child, told-parent}
+use Prim.Native.Nat.{ℕ, _-_, _<_, _≤_}
+use borrow.Fn.Kinds.{In}
+use borrow.Fn.PlainCycle.{Measures, is, falls, and}
+use Rattle.walks.proofs.refute.refute.Reads as refute
+use Rattle.walks.proofs.refute.refute.Kinds as refute-kinds
+use Rattle.walks.proofs.refute.+refute.Lts-refute as refute-lts
+use Rattle.block.proofs.wide.Reads as wide-reads
+use Rattle.leaves.proofs.united.Reads as united-reads
+use Rattle.walks.proofs.refute.is_final.Reads as is-final-reads
+use Rattle.walks.proofs.refute.look.Reads as look-reads
+use Rattle.walks.proofs.refute.to_settle.Reads as to-settle-reads
+use Rattle.walks.proofs.refute.told_of.Reads as told-of-reads
+use Rattle.walks.proofs.refute.unknown.Reads as unknown-reads
+use Rattle.walks.proofs.refute.+refute.{statement}
+use Rattle.walks.proofs.refute.+refute.Tie.{close}
+
+-- what stands before each choice
+record Trying (goal : Goal) (m log p : List ℕ) (i left end : ℕ) (place : Place) (notes₀ notes : List ℕ) (c used : ℕ) : Type 0 where
+  split : SplitOk m p i left end
+  few : end ≤ 256
+  stands : Stands m log p place
+  tried : Tried goal m log p i c used
+  same : length notes ≡ length notes₀
+
+abbrev μ-refute : Measures 3 refute-kinds.ps ℕ
+μ-refute κs a = a .1 .1 .1 .1 .1 .1 .0
+
+abbrev refute-at : ℕ → In 3 refute-kinds.ps
+refute-at t = and 3 refute-kinds.ps (is 3 refute-kinds.ps μ-refute t) refute.Pre
+
+abbrev refute-below : ℕ → In 3 refute-kinds.ps
+refute-below t = and 3 refute-kinds.ps (falls 3 refute-kinds.ps _<_ μ-refute t) refute.Pre
+
+abbrev cs : ℕ → refute-lts.Claims
+cs t = (look-reads.Asked, look-reads.Learnt, told-of-reads.Asked, told-of-reads.Learnt, to-settle-reads.Asked, to-settle-reads.Learnt, unknown-reads.Asked, unknown-reads.Learnt, wide-reads.Asked, wide-reads.Learnt, refute-below t, refute.Post, is-final-reads.Asked, is-final-reads.Learnt, united-reads.Asked, united-reads.Learnt)
+
+abbrev refute-Inv-loop : refute-lts.InvT-loop
+refute-Inv-loop block log goal notes₀ left p i place end used₀ c₀ notes used c = Trying goal block log p i left end place notes₀ notes c used
+
+abbrev refute-μ-loop : refute-lts.MeasureT-loop
+refute-μ-loop block log goal notes₀ left p i place end used₀ c₀ notes used c = end - c
+
+refute-look-requires : (t : ℕ) → refute-lts.Need-look-requires (cs t) (refute-at t) refute.Post refute-Inv-loop refute-μ-loop
+refute-look-requires t c κs = c .before .before .before .before .pre .1
+
+refute-returns : (t : ℕ) → refute-lts.Need-returns (cs t) (refute-at t) refute.Post refute-Inv-loop refute-μ-loop
+refute-returns t c = c .told-of .ensures _ _ _ _ (c .before .before .before .before .look .ensures)
+
+refute-returns-2 : (t : ℕ) → refute-lts.Need-returns-2 (cs t) (refute-at t) refute.Post refute-Inv-loop refute-μ-loop
+refute-returns-2 t c = λ e. never (cc)
+
+refute-loop-holds : (t : ℕ) → refute-lts.Need-loop-holds (cs t) (refute-at t) refute.Post refute-Inv-loop refute-μ-loop
+refute-loop-holds t c = let split = c .before .to-settle .ensures (omega (arith, c .if1 .left)) in record { split = split; few = omega (arith, split .count, c .before .before .before .before .before .before .before .before .before .before .before .before .before .pre .1 .0 .choices _ (split .low)); stands = rw (c .before .before .before .before .halt .given .1) at (c .before .before .before .before .before .before .before .before .look .ensures); tried = tried-none; same = refl }
+
+refute-array-write-q : (t : ℕ) → refute-lts.Need-array-write-q (cs t) (refute-at t) refute.Post refute-Inv-loop refute-μ-loop
+refute-array-write-q t c = omega (arith, c .wide .ensures, c .before .before .loop .inv .split .low)
+
+refute-sub-refute : (t : ℕ) → refute-lts.Need-sub-refute (cs t) (refute-at t) refute.Post refute-Inv-loop refute-μ-loop
+refute-sub-refute t c = omega (arith, c .before .before .before .loop .inv .split .some)
+
+refute-refute-requires : (t : ℕ) → refute-lts.Need-refute-requires (cs t) (refute-at t) refute.Post refute-Inv-loop refute-μ-loop
+refute-refute-requires t c κs = let s = c .before .before .before .before .before .before .before .before .before .before .before .before .before .before .before .before .before in (omega (arith, s .pre .0, c .before .before .before .loop .inv .split .some), (s .pre .1 .0, rw (c .before .wide .ensures .0) (stands-child _ _ _ (c .before .before .before .loop .inv .split .free) (c .before .before .before .loop .inv .stands))))
+
+refute-is-final-requires : (t : ℕ) → refute-lts.Need-is-final-requires (cs t) (refute-at t) refute.Post refute-Inv-loop refute-μ-loop
+refute-is-final-requires t c κs = c .before .before .before .before .before .before .loop .inv .split .low
+
+refute-same-length-3 : (t : ℕ) → refute-lts.Need-same-length-3 (cs t) (refute-at t) refute.Post refute-Inv-loop refute-μ-loop
+refute-same-length-3 t c = omega (arith, c .before .before .before .notes2 .given, c .before .before .before .before .before .before .before .before .loop .inv .same, c .before .before .before .before .before .before .before .before .before .before .before .before .before .before .before .before .notes .given)
+
+refute-returns-3 : (t : ℕ) → refute-lts.Need-returns-3 (cs t) (refute-at t) refute.Post refute-Inv-loop refute-μ-loop
+refute-returns-3 t c = told-parent (c .before .before .before .before .before .before .before .before .before .before .before .before .before .before .before .before .before .before .before .before .before .before .args .t5) (c .before .before .before .before .before .before .before .before .before .before .before .before .before .halt .given .0 .0) (c .before .before .before .before .before .before .before .before .loop .c) (rw (c .before .before .before .before .before .before .wide .ensures .0) at (c .before .before .before .before .refute .ensures)) (c .before .is-final .ensures .1 (c .if2 .taken))
+
+refute-add-c : (t : ℕ) → refute-lts.Need-add-c (cs t) (refute-at t) refute.Post refute-Inv-loop refute-μ-loop
+refute-add-c t c = omega (arith, c .before .before .before .before .before .before .before .before .loop-test .taken, c .before .before .before .before .before .before .before .before .before .loop .inv .few)
+
+refute-loop-less : (t : ℕ) → refute-lts.Need-loop-less (cs t) (refute-at t) refute.Post refute-Inv-loop refute-μ-loop
+refute-loop-less t c = omega (arith, c .before .before .before .before .before .before .before .before .loop-test .taken)
+
+refute-loop-again : (t : ℕ) → refute-lts.Need-loop-again (cs t) (refute-at t) refute.Post refute-Inv-loop refute-μ-loop
+refute-loop-again t c = let inv = c .before .before .before .before .before .before .before .before .before .loop .inv in record { split = inv .split; few = inv .few; stands = inv .stands; tried = tried-more (inv .split .free) (inv .tried) (rw (c .before .before .before .before .before .before .before .wide .ensures .0) at (c .before .before .before .before .before .refute .ensures (c .before .before .is-final .ensures .0 (c .before .if2 .left)))) (c .united .ensures); same = omega (arith, c .before .before .before .before .notes2 .given, inv .same) }
+
+refute-same-length-4 : (t : ℕ) → refute-lts.Need-same-length-4 (cs t) (refute-at t) refute.Post refute-Inv-loop refute-μ-loop
+refute-same-length-4 t c = omega (arith, c .before .loop .inv .same, c .before .before .before .before .before .before .before .before .before .notes .given)
+
+refute-returns-4 : (t : ℕ) → refute-lts.Need-returns-4 (cs t) (refute-at t) refute.Post refute-Inv-loop refute-μ-loop
+refute-returns-4 t c = λ e. tried-all (c .before .loop .inv .tried) (c .before .loop .inv .split) (c .loop-test .left)
+
+pub +refute-spec : {M : Type 1} → statement M
++refute-spec = close μ-refute λ t. refute-lts.spec (cs t)
+    (refute-at t) refute.Post refute-Inv-loop refute-μ-loop (refute-look-requires t) (λ c. search needs)
+    (λ c κs. search needs) (λ c. search needs) (refute-returns t) (λ c κs. search needs) (λ c κs. search needs)
+    (λ c. search needs) (refute-returns-2 t) (refute-loop-holds t) (λ c κs. search needs) (λ c. search needs)
+    (refute-array-write-q t) (refute-sub-refute t) (refute-refute-requires t) (refute-is-final-requires t)
+    (refute-same-length-3 t) (refute-returns-3 t) (λ c κs. search needs) (refute-add-c t) (refute-loop-less t)
+    (refute-loop-again t) (refute-same-length-4 t) (refute-returns-4 t)

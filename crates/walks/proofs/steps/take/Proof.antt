@@ -1,0 +1,17 @@
+use Rattle.walks.proofs.StandLaw.{joined-has, settled-lone, settled-at}
+use native.Mathlib.Omega.{arith}
+use mathlib.Core.Path.{sym, _∙_}
+use borrow.Author.Needs.{needs}
+use Rattle.walks.proofs.steps.take.Statement.{statement}
+use Rattle.walks.proofs.steps.take.Tie as tie
+
+pub take-spec : {M : Type 1} → statement M
+take-spec =
+    tie.close
+    (tie.spec
+    (λ c κs. search needs) (λ c κs. search needs)
+    (λ c. let s = c .before .before .before in (λ j h. h, settled-lone (s .pre .0) (s .pre .1) (sym (c .before .before .site .ensures) ∙ c .before .if1 .taken) (c .transition .ensures)))
+    (λ c κs. search needs) (λ c. search needs)
+    (λ c. let s = c .before .before .before in omega (arith, c .wide .ensures, c .before .before .site .ensures, s .pre .0 .sites (s .args .k) (s .pre .1) (rw (c .before .before .site .ensures) at (c .before .if1 .left))))
+    (λ c. search needs) (λ c κs. search needs) (λ c κs. search needs)
+    (λ c. let s = c .before .before .before .before .before .before .before in (c .joined .ensures .left, settled-at (s .pre .0) (s .pre .1) (c .before .before .before .before .before .before .site .ensures) (c .before .before .before .before .before .if1 .left) (rw (c .before .before .before .before .wide .ensures .0)) (c .before .before .if2 .left) (joined-has (omega (arith, c .before .before .before .before .before .before .site .ensures, s .pre .0 .sites (s .args .k) (s .pre .1) (rw (c .before .before .before .before .before .before .site .ensures) at (c .before .before .before .before .before .if1 .left)))) (c .joined .ensures)) (c .before .transition2 .ensures))))

@@ -1,0 +1,34 @@
+// How much an attempt may spend: one for each node that it looks at, one for each pair of states that it meets.
+use leaves::SPENT;
+use leaves::count_node;
+use leaves::note;
+use leaves::set_note;
+
+const BUDGET: u16 = 512;
+
+// Whether an attempt has come to its end; notes too short to tell make none.
+pub fn spent(notes: &[u16]) -> bool {
+    if notes.len() <= SPENT {
+        return true;
+    }
+    notes[SPENT] >= BUDGET
+}
+
+// Spends n, which is below the budget.
+pub(crate) fn spend(notes: &mut [u16], n: u16) {
+    let before = note(notes, SPENT);
+    if before >= BUDGET {
+        return;
+    }
+    set_note(notes, SPENT, before + n % BUDGET);
+}
+
+// Whether one node more may be looked at, which is counted.
+pub(crate) fn enter_node(notes: &mut [u16]) -> bool {
+    if spent(notes) {
+        return false;
+    }
+    count_node(notes);
+    spend(notes, 1);
+    true
+}

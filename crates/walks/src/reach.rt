@@ -1,0 +1,195 @@
+// The pairs of states, the specification's and the mutant's, that are in reach with the settled choices.
+use crate::steps::Taken;
+use crate::steps::take;
+use block::initial;
+use block::inputs;
+use block::place;
+use block::rule_output;
+use block::rule_target;
+use block::states;
+use block::wide;
+use block::wide16;
+use cubes::words::holds;
+use cubes::words::one;
+use cubes::words::union;
+use cubes::words::within;
+ghost use mathlib.Core.Path.{_≡_};
+ghost use mathlib.Core.Bool.{true};
+ghost use Prim.Native.Nat.{_<_, _≤_, _/_, _%_};
+ghost use lib.ListN.{length};
+ghost use Rattle.block.specs.Layout.{inputsOf};
+ghost use Rattle.block.specs.Tabulated.{Wf};
+ghost use Rattle.cubes.specs.Cube.{Conform};
+ghost use Rattle.walks.specs.Walks.{Agrees};
+ghost use Rattle.walks.specs.Reaching.{Met, CellReached, RowReached, AllWithin};
+
+// Nothing stops the pairs so far: no wrong output, no unsettled suspect.
+pub(crate) const CLOSED: u8 = 255;
+
+// A wrong output is in reach.
+pub(crate) const WRONG: u8 = 254;
+
+// Not every pair was looked at.
+const LOST: u8 = 253;
+
+// By which suspects, how many pairs were met, and what stops them: CLOSED, WRONG, or the first unsettled suspect.
+pub(crate) struct Reach {
+    pub used: u32,
+    pub count: u16,
+    pub stop: u8,
+}
+
+// Adds a pair to the rows, by state of the specification a set of states, and to the queue.
+fn meet(rows: &mut [u16; 16], queue: &mut [u8; 256], s: u8, q: u8, count: u16) -> u16
+    requires { ⌜ (length (now rows) ≡ 16) × (s < 16) ⌝ }
+    ensures { λ r. ⌜ Met (now (rows .entry)) (now (rows .exit)) s q × (count ≤ 256 → r ≤ 256) ⌝ }
+{
+    if q >= 16 {
+        return count;
+    }
+    let at = wide(s);
+    let row = rows[at];
+    if holds(row, q) {
+        return count;
+    }
+    rows[at] = union(row, one(q));
+    if count >= 256 {
+        return count;
+    }
+    queue[wide16(count)] = s * 16 + q;
+    count + 1
+}
+
+// The first unsettled suspect stops the pairs, unless something stops them already.
+fn stopped(reach: Reach, i: u8) -> Reach
+    ensures { λ r. ⌜ (r .used ≡ reach .used) × (r .count ≡ reach .count) × (r .stop ≡ 255 → ⊥) ⌝ }
+{
+    if reach.stop != CLOSED {
+        return reach;
+    }
+    Reach {
+        used: reach.used,
+        count: reach.count,
+        stop: i % 32,
+    }
+}
+
+// One input at the pair of states k / 16 and k % 16.
+fn cell(
+    block: &[u8; 1604],
+    p: &[u16; 32],
+    k: u8,
+    x: u8,
+    rows: &mut [u16; 16],
+    queue: &mut [u8; 256],
+    reach: Reach,
+) -> Reach
+    requires { ⌜ Wf (now block) × (x < inputsOf (now block)) × (length (now rows) ≡ 16) ⌝ }
+    ensures { λ r. ⌜ CellReached (now (block .entry)) (now (p .entry)) (now (rows .entry)) (now (rows .exit)) reach r k x ⌝ }
+{
+    let at = place(k / 16, x);
+    let next = rule_target(block, at);
+    if next == 255 {
+        return reach;
+    }
+    let taken = take(block, p, place(k % 16, x), reach.used);
+    match taken {
+        Taken::Waits(i) => stopped(reach, i),
+        Taken::Takes(step, used) => {
+            if step.output != rule_output(block, at) {
+                return Reach {
+                    used,
+                    count: reach.count,
+                    stop: WRONG,
+                };
+            }
+            Reach {
+                used,
+                count: meet(rows, queue, next, step.target, reach.count),
+                stop: reach.stop,
+            }
+        }
+    }
+}
+
+// Every input at a pair of states, up to a wrong output.
+fn row(
+    block: &[u8; 1604],
+    p: &[u16; 32],
+    k: u8,
+    rows: &mut [u16; 16],
+    queue: &mut [u8; 256],
+    from: Reach,
+) -> Reach
+    requires { ⌜ Wf (now block) × (length (now rows) ≡ 16) ⌝ }
+    ensures { λ r. ⌜ RowReached (now (block .entry)) (now (p .entry)) (now (rows .entry)) (now (rows .exit)) from r k (inputsOf (now (block .entry))) ⌝ }
+{
+    let end = inputs(block);
+    let mut reach = from;
+    let mut x: u8 = 0;
+    while x < end {
+        reach = cell(block, p, k, x, rows, queue, reach);
+        if reach.stop == WRONG {
+            return reach;
+        }
+        x += 1;
+    }
+    reach
+}
+
+// Whether each row is within the other of its state.
+fn all_within(block: &[u8; 1604], rows: &[u16; 16], done: &[u16; 16]) -> bool
+    requires { ⌜ Wf (now block) ⌝ }
+    ensures { λ r. ⌜ (r ≡ true → AllWithin (now (block .entry)) (now (rows .entry)) (now (done .entry))) ⌝ }
+{
+    let end = states(block);
+    let mut s: u8 = 0;
+    while s < end {
+        if !within(rows[wide(s)], done[wide(s)]) {
+            return false;
+        }
+        s += 1;
+    }
+    true
+}
+
+// The row of a pair.
+fn row_of(k: u8) -> usize
+    ensures { λ r. ⌜ (r ≡ k / 16) × (r < 16) ⌝ }
+{
+    wide(k / 16)
+}
+
+// The pairs in reach, breadth first. Where nothing stops them, every mutant that has the choices of the suspects used conforms.
+pub(crate) fn spread(block: &[u8; 1604], p: &[u16; 32]) -> Reach
+    requires { ⌜ Wf (now block) ⌝ }
+    ensures { λ r. ⌜ (r .stop ≡ 255 → Conform (now (block .entry)) (Agrees (now (p .entry)) (r .used))) ⌝ }
+{
+    let mut rows = [0u16; 16];
+    let mut done = [0u16; 16];
+    let mut queue = [0u8; 256];
+    let mut reach = Reach {
+        used: 0,
+        count: meet(&mut rows, &mut queue, 0, initial(block, p), 0),
+        stop: CLOSED,
+    };
+    let mut n: usize = 0;
+    while n < wide16(reach.count) {
+        let k = queue[n];
+        reach = row(block, p, k, &mut rows, &mut queue, reach);
+        if reach.stop == WRONG {
+            return reach;
+        }
+        let s = row_of(k);
+        done[s] = union(done[s], one(k % 16));
+        n += 1;
+    }
+    if !all_within(block, &rows, &done) {
+        return Reach {
+            used: reach.used,
+            count: reach.count,
+            stop: LOST,
+        };
+    }
+    reach
+}
