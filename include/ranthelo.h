@@ -33,12 +33,14 @@ void ranthelo_write(uint8_t states, uint8_t inputs, uint8_t outputs, const uint8
 void ranthelo_generate(uint32_t seed, uint8_t states, uint8_t inputs, uint8_t outputs, uint8_t *buffer, size_t buffer_len,
                        size_t answer[3]);
 
-/* Run a board on presses: one sound for each at the buffer's front. answer: number, place. */
+/* Run a board on presses: one sound for each at the buffer's front. answer: number, place, how many open pairs were used, and the set
+ * of them, bit 0 for the first pair. */
 void ranthelo_run(const uint8_t *sheet, size_t sheet_len, const uint8_t *board, size_t board_len, const uint8_t *presses,
-                  size_t presses_len, uint8_t *buffer, size_t buffer_len, size_t answer[2]);
+                  size_t presses_len, uint8_t *buffer, size_t buffer_len, size_t answer[4]);
 
-/* First failed test. answer: number, place, 1 if a test fails, that test, the position of its first wrong sound. */
-void ranthelo_first_failed(const uint8_t *sheet, size_t sheet_len, const uint8_t *board, size_t board_len, size_t answer[5]);
+/* First failed test. answer: number, place, 1 if a test fails, that test, the position of its first wrong sound, how many open pairs
+ * were used by all tests up to and including that sound (by all, if none is wrong), and the set of them, bit 0 for the first pair. */
+void ranthelo_first_failed(const uint8_t *sheet, size_t sheet_len, const uint8_t *board, size_t board_len, size_t answer[7]);
 
 /* Compare: the shortest departing sequence at the buffer's front. answer: number, place, 1 if the board departs, its length. */
 void ranthelo_compare(const uint8_t *sheet, size_t sheet_len, const uint8_t *board, size_t board_len, uint8_t *buffer,

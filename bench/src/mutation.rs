@@ -2,7 +2,7 @@
 
 use crate::table::Table;
 use ranthelo_bench::{families, plain};
-use ranthelo_tests::enumeration::Machine;
+use ranthelo_tests::enumeration::{Machine, Ran};
 use ranthelo_tests::generator::{self, Random};
 use ranthelo_tests::library::mutation;
 use ranthelo_tests::listed;
@@ -37,13 +37,14 @@ fn run(table: &mut Table, case: &str, sheet: &[u8], board: &[u8], inputs: &[u8])
     let mut buffer = vec![0; inputs.len()];
     let mut other = buffer.clone();
     let expected = mutation::checked_run(sheet, board, inputs, inputs.len());
-    let ran = plain::run(sheet, board, inputs, &mut other);
-    assert_eq!(ran.map(|_| other.clone()), expected);
+    let used = plain::run(sheet, board, inputs, &mut other);
+    let sounds = other.clone();
+    assert_eq!(used.map(|used| Ran { sounds, used }), expected);
     table.measure(
         "run",
         case,
         || {
-            let mut answer = [0; 2];
+            let mut answer = [0; 4];
             mutation::run(black_box(sheet), board, inputs, &mut buffer, &mut answer);
             black_box(answer);
         },
@@ -73,7 +74,7 @@ fn first_failed(table: &mut Table, case: &str, sheet: &[u8], board: &[u8]) -> (f
         "first failed",
         case,
         || {
-            let mut answer = [0; 5];
+            let mut answer = [0; 7];
             mutation::first_failed(black_box(sheet), board, &mut answer);
             black_box(answer);
         },

@@ -1,6 +1,6 @@
 //! Read, sheets from seeds, run, first failed test and compare in plain Rust.
 
-use ranthelo_tests::enumeration::Failure;
+use ranthelo_tests::enumeration::{Failed, Failure, Used};
 use ranthelo_tests::reference::{
     Refusal, Summary, END, FAULT, MOST_BYTES, MOST_FAULTS, MOST_OPEN_PAIRS, MOST_PRESSES,
     MOST_TESTS, PRESS, RULE, SIZE, TEST,
@@ -266,10 +266,32 @@ impl Tables<'_> {
         }
         Ok(moves)
     }
+
+    /// A bit for each open pair, none for the others.
+    fn bits(&self) -> [u32; 256] {
+        let mut bits = [0; 256];
+        let mut next = 0;
+        for s in 0..self.states {
+            for x in 0..self.inputs {
+                if self.choices(pair(s, x)) > 1 {
+                    bits[pair(s, x)] = 1 << next;
+                    next += 1;
+                }
+            }
+        }
+        bits
+    }
 }
 
-/// Run: one output for each press at the buffer's front.
-pub fn run(sheet: &[u8], board: &[u8], presses: &[u8], buffer: &mut [u8]) -> Result<(), Refusal> {
+fn used(set: u32) -> Used {
+    Used {
+        number: set.count_ones() as usize,
+        set: set as usize,
+    }
+}
+
+/// Run: one output for each press at the buffer's front, and the open pairs used.
+pub fn run(sheet: &[u8], board: &[u8], presses: &[u8], buffer: &mut [u8]) -> Result<Used, Refusal> {
     let tables = load(sheet)?;
     let moves = tables.mutant(board)?;
     if let Some(index) = presses.iter().position(|&x| x >= tables.inputs) {
@@ -278,22 +300,34 @@ pub fn run(sheet: &[u8], board: &[u8], presses: &[u8], buffer: &mut [u8]) -> Res
     if buffer.len() < presses.len() {
         return refuse(16, 0);
     }
-    let mut state = 0;
+    let bits = tables.bits();
+    let (mut state, mut set) = (0, 0);
     for (output, &x) in buffer.iter_mut().zip(presses) {
-        (*output, state) = moves[pair(state, x)];
+        let p = pair(state, x);
+        (*output, state) = moves[p];
+        set |= bits[p];
     }
-    Ok(())
+    Ok(used(set))
 }
 
 /// First failed test.
-pub fn first_failed(sheet: &[u8], board: &[u8]) -> Result<Option<Failure>, Refusal> {
+pub fn first_failed(sheet: &[u8], board: &[u8]) -> Result<Failed, Refusal> {
     let tables = load(sheet)?;
     let moves = tables.mutant(board)?;
-    Ok(failure(&tables, &moves))
+    let bits = tables.bits();
+    let mut set = 0;
+    let failure = walk(&tables, &moves, |p| set |= bits[p]);
+    let used = used(set);
+    Ok(Failed { failure, used })
 }
 
 /// The first test that a mutant fails.
 pub fn failure(tables: &Tables<'_>, moves: &[Move; 256]) -> Option<Failure> {
+    walk(tables, moves, |_| ())
+}
+
+/// A mutant along the tests, up to its first wrong output; each pair is met.
+fn walk(tables: &Tables<'_>, moves: &[Move; 256], mut meet: impl FnMut(usize)) -> Option<Failure> {
     let (mut begun, mut position) = (0, 0);
     let (mut specified, mut given) = (0, 0);
     let mut rest = tables.suite;
@@ -307,6 +341,7 @@ pub fn failure(tables: &Tables<'_>, moves: &[Move; 256]) -> Option<Failure> {
             [_, x, ..] => {
                 let (wanted, next) = tables.rules[pair(specified, x)];
                 let (output, other) = moves[pair(given, x)];
+                meet(pair(given, x));
                 if output != wanted {
                     let test = begun - 1;
                     return Some(Failure { test, position });

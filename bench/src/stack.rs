@@ -103,14 +103,14 @@ fn perform(operation: &str, sheet: &[u8], deep: &[u8]) {
         }
         #[cfg(feature = "mutation")]
         "run" => {
-            let mut answer = [0; 2];
+            let mut answer = [0; 4];
             let mut buffer = [0; 16];
             library::mutation::run(sheet, &[1; 32], &[3; 16], &mut buffer, &mut answer);
             black_box(answer);
         }
         #[cfg(feature = "mutation")]
         "first failed" => {
-            let mut answer = [0; 5];
+            let mut answer = [0; 7];
             library::mutation::first_failed(sheet, &[0; 32], &mut answer);
             black_box(answer);
         }

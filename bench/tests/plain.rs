@@ -1,7 +1,7 @@
 //! The plain Rust versions against the reference code. Needs no library.
 
 use ranthelo_bench::{engine, families, plain};
-use ranthelo_tests::enumeration::{self, Machine, Survivor};
+use ranthelo_tests::enumeration::{self, Machine, Ran, Survivor};
 use ranthelo_tests::generator::{self, Random, Shape, LARGE, SMALL};
 use ranthelo_tests::listed::{self, spelled};
 use ranthelo_tests::reference::{self, Move, Pair, Sheet, MOST_BYTES};
@@ -47,7 +47,11 @@ fn boards() {
 
         let run = plain::run(&bytes, &board, &presses, &mut buffer);
         let expected = enumeration::run(&bytes, &board, &presses, room);
-        assert_eq!(run.map(|_| buffer[..20].to_vec()), expected);
+        let ran = run.map(|used| Ran {
+            sounds: buffer[..20].to_vec(),
+            used,
+        });
+        assert_eq!(ran, expected);
 
         let failed = plain::first_failed(&bytes, &board);
         assert_eq!(failed, enumeration::first_failed(&bytes, &board));

@@ -1,8 +1,8 @@
-//! A small judge by enumeration, written from document 01 alone: it builds every
+//! A small judge by enumeration, written from documents 01 and 02 alone: it builds every
 //! mutant (01: board) and tries it. Fit for sheets with few mutants.
 
 use crate::reference::{read, Move, Refusal, Sheet};
-use std::collections::VecDeque;
+use std::collections::{BTreeSet, VecDeque};
 
 /// The specified machine of a sheet with the choices at each pair and the test
 /// suite. Pairs are numbered in ascending order of state, then input.
@@ -28,6 +28,27 @@ pub struct Mutant<'a> {
 pub struct Failure {
     pub test: usize,
     pub position: usize,
+}
+
+/// The suspects that were met (02: open pairs used): how many, and a bit for each.
+#[derive(Clone, Copy, Debug, PartialEq, Eq)]
+pub struct Used {
+    pub number: usize,
+    pub set: usize,
+}
+
+/// What a run gives.
+#[derive(Clone, Debug, PartialEq, Eq)]
+pub struct Ran {
+    pub sounds: Vec<u8>,
+    pub used: Used,
+}
+
+/// The first failed test, if there is one, and the suspects met until then.
+#[derive(Clone, Copy, Debug, PartialEq, Eq)]
+pub struct Failed {
+    pub failure: Option<Failure>,
+    pub used: Used,
 }
 
 /// A nonconforming mutant that passes the suite, and its shortest distinguishing sequence.
@@ -126,14 +147,32 @@ impl Machine {
 }
 
 impl Mutant<'_> {
-    /// The outputs after one reset, on any inputs.
-    pub fn outputs<'b>(&'b self, inputs: &'b [u8]) -> impl Iterator<Item = u8> + 'b {
+    /// The pairs met after one reset, on any inputs.
+    fn pairs<'b>(&'b self, inputs: &'b [u8]) -> impl Iterator<Item = usize> + 'b {
         let mut state = 0;
         inputs.iter().map(move |&x| {
-            let (output, next) = self.moves[self.machine.pair(state, x)];
-            state = next.into();
-            output
+            let pair = self.machine.pair(state, x);
+            state = self.moves[pair].1.into();
+            pair
         })
+    }
+
+    /// The outputs after one reset, on any inputs.
+    pub fn outputs<'b>(&'b self, inputs: &'b [u8]) -> impl Iterator<Item = u8> + 'b {
+        self.pairs(inputs).map(|pair| self.moves[pair].0)
+    }
+
+    /// The suspects among the pairs that are met on sequences, each after a reset.
+    fn used<'b>(&self, sequences: impl Iterator<Item = &'b [u8]>) -> Used {
+        let met: BTreeSet<usize> = sequences.flat_map(|inputs| self.pairs(inputs)).collect();
+        let suspects = self.machine.suspects.iter().enumerate();
+        let bits = suspects
+            .filter(|(_, pair)| met.contains(pair))
+            .map(|(i, _)| i);
+        Used {
+            number: bits.clone().count(),
+            set: bits.map(|i| 1 << i).sum(),
+        }
     }
 
     /// The first failed test and the position of its first wrong output.
@@ -145,6 +184,17 @@ impl Mutant<'_> {
         };
         let mut suite = self.machine.suite.iter().enumerate();
         suite.find_map(|(test, case)| wrong(case).map(|position| Failure { test, position }))
+    }
+
+    /// The suspects met by all tests up to and including the wrong output, or by all tests.
+    fn used_until(&self, failure: Option<Failure>) -> Used {
+        let suite = self.machine.suite.iter().enumerate();
+        let tried = suite.filter_map(|(test, (inputs, _))| match failure {
+            Some(wrong) if test > wrong.test => None,
+            Some(wrong) if test == wrong.test => Some(&inputs[..=wrong.position]),
+            _ => Some(&inputs[..]),
+        });
+        self.used(tried)
     }
 
     /// The shortest, then smallest, defined sequence on which an output is wrong:
@@ -213,8 +263,8 @@ fn check_board(machine: &Machine, board: &[u8]) -> Result<(), Refusal> {
     }
 }
 
-/// Run, with a buffer of `room` bytes: the outputs, one for each press.
-pub fn run(bytes: &[u8], board: &[u8], presses: &[u8], room: usize) -> Result<Vec<u8>, Refusal> {
+/// Run, with a buffer of `room` bytes: the outputs, one for each press, and the suspects met.
+pub fn run(bytes: &[u8], board: &[u8], presses: &[u8], room: usize) -> Result<Ran, Refusal> {
     let machine = Machine::new(&read(bytes)?.sheet);
     check_board(&machine, board)?;
     if let Some(index) = presses
@@ -226,15 +276,21 @@ pub fn run(bytes: &[u8], board: &[u8], presses: &[u8], room: usize) -> Result<Ve
     if room < presses.len() {
         return refuse(16, 0);
     }
-    let outputs = machine.mutant(board).outputs(presses).collect();
-    Ok(outputs)
+    let mutant = machine.mutant(board);
+    Ok(Ran {
+        sounds: mutant.outputs(presses).collect(),
+        used: mutant.used([presses].into_iter()),
+    })
 }
 
 /// First failed test.
-pub fn first_failed(bytes: &[u8], board: &[u8]) -> Result<Option<Failure>, Refusal> {
+pub fn first_failed(bytes: &[u8], board: &[u8]) -> Result<Failed, Refusal> {
     let machine = Machine::new(&read(bytes)?.sheet);
     check_board(&machine, board)?;
-    Ok(machine.mutant(board).first_failed())
+    let mutant = machine.mutant(board);
+    let failure = mutant.first_failed();
+    let used = mutant.used_until(failure);
+    Ok(Failed { failure, used })
 }
 
 /// Compare, with a buffer of `room` bytes: the shortest distinguishing sequence, or none.

@@ -1,6 +1,6 @@
 //! Run, first failed test and compare through the library, against the enumeration.
 
-use ranthelo_tests::enumeration::{self, Failure, Machine};
+use ranthelo_tests::enumeration::{self, Failed, Failure, Machine, Ran, Used};
 use ranthelo_tests::generator::{self, Random, LARGE, SMALL};
 use ranthelo_tests::library::mutation::{checked_compare, checked_first_failed, checked_run};
 use ranthelo_tests::listed::{self, spelled};
@@ -34,26 +34,62 @@ fn counts(sheet: &Sheet) -> Vec<usize> {
     Machine::new(sheet).counts()
 }
 
+/// The open pairs of a set.
+fn used(pairs: &[usize]) -> Used {
+    Used {
+        number: pairs.len(),
+        set: pairs.iter().map(|pair| 1 << pair).sum(),
+    }
+}
+
+fn runs(bytes: &[u8], board: &[u8], presses: &[u8], sounds: &[u8], pairs: &[usize]) {
+    let expected = Ran {
+        sounds: sounds.to_vec(),
+        used: used(pairs),
+    };
+    let ran = checked_run(bytes, board, presses, presses.len());
+    let told = told(bytes, board);
+    assert_eq!(ran, Ok(expected), "{presses:?}, {told}");
+}
+
 #[test]
 fn runs_of_listed_boards() {
-    let p7 = checked_run(&listed::p1(), &[1], &[0, 1, 0], 3);
-    assert_eq!(p7, Ok(vec![1, 1, 0]));
-    let specified = checked_run(&listed::p1(), &[0], &[0, 1, 0], 3);
-    assert_eq!(specified, Ok(vec![1, 1, 1]));
-    let undefined = checked_run(&listed::p4(), &[3, 1], &[1, 1, 0, 0], 4);
-    assert_eq!(undefined, Ok(vec![1, 1, 0, 0]));
-    assert_eq!(checked_run(&listed::p1(), &[1], &[], 0), Ok(vec![]));
+    runs(&listed::p1(), &[1], &[0, 1, 0], &[1, 1, 0], &[0]);
+    runs(&listed::p1(), &[0], &[0, 1, 0], &[1, 1, 1], &[0]);
+    runs(&listed::p4(), &[3, 1], &[1, 1, 0], &[1, 1, 0], &[0, 1]);
+    runs(&listed::p4(), &[3, 1], &[0, 1], &[1, 1], &[1]);
+    runs(&listed::p1(), &[1], &[0, 0], &[1, 0], &[]);
+    runs(&listed::p1(), &[1], &[], &[], &[]);
+}
+
+fn fails(bytes: &[u8], board: &[u8], place: Option<(usize, usize)>, pairs: &[usize]) {
+    let expected = Failed {
+        failure: place.map(|(test, position)| Failure { test, position }),
+        used: used(pairs),
+    };
+    let failed = checked_first_failed(bytes, board);
+    assert_eq!(failed, Ok(expected), "{}", told(bytes, board));
 }
 
 #[test]
 fn first_failed_tests_of_listed_boards() {
-    let failure = |test, position| Ok(Some(Failure { test, position }));
-    let p8 = checked_first_failed(&listed::p2(), &[1]);
-    assert_eq!(p8, failure(0, 2));
-    assert_eq!(checked_first_failed(&listed::p1(), &[1]), Ok(None));
-    assert_eq!(checked_first_failed(&listed::p3(), &[1]), Ok(None));
-    let late = checked_first_failed(&listed::p10(), &[0, 0, 0, 1]);
-    assert_eq!(late, failure(2, 6));
+    fails(&listed::p2(), &[1], Some((0, 2)), &[0]);
+    fails(&listed::p1(), &[1], None, &[0]);
+    fails(&listed::p3(), &[1], None, &[]);
+    fails(&listed::p10(), &[0, 0, 0, 1], Some((2, 6)), &[0, 1, 2, 3]);
+    fails(&listed::p10(), &[0, 1, 0, 0], Some((1, 2)), &[1, 2, 3]);
+    fails(&listed::p10(), &[0, 0, 1, 0], Some((0, 3)), &[1, 2]);
+}
+
+/// The last of 32 open pairs alone, and all of them: each pair of a state leads back to it.
+#[test]
+fn sets_of_thirty_two_pairs() {
+    let bytes = listed::open_pairs(32);
+    let board = [vec![0; 10], vec![1; 11], vec![2; 11]].concat();
+    runs(&bytes, &board, &[0, 0, 11], &[0; 3], &[31]);
+    let presses: Vec<u8> = (2..12).chain(0..12).chain(0..12).collect();
+    let all: Vec<usize> = (0..32).collect();
+    runs(&bytes, &board, &presses, &[0; 34], &all);
 }
 
 fn compares(bytes: &[u8], board: &[u8], sequence: Option<&[u8]>) {
@@ -118,7 +154,7 @@ fn refusals_of_first_failed_come_in_order() {
     assert_eq!(checked_first_failed(&p4, &[9]), refused(13, 0));
     assert_eq!(checked_first_failed(&p4, &[4, 2]), refused(14, 0));
     assert_eq!(checked_first_failed(&p4, &[3, 2]), refused(14, 1));
-    assert_eq!(checked_first_failed(&p4, &[3, 1]), Ok(None));
+    fails(&p4, &[3, 1], None, &[1]);
 }
 
 #[test]

@@ -24,14 +24,14 @@ fn listed_sheets_are_judged_as_01_says() {
 
 #[test]
 fn boards_of_listed_sheets_run_as_01_says() {
-    let sounds = enumeration::run(&listed::p1(), &[1], &[0, 1, 0], 3);
-    assert_eq!(sounds, Ok(vec![1, 1, 0]));
-    let failed = enumeration::first_failed(&listed::p2(), &[1]);
+    let ran = enumeration::run(&listed::p1(), &[1], &[0, 1, 0], 3).unwrap();
+    assert_eq!(ran.sounds, [1, 1, 0]);
+    let failed = enumeration::first_failed(&listed::p2(), &[1]).unwrap();
     let failure = Failure {
         test: 0,
         position: 2,
     };
-    assert_eq!(failed, Ok(Some(failure)));
+    assert_eq!(failed.failure, Some(failure));
 }
 
 /// Accepted sheets say what their bytes say, and the reader counts open pairs as the judge does.

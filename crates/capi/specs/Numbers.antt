@@ -32,16 +32,16 @@ abbrev pub writtenNumbers : Written → List ℕ
 writtenNumbers (written.Done length) = 0 ∷ 0 ∷ length ∷ []
 writtenNumbers (written.Refused number place) = number ∷ place ∷ 0 ∷ []
 
--- number, place
+-- number, place; how many slots are used, and the set of them
 abbrev pub ranNumbers : Ran → List ℕ
-ranNumbers ran.Done = 0 ∷ 0 ∷ []
-ranNumbers (ran.Refused number place) = number ∷ place ∷ []
+ranNumbers (ran.Done u) = 0 ∷ 0 ∷ u .number ∷ u .set ∷ []
+ranNumbers (ran.Refused number place) = number ∷ place ∷ 0 ∷ 0 ∷ []
 
--- number, place; 1 if a test fails, that test and the position of its first wrong output
+-- number, place; 1 if a test fails, that test and the position of its first wrong output; how many slots are used, and the set of them
 abbrev pub failedNumbers : Failed → List ℕ
-failedNumbers failed.Nothing = 0 ∷ 0 ∷ 0 ∷ 0 ∷ 0 ∷ []
-failedNumbers (failed.At test position) = 0 ∷ 0 ∷ 1 ∷ test ∷ position ∷ []
-failedNumbers (failed.Refused number place) = number ∷ place ∷ 0 ∷ 0 ∷ 0 ∷ []
+failedNumbers (failed.Nothing u) = 0 ∷ 0 ∷ 0 ∷ 0 ∷ 0 ∷ u .number ∷ u .set ∷ []
+failedNumbers (failed.At test position u) = 0 ∷ 0 ∷ 1 ∷ test ∷ position ∷ u .number ∷ u .set ∷ []
+failedNumbers (failed.Refused number place) = number ∷ place ∷ 0 ∷ 0 ∷ 0 ∷ 0 ∷ 0 ∷ []
 
 -- number, place; 1 if the mutant differs, and the length of the sequence
 abbrev pub comparedNumbers : Compared → List ℕ

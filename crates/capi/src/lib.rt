@@ -132,35 +132,43 @@ pub extern "C" fn ranthelo_run(
     board: &[u8],
     presses: &[u8],
     buffer: &mut [u8],
-    answer: &mut [usize; 2],
+    answer: &mut [usize; 4],
 )
     ensures { λ r. ⌜ now (answer .exit) ≡ ranNumbers (ranAnswer (running (now (sheet .entry)) (now (board .entry)) (now (presses .entry)) (length (now (buffer .entry))))) ⌝ }
     ensures { λ r. ⌜ now (buffer .exit) ≡ overlay (ranWrites (running (now (sheet .entry)) (now (board .entry)) (now (presses .entry)) (length (now (buffer .entry))))) (now (buffer .entry)) ⌝ }
 {
     match mutation::run(sheet, board, presses, buffer) {
-        Ran::Done => {
-            *answer = [0, 0];
+        Ran::Done(used) => {
+            *answer = [0, 0, used.number as usize, used.set as usize];
         }
         Ran::Refused(number, place) => {
-            *answer = [number as usize, place];
+            *answer = [number as usize, place, 0, 0];
         }
     }
 }
 
 // First failed test.
 #[no_mangle]
-pub extern "C" fn ranthelo_first_failed(sheet: &[u8], board: &[u8], answer: &mut [usize; 5])
+pub extern "C" fn ranthelo_first_failed(sheet: &[u8], board: &[u8], answer: &mut [usize; 7])
     ensures { λ r. ⌜ now (answer .exit) ≡ failedNumbers (failedAnswer (failing (now (sheet .entry)) (now (board .entry)))) ⌝ }
 {
     match mutation::first_failed(sheet, board) {
-        Failed::Nothing => {
-            *answer = [0, 0, 0, 0, 0];
+        Failed::Nothing(used) => {
+            *answer = [0, 0, 0, 0, 0, used.number as usize, used.set as usize];
         }
-        Failed::At(test, position) => {
-            *answer = [0, 0, 1, test, position];
+        Failed::At(test, position, used) => {
+            *answer = [
+                0,
+                0,
+                1,
+                test,
+                position,
+                used.number as usize,
+                used.set as usize,
+            ];
         }
         Failed::Refused(number, place) => {
-            *answer = [number as usize, place, 0, 0, 0];
+            *answer = [number as usize, place, 0, 0, 0, 0, 0];
         }
     }
 }

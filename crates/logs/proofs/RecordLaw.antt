@@ -15,6 +15,7 @@ use Rattle.block.specs.laws.ChoiceLaw.{RuleAt, rule-at}
 use Rattle.block.specs.Logged.{observation, observations}
 use Rattle.logs.specs.Tests.{inputsAt, testsFrom, testsAt, Low, Defined, TestAt}
 use Rattle.logs.specs.Written.{Written, Recorded}
+use Rattle.logs.specs.laws.TestsLaw.{inputs-more, tests-more}
 
 -- nothing yet
 pub written-none : {log : List ℕ} {from : ℕ} {whole : List Observation} → from + length whole ≤ length log → Written log log from from whole whole
@@ -48,11 +49,6 @@ written-before {old} {new} {from} {to} {part} rest l w =
     }
 
 -- ---- within a test
-
-inputs-more : (sheet : List ℕ) (at left : ℕ) → 0 < left → inputsAt sheet at left ≡ getD sheet (at + 1) 0 ∷ inputsAt sheet (at + 2) (left - 1)
-unfolding inputsAt
-inputs-more sheet at zero l = absurd (omega arith)
-inputs-more sheet at (suc n) l = let e : suc n - 1 ≡ n = omega arith in rw e refl
 
 -- the inputs from `at` on are to be written, from the specification's state s
 pub record Testing (m sheet old new : List ℕ) (from to : ℕ) (whole : List Observation) (s at left : ℕ) : Type 0 where
@@ -113,11 +109,6 @@ module _ {m sheet old new : List ℕ} {from to : ℕ} {whole : List Observation}
       })
 
 -- ---- from test to test
-
-tests-more : (sheet starts lengths : List ℕ) (t n : ℕ) → t < n →
-    testsFrom sheet starts lengths t (n - t) ≡ inputsAt sheet (getD starts t 0) (getD lengths t 0) ∷ testsFrom sheet starts lengths (t + 1) (n - (t + 1))
-unfolding testsFrom
-tests-more sheet starts lengths t n l = let e : n - t ≡ suc (n - (t + 1)) = omega arith in rw e refl
 
 -- the tests from t on are to be written
 pub record Suiting (m sheet starts lengths old new : List ℕ) (n to t : ℕ) : Type 0 where

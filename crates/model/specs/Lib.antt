@@ -1,6 +1,7 @@
 pub mod Machine
 pub mod Traces
 pub mod Mutant
+pub mod Used
 pub mod Compare
 pub mod Suite
 pub mod Log

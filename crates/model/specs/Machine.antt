@@ -10,6 +10,11 @@ pub record Move : Type 0 where
   pub output : ℕ
   pub target : ℕ
 
+-- a step of a mutant: its move, and which byte of the mutant it used, if any
+pub record Action : Type 0 where
+  pub move : Move
+  pub used : Option ℕ
+
 -- a specification and a machine: `rule s x` is the specified move, if there is one; `move s x` is the machine's
 pub record Pair : Type 0 where
   pub states : ℕ

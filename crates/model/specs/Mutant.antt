@@ -8,7 +8,7 @@ use lib.ListN.{getD}
 use Rattle.sheet.specs.declared.Row.{Row}
 use Rattle.sheet.specs.Lists.{maybe, upTo, joined}
 use Rattle.sheet.specs.Sheet.{Sheet, rowsAt, ruleAt, choicesAt, isOpen}
-use Rattle.model.specs.Machine.{Move, Pair, outputsFrom, specifiedFrom, DistinguishesFrom, ConformingFrom}
+use Rattle.model.specs.Machine.{Move, Action, Pair, outputsFrom, specifiedFrom, DistinguishesFrom, ConformingFrom}
 
 abbrev pub moveOf : Row → Move
 moveOf r = record { output = r .output; target = r .target }
@@ -77,19 +77,32 @@ IsMutant sh b = InRange (slots sh) b
 abbrev pub idle : Move
 idle = record { output = 0; target = 0 }
 
--- what the mutant b does at a state and an input: the transition that its byte names at a suspect, otherwise the only one
--- (and nothing beyond the sheet's states and inputs, where no run gets)
-unfoldable pub step : Sheet → List ℕ → ℕ → ℕ → Move
-step sh b =
+-- a step of the mutant b at a state and an input: its move is the transition that its byte names at a suspect, and that byte is
+-- used; otherwise it is the only one (and nothing beyond the sheet's states and inputs, where no run gets)
+unfoldable pub acts : Sheet → List ℕ → ℕ → ℕ → Action
+acts sh b =
     let us = suspects sh in
     λ s x.
-    cond (ltb s (sh .size .states) && ltb x (sh .size .inputs))
-    (getD (transitions sh s x) (maybe (siteIn us s x) zero (λ i. getD b i 0)) idle)
-    idle
+    let slot = siteIn us s x in
+    record {
+      move =
+          cond (ltb s (sh .size .states) && ltb x (sh .size .inputs))
+          (getD (transitions sh s x) (maybe slot zero (λ i. getD b i 0)) idle)
+          idle;
+      used = slot;
+    }
+
+-- its move alone
+unfoldable pub step : Sheet → List ℕ → ℕ → ℕ → Move
+step sh b = let act = acts sh b in λ s x. act s x .move
 
 -- the state after a reset (01: fresh start)
 unfoldable pub initial : Sheet → List ℕ → ℕ
 initial sh b = 0
+
+-- which byte of a mutant says that state, if any; every run uses it
+unfoldable pub startSlot : Sheet → Option ℕ
+startSlot sh = none
 
 -- the mutant's outputs (01: sounds)
 unfoldable pub outputs : Sheet → List ℕ → List ℕ → List ℕ

@@ -9,7 +9,8 @@ use lib.ListN.{length}
 use Rattle.sheet.specs.Sheet.{Sheet}
 use Rattle.sheet.specs.Reading.{Result, accepted, refused, Reading, reading}
 use Rattle.model.specs.Mutant.{slots, later, outputs}
-use Rattle.model.specs.Suite.{Place, firstFailedOf, compareOf, Judgement, judgeOf}
+use Rattle.model.specs.Used.{Usage, usedOn}
+use Rattle.model.specs.Suite.{Finding, findingOf, compareOf, Judgement, judgeOf}
 
 -- a sheet refused on reading ends an operation with the same number and place
 abbrev pub reads : {A : Type 0} → Reading → (Sheet → Result A) → Result A
@@ -43,17 +44,25 @@ firstOver k (x ∷ xs) =
 unfoldable pub withMutant : {A : Type 0} → Sheet → List ℕ → Result A → Result A
 withMutant sh b r = refuseIf (not (eqb (length b) (length (slots sh)))) 13 0 (refuseAt (firstHigh (slots sh) b) 14 r)
 
--- Run: 13, 14, then 15 for an input not below k, then 16 for a buffer shorter than the inputs
-unfoldable pub runOn : Sheet → List ℕ → List ℕ → ℕ → Result (List ℕ)
-runOn sh b xs room =
-    withMutant sh b (refuseAt (firstOver (sh .size .inputs) xs) 15 (refuseIf (ltb room (length xs)) 16 0 (accepted (outputs sh b xs))))
+-- what Run finds: the outputs, and the slots used
+pub record Response : Type 0 where
+  pub outputs : List ℕ
+  pub used : Usage
 
-unfoldable pub running : List ℕ → List ℕ → List ℕ → ℕ → Result (List ℕ)
+unfoldable pub responseOf : Sheet → List ℕ → List ℕ → Response
+responseOf sh b xs = record { outputs = outputs sh b xs; used = usedOn sh b (xs ∷ []) }
+
+-- Run: 13, 14, then 15 for an input not below k, then 16 for a buffer shorter than the inputs
+unfoldable pub runOn : Sheet → List ℕ → List ℕ → ℕ → Result Response
+runOn sh b xs room =
+    withMutant sh b (refuseAt (firstOver (sh .size .inputs) xs) 15 (refuseIf (ltb room (length xs)) 16 0 (accepted (responseOf sh b xs))))
+
+unfoldable pub running : List ℕ → List ℕ → List ℕ → ℕ → Result Response
 running s b xs room = reads (reading s) (λ sh. runOn sh b xs room)
 
 -- First failed test: 13, 14
-unfoldable pub failing : List ℕ → List ℕ → Result (Option Place)
-failing s b = reads (reading s) (λ sh. withMutant sh b (accepted (firstFailedOf sh b)))
+unfoldable pub failing : List ℕ → List ℕ → Result Finding
+failing s b = reads (reading s) (λ sh. withMutant sh b (accepted (findingOf sh b)))
 
 -- Compare: 13, 14, then 16 for a buffer shorter than n × n
 unfoldable pub compareOn : Sheet → List ℕ → ℕ → Result (Option (List ℕ))

@@ -3,13 +3,15 @@ use Prim.Native.Nat.{ℕ, _<_, _≤_, _*_}
 use mathlib.Core.Path.{_≡_}
 use mathlib.Core.Logic.{_⊎_}
 use mathlib.Core.Option.{Option, none, some}
-use mathlib.Core.List.{List, []}
+use mathlib.Core.Bool.{true}
+use mathlib.Core.List.{List, [], _∷_, map}
 use lib.ListN.{length, getD, take}
-use Rattle.sheet.specs.Lists.{Before}
+use Rattle.sheet.specs.Lists.{Before, count}
 use Rattle.sheet.specs.Sheet.{Sheet}
-use Rattle.model.specs.Mutant.{IsMutant, outputs, specified, Distinguishes, Conforming}
+use Rattle.model.specs.Mutant.{slots, IsMutant, outputs, specified, Distinguishes, Conforming}
+use Rattle.model.specs.Used.{has, Usage}
 use Rattle.model.specs.Suite.{Place, Passes, Judgement, complete, survivor}
-use Rattle.model.specs.Implementation.{Guaranteed}
+use Rattle.model.specs.Implementation.{reset, input, respond, Guaranteed}
 
 -- the mutant's outputs on a test are the specified ones
 abbrev pub RightOn : Sheet → List ℕ → List ℕ → Type 0
@@ -24,6 +26,18 @@ pub record FirstFailed (sh : Sheet) (b : List ℕ) (f : Place) : Type 0 where
   pub reached : f .position < length expected
   pub agree : take (f .position) (outputs sh b (getD (sh .tests) (f .test) [])) ≡ take (f .position) expected
   pub wrong : getD (outputs sh b (getD (sh .tests) (f .test) [])) (f .position) 0 ≡ getD expected (f .position) 0 → ⊥
+
+-- run: the outputs are those of the machine that 01 describes, after one reset, one for each input
+pub record RanMeans (sh : Sheet) (b xs os : List ℕ) : Type 0 where
+  pub responds : os ≡ respond sh b (reset ∷ map input xs)
+  pub one-each : length os ≡ length xs
+
+-- of the slots that were used: bit i is set exactly if slot i was, no bit is set beyond the slots, and the number is how many were
+pub record UsedMeans (sh : Sheet) (Was : ℕ → Type 0) (u : Usage) : Type 0 where
+  pub every : (i : ℕ) → Was i → has (u .set) i ≡ true
+  pub only : (i : ℕ) → has (u .set) i ≡ true → Was i
+  pub below : (i : ℕ) → has (u .set) i ≡ true → i < length (slots sh)
+  pub many : u .number ≡ count (has (u .set)) (length (slots sh))
 
 -- first failed test: none fails, or the first that does and its first wrong output
 abbrev pub FailedMeans : Sheet → List ℕ → Option Place → Type 0

@@ -11,6 +11,8 @@ pub mod TransitionLaw
 pub mod OperationLaw
 pub mod StepLaw
 pub mod SuiteLaw
+pub mod BitLaw
+pub mod UsedLaw
 pub mod LogLaw
 pub mod Published
 pub mod GuaranteeLaw

@@ -10,11 +10,13 @@ use lib.ListN.{length}
 use Rattle.sheet.specs.Lists.{indexOr, overlay}
 use Rattle.sheet.specs.Sheet.{Sheet}
 use Rattle.sheet.specs.Reading.{Result, accepted, refused}
+use Rattle.sheet.specs.laws.ListLaw.{index-all}
 use Rattle.model.specs.Machine.{outputsFrom}
 use Rattle.model.specs.Mutant.{outputs, IsMutant}
 use Rattle.model.specs.Compare.{comparePair}
-use Rattle.model.specs.Suite.{firstFailedOf, compareOf}
-use Rattle.model.specs.Operations.{refuseIf, refuseAt, firstOver, withMutant, compareOn, runOn}
+use Rattle.model.specs.Used.{mark, markFrom, counted}
+use Rattle.model.specs.Suite.{findingOf, compareOf}
+use Rattle.model.specs.Operations.{refuseIf, refuseAt, firstOver, withMutant, compareOn, Response, responseOf, runOn}
 use Rattle.model.specs.laws.Closed.{start-below}
 use Rattle.model.specs.laws.OperationLaw.{mutant-goes-on, over-first, over-none}
 use Rattle.block.specs.Layout.{statesOf, inputsOf}
@@ -27,14 +29,19 @@ use Rattle.machine.specs.Differences.{differenceOf, found}
 use Rattle.machine.specs.Fits.{Machined}
 use Rattle.machine.specs.laws.LaidLaw.{moves-step, tables-against, tables-valid}
 use Rattle.machine.specs.laws.FitsLaw.{fit-refused, fit-mutant}
+use Rattle.search.specs.laws.WalkLaw.{tabulates}
+use Rattle.mutation.specs.declared.Used.{Used}
+use Rattle.usage.specs.Marks.{startSlotOf, actsIn}
+use Rattle.usage.specs.laws.MarksLaw.{InputsOf, used-run}
 use Rattle.mutation.specs.declared.Ran.the-variants as ran
 use Rattle.mutation.specs.declared.Compared.{Compared}
 use Rattle.mutation.specs.declared.Compared.the-variants as compared
-use Rattle.mutation.specs.Answers.{Runs, comparedOf, comparedBy, Compares}
+use Rattle.mutation.specs.Answers.{usedOf, Runs, comparedOf, comparedBy, Compares}
 use Rattle.mutation.specs.Operate.{Runnable}
+use Rattle.mutation.specs.Suites.{Plays}
 
 -- a refusal leaves the buffer
-runs-refused : {o : Result (List ℕ)} {number place : ℕ} {buffer : List ℕ} → o ≡ refused number place → Runs o (ran.Refused number place) buffer buffer
+runs-refused : {o : Result Response} {number place : ℕ} {buffer : List ℕ} → o ≡ refused number place → Runs o (ran.Refused number place) buffer buffer
 runs-refused e = record { answer = rw e refl; bytes = rw e refl }
 
 compares-refused : {o : Result (Option (List ℕ))} {number place : ℕ} {buffer : List ℕ} → o ≡ refused number place → Compares o (compared.Refused number place) buffer buffer
@@ -48,7 +55,7 @@ module _ {sh : Sheet} {m : List ℕ} (tb : Tabled sh m) {b : List ℕ} {r : Mach
 
     pub run-refused : {buffer : List ℕ} (xs : List ℕ) (room : ℕ) → Runs (runOn sh b xs room) (ran.Refused number place) buffer buffer
     unfolding runOn
-    run-refused xs room = runs-refused (mutant-refused (refuseAt (firstOver (sh .size .inputs) xs) 15 (refuseIf (ltb room (length xs)) 16 0 (accepted (outputs sh b xs)))))
+    run-refused xs room = runs-refused (mutant-refused (refuseAt (firstOver (sh .size .inputs) xs) 15 (refuseIf (ltb room (length xs)) 16 0 (accepted (responseOf sh b xs)))))
 
     pub compare-refused : {buffer : List ℕ} (room : ℕ) → Compares (compareOn sh b room) (compared.Refused number place) buffer buffer
     unfolding compareOn
@@ -58,10 +65,13 @@ module _ {sh : Sheet} {m : List ℕ} (tb : Tabled sh m) {b : List ℕ} {r : Mach
     pub mutant : IsMutant sh b
     mutant = fit-mutant sh b (sym (is .fits) ∙ e)
 
-    pub failed-on : withMutant sh b (accepted (firstFailedOf sh b)) ≡ accepted (firstFailedOf sh b)
-    failed-on = mutant-goes-on sh b (accepted (firstFailedOf sh b)) mutant
+    pub failed-on : withMutant sh b (accepted (findingOf sh b)) ≡ accepted (findingOf sh b)
+    failed-on = mutant-goes-on sh b (accepted (findingOf sh b)) mutant
 
     -- the tables are the sheet's mutant
+    pub plays : Plays sh b (r .output) (r .target) (r .start)
+    plays = record { mutant = mutant; moves = is .moves mutant; starts = is .start mutant }
+
     pub valid : Valid m (r .target)
     valid = tables-valid tb b (is .moves mutant)
 
@@ -77,15 +87,15 @@ module _ {sh : Sheet} {m : List ℕ} (tb : Tabled sh m) {b : List ℕ} {r : Mach
     compare-is = ap comparePair (tables-against tb b (is .moves mutant) (r .start) (is .start mutant))
 
     module _ {k over : ℕ} (xs : List ℕ) (ek : k ≡ inputsOf m) (eo : over ≡ indexOr (length xs) (firstOver k xs)) where
-      run-on : (room : ℕ) → runOn sh b xs room ≡ refuseAt (firstOver k xs) 15 (refuseIf (ltb room (length xs)) 16 0 (accepted (outputs sh b xs)))
+      run-on : (room : ℕ) → runOn sh b xs room ≡ refuseAt (firstOver k xs) 15 (refuseIf (ltb room (length xs)) 16 0 (accepted (responseOf sh b xs)))
       unfolding runOn
-      run-on room = rw (ek ∙ tb .inputs) (mutant-goes-on sh b (refuseAt (firstOver (sh .size .inputs) xs) 15 (refuseIf (ltb room (length xs)) 16 0 (accepted (outputs sh b xs)))) mutant)
+      run-on room = rw (ek ∙ tb .inputs) (mutant-goes-on sh b (refuseAt (firstOver (sh .size .inputs) xs) 15 (refuseIf (ltb room (length xs)) 16 0 (accepted (responseOf sh b xs)))) mutant)
 
       -- 15
       pub run-over : {buffer : List ℕ} (room : ℕ) → over < length xs → Runs (runOn sh b xs room) (ran.Refused 15 over) buffer buffer
       run-over room l = runs-refused (run-on room ∙ go (firstOver k xs) eo)
         where
-          go : (o : Option ℕ) → over ≡ indexOr (length xs) o → refuseAt o 15 (refuseIf (ltb room (length xs)) 16 0 (accepted (outputs sh b xs))) ≡ refused 15 over
+          go : (o : Option ℕ) → over ≡ indexOr (length xs) o → refuseAt o 15 (refuseIf (ltb room (length xs)) 16 0 (accepted (responseOf sh b xs))) ≡ refused 15 over
           go none h = absurd (omega arith)
           go (some i) h = ap (λ (j : ℕ). refused 15 j) (sym h)
 
@@ -104,10 +114,18 @@ module _ {sh : Sheet} {m : List ℕ} (tb : Tabled sh m) {b : List ℕ} {r : Mach
         pub run-short : {buffer : List ℕ} (room : ℕ) → room < length xs → Runs (runOn sh b xs room) (ran.Refused 16 0) buffer buffer
         run-short room h = runs-refused (run-on room ∙ rw (none-over, lt-ltb room (length xs) h) refl)
 
-        pub run-done : {old new : List ℕ} (room : ℕ) → length xs ≤ room → new ≡ overlay (outputsFrom (movesIn m (r .output) (r .target)) (r .start) xs) old → Runs (runOn sh b xs room) ran.Done old new
-        run-done room h w =
-            let o : runOn sh b xs room ≡ accepted (outputs sh b xs) = run-on room ∙ rw (none-over, le-ltb room (length xs) h) refl in
-            record { answer = rw o refl; bytes = rw o (w ∙ rw (outputs-are xs) refl) }
+        inputs-are : InputsOf sh xs
+        inputs-are = index-all (λ (x : ℕ). x < sh .size .inputs) xs 0 (rw (ek ∙ tb .inputs) at (over-none k xs none-over))
+
+        pub run-done : {old new : List ℕ} {set : ℕ} {u : Used} (room : ℕ) → length xs ≤ room →
+            new ≡ overlay (outputsFrom (movesIn m (r .output) (r .target)) (r .start) xs) old →
+            set ≡ markFrom (actsIn m (r .target)) (mark 0 (startSlotOf m)) (r .start) xs → u ≡ usedOf (counted set) →
+            Runs (runOn sh b xs room) (ran.Done u) old new
+        unfolding responseOf
+        run-done room h w es eu =
+            let o : runOn sh b xs room ≡ accepted (responseOf sh b xs) = run-on room ∙ rw (none-over, le-ltb room (length xs) h) refl in
+            let used = used-run tb b (tabulates (tb .formed) b (is .moves mutant)) (is .start mutant) xs inputs-are in
+            record { answer = rw o (ap ran.Done (eu ∙ ap usedOf (ap counted es ∙ used))); bytes = rw o (w ∙ rw (outputs-are xs) refl) }
 
     module _ {n : ℕ} (room : ℕ) (en : n ≡ statesOf m) where
       compare-on : compareOn sh b room ≡ refuseIf (ltb room (n * n)) 16 0 (accepted (compareOf sh b))

@@ -6,12 +6,13 @@ use mathlib.Core.List.{List, []}
 use lib.ListN.{length}
 use Rattle.sheet.specs.Lists.{overlay}
 use Rattle.sheet.specs.Reading.{Result, accepted, refused}
-use Rattle.model.specs.Suite.{Place}
-use Rattle.logs.specs.declared.walk.Wrong.{Wrong}
-use Rattle.logs.specs.declared.walk.Wrong.the-variants as wrong
+use Rattle.model.specs.Used.{Usage}
+use Rattle.model.specs.Suite.{Place, Finding}
+use Rattle.model.specs.Operations.{Response}
 use Rattle.machine.specs.declared.distance.Difference.{Difference}
 use Rattle.machine.specs.declared.distance.Difference.the-variants as difference
 use Rattle.machine.specs.Differences.{found}
+use Rattle.mutation.specs.declared.Used.{Used}
 use Rattle.mutation.specs.declared.Ran.{Ran}
 use Rattle.mutation.specs.declared.Ran.the-variants as ran
 use Rattle.mutation.specs.declared.Failed.{Failed}
@@ -19,30 +20,29 @@ use Rattle.mutation.specs.declared.Failed.the-variants as fail
 use Rattle.mutation.specs.declared.Compared.{Compared}
 use Rattle.mutation.specs.declared.Compared.the-variants as compared
 
-abbrev pub ranAnswer : Result (List ℕ) → Ran
-ranAnswer (accepted os) = ran.Done
+abbrev pub usedOf : Usage → Used
+usedOf u = record { number = u .number; set = u .set }
+
+abbrev pub ranAnswer : Result Response → Ran
+ranAnswer (accepted r) = ran.Done (usedOf (r .used))
 ranAnswer (refused number place) = ran.Refused number place
 
 -- what run writes: one output for each input; nothing on a refusal
-abbrev pub ranWrites : Result (List ℕ) → List ℕ
-ranWrites (accepted os) = os
+abbrev pub ranWrites : Result Response → List ℕ
+ranWrites (accepted r) = r .outputs
 ranWrites (refused number place) = []
 
 -- what run answers and leaves in the buffer
-pub record Runs (o : Result (List ℕ)) (r : Ran) (old new : List ℕ) : Type 0 where
+pub record Runs (o : Result Response) (r : Ran) (old new : List ℕ) : Type 0 where
   pub answer : r ≡ ranAnswer o
   pub bytes : new ≡ overlay (ranWrites o) old
 
-abbrev pub failedOf : Option Place → Failed
-failedOf none = fail.Nothing
-failedOf (some f) = fail.At (f .test) (f .position)
+abbrev pub failedOf : Option Place → Used → Failed
+failedOf none u = fail.Nothing u
+failedOf (some f) u = fail.At (f .test) (f .position) u
 
-abbrev pub failedBy : Wrong → Failed
-failedBy wrong.Nothing = fail.Nothing
-failedBy (wrong.At test position) = fail.At test position
-
-abbrev pub failedAnswer : Result (Option Place) → Failed
-failedAnswer (accepted f) = failedOf f
+abbrev pub failedAnswer : Result Finding → Failed
+failedAnswer (accepted f) = failedOf (f .first) (usedOf (f .used))
 failedAnswer (refused number place) = fail.Refused number place
 
 abbrev pub comparedOf : Option (List ℕ) → Compared

@@ -10,7 +10,12 @@ use Rattle.model.specs.Mutant.{IsMutant, initial, step}
 use Rattle.model.specs.Log.{suiteLog}
 use Rattle.block.specs.Logged.{observations}
 use Rattle.block.specs.Tabled.{Tabled}
+use Rattle.logs.specs.declared.walk.Wrong.{Wrong}
+use Rattle.logs.specs.declared.walk.Wrong.the-variants as wrong
 use Rattle.machine.specs.Laid.{Moves}
+use Rattle.mutation.specs.declared.Used.{Used}
+use Rattle.mutation.specs.declared.Failed.{Failed}
+use Rattle.mutation.specs.declared.Failed.the-variants as fail
 
 -- the sheet's bytes, where its tests stand in them, its tables in the block, and room for the suite's log
 pub record SuiteIn (sh : Sheet) (s starts lengths : List ℕ) (tests : ℕ) (m : List ℕ) (room : ℕ) : Type 0 where
@@ -31,3 +36,8 @@ pub record Plays (sh : Sheet) (b outputs targets : List ℕ) (start : ℕ) : Typ
   pub mutant : IsMutant sh b
   pub moves : Moves (step sh b) outputs targets (16 * sh .size .states)
   pub starts : start ≡ initial sh b
+
+-- what the walk along the log found, and the slots used until then, as an answer
+abbrev pub failedBy : Wrong → Used → Failed
+failedBy wrong.Nothing u = fail.Nothing u
+failedBy (wrong.At test position) u = fail.At test position u

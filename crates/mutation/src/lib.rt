@@ -4,9 +4,10 @@
 ghost use mathlib.Core.Path.{_≡_};
 ghost use lib.ListN.{length};
 ghost use Rattle.sheet.specs.Lists.{overlay};
+ghost use Rattle.model.specs.Used.{counted as usage};
 ghost use Rattle.model.specs.Operations.{running, failing, comparing};
-ghost use Rattle.mutation.specs.Answers.{ranAnswer, ranWrites, failedAnswer, comparedAnswer, comparedWrites};
-ghost use Rattle.mutation.specs.Operate.{ToldFailed, ToldCompared};
+ghost use Rattle.mutation.specs.Answers.{usedOf, ranAnswer, ranWrites, failedAnswer, comparedAnswer, comparedWrites};
+ghost use Rattle.mutation.specs.Operate.{ToldRan, ToldFailed, ToldCompared};
 
 mod conform;
 mod respond;
@@ -19,16 +20,23 @@ pub use verdict::Judged;
 pub use verdict::judge;
 pub use verdict::judge_counting;
 
-// What Run answers.
+// The slots that were used (02: open pairs): how many, and the set of them, bit i for slot i.
+pub struct Used {
+    pub number: u32,
+    pub set: u32,
+}
+
+// What Run answers: the slots used.
 pub enum Ran {
-    Done,
+    Done(Used),
     Refused(u8, usize),
 }
 
-// What First failed test answers: a test and the position in it of the first wrong output, both from 0; or none.
+// What First failed test answers: a test and the position in it of the first wrong output, both from 0, or none; and the slots used
+// until then.
 pub enum Failed {
-    At(usize, usize),
-    Nothing,
+    At(usize, usize, Used),
+    Nothing(Used),
     Refused(u8, usize),
 }
 
@@ -39,10 +47,21 @@ pub enum Compared {
     Refused(u8, usize),
 }
 
-// Run: one output for each input at the buffer's front.
+// The number of slots is the count of ones.
+fn counted(set: u32) -> Used
+    ensures { λ r. ⌜ r ≡ usedOf (usage set) ⌝ }
+{
+    Used {
+        number: u32::count_ones(set),
+        set,
+    }
+}
+
+// Run: one output for each input at the buffer's front, and the slots used.
 pub fn run(sheet: &[u8], mutant: &[u8], inputs: &[u8], buffer: &mut [u8]) -> Ran
     ensures answer { λ r. ⌜ r ≡ ranAnswer (running (now (sheet .entry)) (now (mutant .entry)) (now (inputs .entry)) (length (now (buffer .entry)))) ⌝ }
     ensures bytes { λ r. ⌜ now (buffer .exit) ≡ overlay (ranWrites (running (now (sheet .entry)) (now (mutant .entry)) (now (inputs .entry)) (length (now (buffer .entry))))) (now (buffer .entry)) ⌝ }
+    ensures told { λ r. ⌜ ToldRan (now (sheet .entry)) (now (mutant .entry)) (now (inputs .entry)) (length (now (buffer .entry))) r (now (buffer .exit)) ⌝ }
 {
     let loaded = sheet::load(sheet);
     let reading = loaded.reading;
@@ -54,7 +73,8 @@ pub fn run(sheet: &[u8], mutant: &[u8], inputs: &[u8], buffer: &mut [u8]) -> Ran
     respond::run_accepted(size, tables, mutant, inputs, buffer)
 }
 
-// First failed test: the lowest number of a test that the mutant fails, and the position in it of its first wrong output.
+// First failed test: the lowest number of a test that the mutant fails, the position in it of its first wrong output, and the slots
+// used by the tests up to and including that output's step.
 pub fn first_failed(sheet: &[u8], mutant: &[u8]) -> Failed
     ensures answer { λ r. ⌜ r ≡ failedAnswer (failing (now (sheet .entry)) (now (mutant .entry))) ⌝ }
     ensures told { λ r. ⌜ ToldFailed (now (sheet .entry)) (now (mutant .entry)) r ⌝ }

@@ -1,17 +1,19 @@
-// A machine's outputs on inputs.
-ghost use Prim.Native.Nat.{ℕ, _≤_};
+// A machine's outputs on inputs, and the slots it uses.
+ghost use Prim.Native.Nat.{_≤_};
 ghost use mathlib.Core.Path.{_≡_};
-ghost use mathlib.Core.List.{List};
 ghost use lib.ListN.{length};
 ghost use Rattle.model.specs.Machine.{outputsFrom};
+ghost use Rattle.model.specs.Used.{mark, markFrom};
 ghost use Rattle.model.specs.Operations.{firstOver, runOn};
 ghost use Rattle.sheet.specs.Lists.{indexOr, overlay};
 ghost use Rattle.sheet.specs.Sheet.{Sheet};
 ghost use Rattle.block.specs.Tabled.{Read};
 ghost use Rattle.machine.specs.Tables.{movesIn};
+ghost use Rattle.usage.specs.Marks.{startSlotOf, actsIn};
 ghost use Rattle.mutation.specs.Answers.{Runs};
 ghost use Rattle.mutation.specs.Operate.{Runnable};
 use crate::Ran;
+use crate::counted;
 use block::fresh;
 use block::place;
 use block::tabulate;
@@ -19,6 +21,8 @@ use machine::Fit;
 use machine::machine_of;
 use sheet::Summary;
 use sheet::Tables;
+use usage::marked;
+use usage::start_set;
 
 // The lowest index of an input that is not below k; how many inputs there are where there is none.
 fn first_over(k: u8, inputs: &[u8]) -> usize
@@ -34,26 +38,31 @@ fn first_over(k: u8, inputs: &[u8]) -> usize
     i
 }
 
-// Writes one output for each input at the buffer's front.
+// Writes one output for each input at the buffer's front; gives the set of the slots used.
 fn respond<'a>(
+    block: &[u8; 1604],
     outputs: &'a [u8; 256],
     targets: &'a [u8; 256],
     start: u8,
     inputs: &[u8],
     buffer: &mut [u8],
-)
-    requires { ⌜ ((m : List ℕ) × Runnable m (now targets) start (now inputs)) ⌝ }
+) -> u32
+    requires { ⌜ Runnable (now block) (now targets) start (now inputs) ⌝ }
     requires { ⌜ length (now inputs) ≤ length (now buffer) ⌝ }
-    ensures { λ r. ⌜ ((m : List ℕ) → Runnable m (now (targets .entry)) start (now (inputs .entry)) → now (buffer .exit) ≡ overlay (outputsFrom (movesIn m (now (outputs .entry)) (now (targets .entry))) start (now (inputs .entry))) (now (buffer .entry))) ⌝ }
+    ensures { λ r. ⌜ now (buffer .exit) ≡ overlay (outputsFrom (movesIn (now (block .entry)) (now (outputs .entry)) (now (targets .entry))) start (now (inputs .entry))) (now (buffer .entry)) ⌝ }
+    ensures { λ r. ⌜ r ≡ markFrom (actsIn (now (block .entry)) (now (targets .entry))) (mark 0 (startSlotOf (now (block .entry)))) start (now (inputs .entry)) ⌝ }
 {
+    let mut used = start_set(block);
     let mut s = start;
     let mut i: usize = 0;
     while i < inputs.len() {
         let at = place(s, inputs[i]);
         buffer[i] = outputs[at];
+        used = marked(block, used, at);
         s = targets[at];
         i += 1;
     }
+    used
 }
 
 // Run, on an accepted sheet.
@@ -81,12 +90,14 @@ pub(crate) fn run_accepted(
     if buffer.len() < inputs.len() {
         return Ran::Refused(16, 0);
     }
-    respond(
+    let set = respond(
+        &block,
         &machine.output,
         &machine.target,
         machine.start,
         inputs,
         buffer,
     );
-    Ran::Done
+    let used = counted(set);
+    Ran::Done(used)
 }

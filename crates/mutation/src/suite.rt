@@ -6,12 +6,14 @@ ghost use lib.ListN.{length};
 ghost use Prim.Native.Nat.{ℕ};
 ghost use Rattle.sheet.specs.Sheet.{Sheet};
 ghost use Rattle.sheet.specs.Reading.{accepted};
-ghost use Rattle.model.specs.Suite.{firstFailedOf};
+ghost use Rattle.model.specs.Suite.{findingOf};
 ghost use Rattle.model.specs.Operations.{withMutant};
-ghost use Rattle.mutation.specs.Answers.{failedOf, failedBy, failedAnswer};
+ghost use Rattle.mutation.specs.Answers.{failedAnswer};
 ghost use Rattle.mutation.specs.Operate.{ReadFrom};
-ghost use Rattle.mutation.specs.Suites.{SuiteIn, Logged, Plays};
+ghost use Rattle.mutation.specs.Suites.{SuiteIn, Logged, Plays, failedBy};
 use crate::Failed;
+use crate::Used;
+use crate::counted;
 use block::fresh;
 use block::tabulate;
 use logs::Wrong;
@@ -21,6 +23,7 @@ use machine::Fit;
 use machine::machine_of;
 use sheet::Summary;
 use sheet::Tables;
+use usage::use_tried;
 
 // Writes the log of an accepted sheet's suite at the log's front; gives its length.
 pub(crate) fn log_suite(
@@ -37,16 +40,16 @@ pub(crate) fn log_suite(
     record_suite(sheet, starts, lengths, tests, block, log)
 }
 
-fn failure(found: Wrong) -> Failed
-    ensures { λ r. ⌜ r ≡ failedBy found ⌝ }
+fn failure(found: Wrong, used: Used) -> Failed
+    ensures { λ r. ⌜ r ≡ failedBy found used ⌝ }
 {
     match found {
-        Wrong::Nothing => Failed::Nothing,
-        Wrong::At(test, position) => Failed::At(test, position),
+        Wrong::Nothing => Failed::Nothing(used),
+        Wrong::At(test, position) => Failed::At(test, position, used),
     }
 }
 
-// The first test that the mutant in the tables fails, with room for the suite's log.
+// The first test that the mutant in the tables fails, and the slots used until then, with room for the suite's log.
 fn first_failure<'a, 'b>(
     sheet: &[u8],
     starts: &'a [u16; 256],
@@ -58,11 +61,13 @@ fn first_failure<'a, 'b>(
     start: u8,
     log: &mut [u16],
 ) -> Failed
-    requires { ⌜ ((sh : Sheet) × SuiteIn sh (now sheet) (now starts) (now lengths) tests (now block) (length (now log))) ⌝ }
-    ensures { λ r. ⌜ ((sh : Sheet) (b : List ℕ) → SuiteIn sh (now (sheet .entry)) (now (starts .entry)) (now (lengths .entry)) tests (now (block .entry)) (length (now (log .entry))) → Plays sh b (now (outputs .entry)) (now (targets .entry)) start → r ≡ failedOf (firstFailedOf sh b)) ⌝ }
+    requires { ⌜ ((sh : Sheet) × (b : List ℕ) × SuiteIn sh (now sheet) (now starts) (now lengths) tests (now block) (length (now log)) × Plays sh b (now outputs) (now targets) start) ⌝ }
+    ensures { λ r. ⌜ ((sh : Sheet) (b : List ℕ) → SuiteIn sh (now (sheet .entry)) (now (starts .entry)) (now (lengths .entry)) tests (now (block .entry)) (length (now (log .entry))) → Plays sh b (now (outputs .entry)) (now (targets .entry)) start → r ≡ failedAnswer (accepted (findingOf sh b))) ⌝ }
 {
     let n = log_suite(sheet, starts, lengths, tests, block, log);
-    failure(first_wrong(&log[..n], outputs, targets, start))
+    let found = first_wrong(&log[..n], outputs, targets, start);
+    let set = use_tried(sheet, starts, lengths, tests, found, block, targets, start);
+    failure(found, counted(set))
 }
 
 // First failed test, on an accepted sheet.
@@ -73,7 +78,7 @@ pub(crate) fn first_failed_accepted(
     mutant: &[u8],
 ) -> Failed
     requires { ⌜ ((sh : Sheet) × ReadFrom sh size tables (now sheet)) ⌝ }
-    ensures { λ r. ⌜ ((sh : Sheet) → ReadFrom sh size tables (now (sheet .entry)) → r ≡ failedAnswer (withMutant sh (now (mutant .entry)) (accepted (firstFailedOf sh (now (mutant .entry)))))) ⌝ }
+    ensures { λ r. ⌜ ((sh : Sheet) → ReadFrom sh size tables (now (sheet .entry)) → r ≡ failedAnswer (withMutant sh (now (mutant .entry)) (accepted (findingOf sh (now (mutant .entry)))))) ⌝ }
 {
     let mut block = fresh();
     tabulate(size, tables, &mut block);

@@ -208,7 +208,7 @@ module _ {sh : Sheet} {m log p : List ℕ} {i : ℕ} (w : Searching sh m log p i
 
   sought : {goal : Goal} (b : List ℕ) → IsMutant sh b → Wanted goal sh b → Sought goal m log b
   unfolding Sought
-  sought {goal} b is h = (rw (gives-same (w .sheet .tabled) b is log, w .sheet .suite) (passes-gives sh b (w .sheet .tabled .formed) (h .passes)), asked (w .sheet .tabled) b is goal (h .meets))
+  sought {goal} b is h = (rw (gives-same (w .sheet .tabled) b is log, w .sheet .suite) (passes-gives sh b (h .passes)), asked (w .sheet .tabled) b is goal (h .meets))
 
   -- where the engine refutes the prefix, no mutant that begins so is wanted
   pub refuted : {goal : Goal} {r : Bool} → NoneIf goal m log p r → r ≡ true → NoneFrom goal sh p i

@@ -4,6 +4,7 @@ use Prim.Native.Nat.{ℕ}
 use mathlib.Core.Path.{_≡_, refl, ap}
 use mathlib.Core.Option.{Option, none, some}
 use mathlib.Core.List.{List, [], _∷_, _++_}
+use lib.Dec.{lit<}
 use lib.ListN.{length, replicate}
 use Rattle.sheet.specs.declared.Summary.{Summary}
 use Rattle.sheet.specs.declared.Span.{Span}
@@ -13,11 +14,14 @@ use Rattle.sheet.specs.Reading.{Result, accepted, refused, firstBroken, ascends
 use Rattle.sheet.specs.Encode.{rowBytes, pressBytes, testBytes, sizeBytes, machineBytes}
 use Rattle.sheet.specs.Part.{spanOf, parting}
 use Rattle.sheet.specs.laws.Accepted.{well-formed}
-use Rattle.model.specs.Machine.{outputsFrom, specifiedFrom}
-use Rattle.model.specs.Mutant.{rule, unruled, transitions, Suspect, suspects, slots, siteIn, siteOf, choiceLists, mutants, step, initial, outputs, specified}
+use lib.Count.{ones}
+use Rattle.model.specs.Machine.{outputsFrom}
+use Rattle.model.specs.Mutant.{rule, unruled, transitions, Suspect, suspects, slots, siteIn, siteOf, choiceLists, mutants, acts, step, initial, startSlot, outputs}
+use Rattle.model.specs.Used.{has, markFrom, markAll, Usage, usedOn}
 use Rattle.model.specs.Compare.{least, shows, within, best, shortest, distance, compareFrom, comparePair}
-use Rattle.model.specs.Suite.{Place, Judgement, complete, survivor, firstWrong, wrongIn, firstFailedIn, firstFailedOf, compareOf, survivorAmong, judgeOf}
-use Rattle.model.specs.Operations.{reads, firstHigh, firstOver, withMutant, running, failing, comparing, judging, runOn, compareOn, judgeOn}
+use Rattle.model.specs.Suite.{Judgement, complete, survivor, wrongFrom, wrongIn, firstFailedIn, firstFailedOf, Finding, findingOf, compareOf, survivorAmong, judgeOf}
+use Rattle.model.specs.Operations.{reads, firstHigh, firstOver, withMutant, Response, responseOf, running, failing, comparing, judging, runOn, compareOn, judgeOn}
+use Rattle.model.specs.laws.BitLaw.{ones-count}
 use Rattle.model.specs.laws.Quick.{tabulate, cellAt, rounds, compareQuick, firstQuick, judgeQuick, quick}
 use Rattle.worked.specs.Sheets.{p1machine, p1, p2, p3, emptyTest, p4machine, p4, p5, p6, p9machine, bababa, p9, p10, stuck, chain, open32, open33, manyTests}
 
@@ -32,8 +36,8 @@ pub data Row : Type 0 where
   open-pairs : List ℕ → Result (List Suspect) → Row
   choices : List ℕ → Result (List ℕ) → Row
   part : List ℕ → ℕ → Result Span → Row
-  run : List ℕ → List ℕ → List ℕ → ℕ → Result (List ℕ) → Row
-  failed : List ℕ → List ℕ → Result (Option Place) → Row
+  run : List ℕ → List ℕ → List ℕ → ℕ → Result Response → Row
+  failed : List ℕ → List ℕ → Result Finding → Row
   compared : List ℕ → List ℕ → ℕ → Result (Option (List ℕ)) → Row
   judged : List ℕ → ℕ → ℕ → Result Judgement → Row
 
@@ -59,8 +63,18 @@ summary n k m rules faults tests suspects =
 abbrev pair : ℕ → ℕ → Suspect
 pair s x = record { state = s; input = x }
 
-abbrev place : ℕ → ℕ → Result (Option Place)
-place test position = accepted (some (record { test = test; position = position }))
+-- how many slots are used, and the set of them
+abbrev usage : ℕ → ℕ → Usage
+usage number set = record { number = number; set = set }
+
+abbrev ran : List ℕ → ℕ → ℕ → Result Response
+ran outputs number set = accepted (record { outputs = outputs; used = usage number set })
+
+abbrev place : ℕ → ℕ → ℕ → ℕ → Result Finding
+place test position number set = accepted (record { first = some (record { test = test; position = position }); used = usage number set })
+
+abbrev passed : ℕ → ℕ → Result Finding
+passed number set = accepted (record { first = none; used = usage number set })
 
 unfoldable pub listed : List Row
 listed =
@@ -73,8 +87,8 @@ listed =
     ∷ judged p5 2 4 (accepted complete)
     ∷ read p6 (summary 1 1 1 0 0 0 0)
     ∷ judged p6 0 1 (accepted complete)
-    ∷ run p1 (1 ∷ []) (0 ∷ 1 ∷ 0 ∷ []) 3 (accepted (1 ∷ 1 ∷ 0 ∷ []))
-    ∷ failed p2 (1 ∷ []) (place 0 2)
+    ∷ run p1 (1 ∷ []) (0 ∷ 1 ∷ 0 ∷ []) 3 (ran (1 ∷ 1 ∷ 0 ∷ []) 1 1)
+    ∷ failed p2 (1 ∷ []) (place 0 2 1 1)
     ∷ judged p9 4 16 (accepted (survivor (0 ∷ 0 ∷ 0 ∷ 1 ∷ []) (1 ∷ 0 ∷ 1 ∷ 0 ∷ 0 ∷ 1 ∷ 0 ∷ [])))
     ∷ read [] (refused 2 0)
     ∷ read (0 ∷ []) (refused 3 0)
@@ -93,17 +107,17 @@ listed =
 unfoldable pub further : List Row
 further =
     read p1 (summary 2 2 2 4 1 1 1)
-    ∷ failed emptyTest (1 ∷ []) (accepted none)
+    ∷ failed emptyTest (1 ∷ []) (passed 0 0)
     ∷ judged emptyTest 1 4 (accepted (survivor (1 ∷ []) (0 ∷ 1 ∷ 0 ∷ [])))
     ∷ part emptyTest 0 (accepted (record { start = 30; length = 0 }))
-    ∷ failed p3 (1 ∷ []) (accepted none)
+    ∷ failed p3 (1 ∷ []) (passed 0 0)
     ∷ part p1 0 (accepted (record { start = 30; length = 4 }))
     ∷ part p1 1 (refused 17 0)
     ∷ part [] 1 (refused 2 0)
     ∷ compared stuck (1 ∷ []) 4 (accepted (some (0 ∷ 0 ∷ [])))
     ∷ judged stuck 1 4 (accepted (survivor (1 ∷ []) (0 ∷ 0 ∷ [])))
     ∷ choices chain (accepted (256 ∷ []))
-    ∷ run chain (255 ∷ []) (replicate 17 0) 17 (accepted (replicate 15 0 ++ 15 ∷ 15 ∷ []))
+    ∷ run chain (255 ∷ []) (replicate 17 0) 17 (ran (replicate 15 0 ++ 15 ∷ 15 ∷ []) 1 1)
     ∷ run [] [] (9 ∷ []) 0 (refused 2 0)
     ∷ run p1 [] (9 ∷ []) 0 (refused 13 0)
     ∷ run p1 (2 ∷ []) (9 ∷ []) 0 (refused 14 0)
@@ -111,11 +125,11 @@ further =
     ∷ run p4 (3 ∷ 2 ∷ []) (9 ∷ []) 0 (refused 14 1)
     ∷ run p1 (1 ∷ []) (0 ∷ 2 ∷ 9 ∷ []) 0 (refused 15 1)
     ∷ run p1 (1 ∷ []) (0 ∷ []) 0 (refused 16 0)
-    ∷ run p4 (3 ∷ 1 ∷ []) (1 ∷ 1 ∷ 0 ∷ []) 9 (accepted (1 ∷ 1 ∷ 0 ∷ []))
+    ∷ run p4 (3 ∷ 1 ∷ []) (1 ∷ 1 ∷ 0 ∷ []) 9 (ran (1 ∷ 1 ∷ 0 ∷ []) 2 3)
     ∷ failed [] [] (refused 2 0)
     ∷ failed p1 [] (refused 13 0)
     ∷ failed p4 (3 ∷ 2 ∷ []) (refused 14 1)
-    ∷ failed p1 (1 ∷ []) (accepted none)
+    ∷ failed p1 (1 ∷ []) (passed 1 1)
     ∷ compared [] [] 0 (refused 2 0)
     ∷ compared p1 (0 ∷ 0 ∷ []) 0 (refused 13 0)
     ∷ compared p1 (2 ∷ []) 0 (refused 14 0)
@@ -127,12 +141,26 @@ further =
     ∷ judged p1 1 3 (refused 16 1)
     ∷ []
 
+-- 02, Point 3: the first and the second pair each alone, none, an empty run, the first and the last of 32; tests before the failed one, a
+-- pair that only the wrong output's step meets, and one that the failed test would have met later
+unfoldable pub touching : List Row
+touching =
+    run p4 (0 ∷ 0 ∷ []) (1 ∷ []) 1 (ran (0 ∷ []) 1 1)
+    ∷ run p4 (0 ∷ 0 ∷ []) (0 ∷ 1 ∷ []) 2 (ran (1 ∷ 1 ∷ []) 1 2)
+    ∷ run p1 (1 ∷ []) (0 ∷ 0 ∷ []) 2 (ran (1 ∷ 0 ∷ []) 0 0)
+    ∷ run p1 (1 ∷ []) [] 0 (ran [] 0 0)
+    ∷ run open32 (replicate 32 0) (0 ∷ 15 ∷ []) 2 (ran (0 ∷ 0 ∷ []) 2 0x80000001)
+    ∷ failed p10 (0 ∷ 0 ∷ 0 ∷ 0 ∷ []) (passed 3 14)
+    ∷ failed p10 (0 ∷ 1 ∷ 0 ∷ 0 ∷ []) (place 1 2 3 14)
+    ∷ failed p10 (0 ∷ 0 ∷ 1 ∷ 0 ∷ []) (place 0 3 2 6)
+    ∷ []
+
 unfoldable pub rows : List Row
-rows = listed ++ (judged p10 4 16 (accepted complete) ∷ further)
+rows = listed ++ (judged p10 4 16 (accepted complete) ∷ (further ++ touching))
 
 -- the definitions that the rows compute with, by one name: to unfold it is to unfold them
 computing : Unit {0}
-unfolding p1machine p1 p2 p3 emptyTest p4machine p4 p5 p6 p9machine bababa p9 p10 stuck chain open32 open33 manyTests last precedes count any all upTo joined rowsAt ruleAt after leads reachedWithin allReached unruledChoices choicesAt isOpen openBelow openPairs firstBroken ascends lastTest ruleAfter refusal addPress advance finishing doing oneCommand from blank reading summaryOf rowBytes pressBytes testBytes sizeBytes machineBytes spanOf parting outputsFrom specifiedFrom rule unruled transitions suspects slots siteIn siteOf choiceLists mutants step initial outputs specified least shows within best shortest distance compareFrom comparePair firstWrong wrongIn firstFailedIn firstFailedOf compareOf survivorAmong judgeOf firstHigh firstOver withMutant runOn running failing compareOn comparing judgeOn judging
+unfolding p1machine p1 p2 p3 emptyTest p4machine p4 p5 p6 p9machine bababa p9 p10 stuck chain open32 open33 manyTests last precedes count any all upTo joined rowsAt ruleAt after leads reachedWithin allReached unruledChoices choicesAt isOpen openBelow openPairs firstBroken ascends lastTest ruleAfter refusal addPress advance finishing doing oneCommand from blank reading summaryOf rowBytes pressBytes testBytes sizeBytes machineBytes spanOf parting outputsFrom rule unruled transitions suspects slots siteIn siteOf choiceLists mutants acts step initial startSlot outputs has markFrom markAll usedOn least shows within best shortest distance compareFrom comparePair wrongFrom wrongIn firstFailedIn firstFailedOf findingOf compareOf survivorAmong judgeOf firstHigh firstOver withMutant responseOf runOn running failing compareOn comparing judgeOn judging
 computing = tt
 
 -- P10's eight conforming mutants that pass are compared over all sequences of 16 inputs: a quicker judgement, proved to be
@@ -153,10 +181,15 @@ p10-holds : judging p10 4 16 ≡ accepted complete
 unfolding computing sheet10
 p10-holds = ap accepted p10-judged
 
+-- the ones of a number of 32 bits are counted bit by bit
+open32-holds : running open32 (replicate 32 0) (0 ∷ 15 ∷ []) 2 ≡ ran (0 ∷ 0 ∷ []) 2 0x80000001
+unfolding computing
+open32-holds = ap (λ (number : ℕ). ran (0 ∷ 0 ∷ []) number 0x80000001) (ones-count 32 0x80000001 (lit< tt))
+
 infixr 5 _&_
 _&_ : {A B : Type 0} → A → B → A × B
 a & b = (a, b)
 
 pub rows-hold : AllHold rows
-unfolding computing rows listed further Holds AllHold
-rows-hold = refl & refl & refl & refl & refl & refl & refl & refl & refl & refl & refl & refl & refl & refl & refl & refl & refl & refl & refl & refl & refl & refl & refl & p10-holds & refl & refl & refl & refl & refl & refl & refl & refl & refl & refl & refl & refl & refl & refl & refl & refl & refl & refl & refl & refl & refl & refl & refl & refl & refl & refl & refl & refl & refl & refl & refl & refl & refl & tt
+unfolding computing ones rows listed further touching Holds AllHold
+rows-hold = refl & refl & refl & refl & refl & refl & refl & refl & refl & refl & refl & refl & refl & refl & refl & refl & refl & refl & refl & refl & refl & refl & refl & p10-holds & refl & refl & refl & refl & refl & refl & refl & refl & refl & refl & refl & refl & refl & refl & refl & refl & refl & refl & refl & refl & refl & refl & refl & refl & refl & refl & refl & refl & refl & refl & refl & refl & refl & refl & refl & refl & refl & open32-holds & refl & refl & refl & tt

@@ -1,7 +1,7 @@
 //! Run, first failed test and compare.
 
 use super::guard::{buffer, bytes, flag, Answer};
-use crate::enumeration::Failure;
+use crate::enumeration::{Failed, Failure, Ran, Used};
 use crate::reference::Refusal;
 
 mod c {
@@ -36,8 +36,8 @@ mod c {
     }
 }
 
-/// Number, place. One sound for each press is written to the buffer's front.
-pub fn run(sheet: &[u8], board: &[u8], presses: &[u8], buffer: &mut [u8], answer: &mut [usize; 2]) {
+/// Number, place, pairs used, set of them. One sound for each press is written to the buffer's front.
+pub fn run(sheet: &[u8], board: &[u8], presses: &[u8], buffer: &mut [u8], answer: &mut [usize; 4]) {
     // SAFETY: all slices and the answer are valid for their lengths throughout the call.
     unsafe {
         c::ranthelo_run(
@@ -54,8 +54,8 @@ pub fn run(sheet: &[u8], board: &[u8], presses: &[u8], buffer: &mut [u8], answer
     }
 }
 
-/// Number, place, failed (0 or 1), test, position.
-pub fn first_failed(sheet: &[u8], board: &[u8], answer: &mut [usize; 5]) {
+/// Number, place, failed (0 or 1), test, position, pairs used, set of them.
+pub fn first_failed(sheet: &[u8], board: &[u8], answer: &mut [usize; 7]) {
     // SAFETY: all slices and the answer are valid for their lengths throughout the call.
     unsafe {
         c::ranthelo_first_failed(
@@ -84,13 +84,18 @@ pub fn compare(sheet: &[u8], board: &[u8], buffer: &mut [u8], answer: &mut [usiz
     }
 }
 
-/// Run with a buffer of `room` bytes: the sounds.
+fn used(words: &[usize]) -> Used {
+    let (number, set) = (words[0], words[1]);
+    Used { number, set }
+}
+
+/// Run with a buffer of `room` bytes: the sounds, and the open pairs used.
 pub fn checked_run(
     sheet: &[u8],
     board: &[u8],
     presses: &[u8],
     room: usize,
-) -> Result<Vec<u8>, Refusal> {
+) -> Result<Ran, Refusal> {
     let (sheet, board, presses) = (bytes(sheet), bytes(board), bytes(presses));
     let mut buffer = buffer(room);
     let mut answer = Answer::new();
@@ -107,10 +112,11 @@ pub fn checked_run(
     let result = answer.result();
     let written = result.map_or(0, |_| presses.content().len());
     let sounds = buffer.front(written).to_vec();
-    result.map(|_| sounds)
+    let used = used(result?);
+    Ok(Ran { sounds, used })
 }
 
-pub fn checked_first_failed(sheet: &[u8], board: &[u8]) -> Result<Option<Failure>, Refusal> {
+pub fn checked_first_failed(sheet: &[u8], board: &[u8]) -> Result<Failed, Refusal> {
     let (sheet, board) = (bytes(sheet), bytes(board));
     let mut answer = Answer::new();
     first_failed(sheet.content(), board.content(), answer.lend());
@@ -118,11 +124,14 @@ pub fn checked_first_failed(sheet: &[u8], board: &[u8]) -> Result<Option<Failure
     board.untouched();
     let words = answer.result()?;
     let (test, position) = (words[1], words[2]);
+    let used = used(&words[3..]);
     if flag(words[0]) {
-        return Ok(Some(Failure { test, position }));
+        let failure = Some(Failure { test, position });
+        return Ok(Failed { failure, used });
     }
     assert_eq!((test, position), (0, 0), "no test failed, yet one is told");
-    Ok(None)
+    let failure = None;
+    Ok(Failed { failure, used })
 }
 
 /// Compare with a buffer of `room` bytes: the shortest departing sequence, or none.

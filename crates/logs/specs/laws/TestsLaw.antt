@@ -1,5 +1,5 @@
 -- The tests of an accepted sheet are where its tables say, and their log is the suite's.
-use Prim.Native.Nat.{ℕ, suc, _+_, _*_, _≤_, _<_, suc-le-suc}
+use Prim.Native.Nat.{ℕ, zero, suc, _+_, _-_, _*_, _≤_, _<_, suc-le-suc}
 use native.Mathlib.Nat.{add-zero}
 use native.Mathlib.Omega.{arith}
 use mathlib.Core.Path.{_≡_, refl, _∙_, ap}
@@ -27,6 +27,17 @@ use Rattle.model.specs.laws.SuiteLaw.{Specified, test-specified}
 use Rattle.model.specs.laws.LogLaw.{log-below, log-most}
 use Rattle.logs.specs.Tests.{inputsAt, testsFrom, testsAt, Low, TestsAt}
 
+-- the first input, and the first test, and those after it
+pub inputs-more : (sheet : List ℕ) (at left : ℕ) → 0 < left → inputsAt sheet at left ≡ getD sheet (at + 1) 0 ∷ inputsAt sheet (at + 2) (left - 1)
+unfolding inputsAt
+inputs-more sheet at zero l = absurd (omega arith)
+inputs-more sheet at (suc n) l = let e : suc n - 1 ≡ n = omega arith in rw e refl
+
+pub tests-more : (sheet starts lengths : List ℕ) (t n : ℕ) → t < n →
+    testsFrom sheet starts lengths t (n - t) ≡ inputsAt sheet (getD starts t 0) (getD lengths t 0) ∷ testsFrom sheet starts lengths (t + 1) (n - (t + 1))
+unfolding testsFrom
+tests-more sheet starts lengths t n l = let e : n - t ≡ suc (n - (t + 1)) = omega arith in rw e refl
+
 -- the inputs of PRESS commands
 inputs-at : (front xs rest : List ℕ) (at : ℕ) → length front ≡ at → inputsAt (front ++ (pressBytes xs ++ rest)) at (length xs) ≡ xs
 unfolding inputsAt pressBytes
@@ -50,7 +61,7 @@ module _ (sh : Sheet) (t : ℕ) (l : t < length (sh .tests)) (low : t < 256) whe
   unfolding tablesOf spanOf
   start-at = table-at (λ i. cond (ltb i (length (sh .tests))) (spanOf sh i .start) 0) t low ∙ rw (lt-ltb t (length (sh .tests)) l) refl
 
-  length-at : getD (tablesOf sh .lengths) t 0 ≡ length (getD (sh .tests) t [])
+  pub length-at : getD (tablesOf sh .lengths) t 0 ≡ length (getD (sh .tests) t [])
   unfolding tablesOf
   length-at = table-at (λ i. length (getD (sh .tests) i [])) t low
 
@@ -80,6 +91,13 @@ module _ (sh : Sheet) (wf : WellFormed sh) where
         };
   }
 
+  -- the tests by a sheet's bytes and tables
+  pub tests-are : {s : List ℕ} → encode sh ≡ s → {tables : Tables} → tables ≡ tablesOf sh → {n : ℕ} → n ≡ length (sh .tests) →
+      testsAt s (tables .starts) (tables .lengths) n ≡ sh .tests
+  tests-are bytes tabled many =
+      rw (← bytes, tabled, many)
+      (tests-from (encode sh) (tablesOf sh .starts) (tablesOf sh .lengths) (sh .tests) 0 (λ i l. let e : 0 + i ≡ i = omega arith in rw e (test-is sh i l (few i l))))
+
   -- a sheet as it is read, with rules that are the sheet's
   module _ {r : ℕ → ℕ → Option Move} (same : r ≡ rule sh) {s : List ℕ} (bytes : encode sh ≡ s) {tables : Tables} (tabled : tables ≡ tablesOf sh) {n : ℕ} (many : n ≡ length (sh .tests)) where
     pub tests-at : TestsAt r s (tables .starts) (tables .lengths) n
@@ -99,10 +117,7 @@ module _ (sh : Sheet) (wf : WellFormed sh) where
 
     pub tests-log : testsLog r (testsAt s (tables .starts) (tables .lengths) n) ≡ suiteLog sh
     unfolding suiteLog
-    tests-log =
-        rw (same, ← bytes, tabled, many)
-        (ap (testsLog (rule sh))
-        (tests-from (encode sh) (tablesOf sh .starts) (tablesOf sh .lengths) (sh .tests) 0 (λ i l. let e : 0 + i ≡ i = omega arith in rw e (test-is sh i l (few i l)))))
+    tests-log = rw (same, tests-are bytes tabled many) refl
 
     -- a log of 8448 numbers has room, and so has one as long as the sheet
     pub room-below : length (testsLog r (testsAt s (tables .starts) (tables .lengths) n)) ≤ length s

@@ -68,4 +68,4 @@ module _ (sh : Sheet) (wf : WellFormed sh) where
       failedIn (movesIn outs nexts) start start 0 0 (suiteLog sh) ≡ firstFailedOf sh b
   unfolding suiteLog
   walked-failed b t start e =
-      rw e (same-failed t (initial sh b) (start-below sh b wf) (suiteLog sh) (tests-below (sh .tests)) (initial sh b) 0 0 (start-below sh b wf) ∙ failed-log sh b wf)
+      rw e (same-failed t (initial sh b) (start-below sh b wf) (suiteLog sh) (tests-below (sh .tests)) (initial sh b) 0 0 (start-below sh b wf) ∙ failed-log sh b)

@@ -15,7 +15,7 @@ use Rattle.sheet.specs.Sheet.{Sheet, rowsAt, ruleAt}
 use Rattle.sheet.specs.WellFormed.{RowIn, WellFormed}
 use Rattle.sheet.specs.laws.Basics.{never}
 use Rattle.model.specs.Machine.{Move, Pair}
-use Rattle.model.specs.Mutant.{moveOf, rule, unruled, transitions, suspects, siteIn, idle, step, initial, against}
+use Rattle.model.specs.Mutant.{moveOf, rule, unruled, transitions, suspects, siteIn, idle, acts, step, initial, against}
 use Rattle.model.specs.laws.Basics.{all-imp, all-getD, all-first, all-map, all-joined, upTo-below}
 
 -- the rules' inputs are below `inputs`, and every move goes to a state below `states`
@@ -114,7 +114,7 @@ module _ (sh : Sheet) (wf : WellFormed sh) where
 
   -- what a mutant does is in range, whatever its bytes, the state and the input
   pub step-in : (b : List ℕ) (s x : ℕ) → MoveIn (sh .size) (step sh b s x)
-  unfolding step
+  unfolding step acts
   step-in b s x = go (ltb s (sh .size .states) && ltb x (sh .size .inputs))
     where
       idle-in : MoveIn (sh .size) idle

@@ -8,18 +8,29 @@ use Rattle.sheet.specs.Sheet.{Sheet}
 use Rattle.sheet.specs.Reading.{accepted, reading}
 use Rattle.sheet.specs.WellFormed.{WellFormed}
 use Rattle.sheet.specs.laws.Accepted.{well-formed}
-use Rattle.model.specs.Mutant.{against, initial, Distinguishes, Conforming}
+use Rattle.model.specs.Mutant.{outputs, against, initial, Distinguishes, Conforming}
+use Rattle.model.specs.Used.{usedOn, Uses}
 use Rattle.model.specs.Suite.{firstFailedOf, compareOf, Judgement, complete, survivor, judgeOf}
-use Rattle.model.specs.Verdict.{FailedMeans, ComparedMeans, Complete, JudgedMeans}
+use Rattle.model.specs.Verdict.{RanMeans, UsedMeans, FailedMeans, ComparedMeans, Complete, JudgedMeans}
 use Rattle.model.specs.laws.Closed.{closed, some-state, start-below}
 use Rattle.model.specs.laws.CompareLaw.{conforms-or-distinguished, short-exists}
 use Rattle.model.specs.laws.JudgeLaw.{compared, judged-complete, judged-survivor, complete-exactly}
 use Rattle.model.specs.laws.SuiteLaw.{failed-means}
+use Rattle.model.specs.laws.Published.{ran-means}
+use Rattle.model.specs.laws.UsedLaw.{used-means}
 use Rattle.model.specs.laws.GuaranteeLaw.{guarantee}
 
 module _ (s : List ℕ) (sh : Sheet) (read : reading s ≡ accepted sh) where
   wf : WellFormed sh
   wf = well-formed s sh read
+
+  -- demand 2: the outputs of a run are those of the machine that 01 describes, one for each input
+  pub ran-told : (b xs : List ℕ) → RanMeans sh b xs (outputs sh b xs)
+  ran-told b xs = ran-means sh b xs
+
+  -- 02, Point 3: the set has a bit for each slot that a run, or the tests up to the first wrong output, used; the number counts them
+  pub used-told : (b : List ℕ) (ts : List (List ℕ)) → UsedMeans sh (Uses sh b ts) (usedOn sh b ts)
+  used-told b ts = used-means sh b ts
 
   -- demand 2: none fails, or the first test that does and its first wrong output
   pub failed-told : (b : List ℕ) → FailedMeans sh b (firstFailedOf sh b)

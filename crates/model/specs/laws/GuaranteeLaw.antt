@@ -1,17 +1,18 @@
 -- Demand 3: a complete suite guarantees every specified output, on every list of resets and inputs, of whatever length.
-use Prim.Native.Nat.{ℕ, _<_}
+use Prim.Native.Nat.{ℕ, suc, _<_}
 use native.Mathlib.Omega.{arith}
 use mathlib.Core.Path.{_≡_, refl, sym, _∙_, ap}
 use mathlib.Core.Logic.{⊎-elim}
 use mathlib.Core.Option.{Option, none, some}
 use mathlib.Core.List.{List, [], _∷_, _++_, map}
+use lib.ListN.{length}
 use Rattle.sheet.specs.declared.Row.{Row}
 use Rattle.sheet.specs.Lists.{maybe, All}
 use Rattle.sheet.specs.Sheet.{Sheet, ruleAt, after}
 use Rattle.sheet.specs.WellFormed.{TestIn, WellFormed}
 use Rattle.sheet.specs.laws.Basics.{never}
 use Rattle.model.specs.Machine.{Move, Pair, outputsFrom, specifiedFrom, ConformingFrom}
-use Rattle.model.specs.Mutant.{initial, outputs, specified, against, IsMutant, Conforming}
+use Rattle.model.specs.Mutant.{rule, initial, outputs, specified, against, IsMutant, Conforming}
 use Rattle.model.specs.Suite.{Passes}
 use Rattle.model.specs.Implementation.{Event, reset, input, InputsBelow, ResetFirst, Proper, respondFrom, respond, moveFrom, outputOf, targetOf, requiredFrom, required, Gives, Implementation, BehavesAs, GivesAll, suiteEvents, PassesSuite, Guaranteed}
 use Rattle.model.specs.Verdict.{RightOn, Complete}
@@ -34,6 +35,31 @@ gives-uncons : (o : Option Move) (out : ℕ) (os : List ℕ) (rs : List (Option 
 unfolding Given Gives
 gives-uncons none out os rs g = (tt, g)
 gives-uncons (some r) out os rs g = g
+
+-- the inputs of a list of events
+unfoldable pub inputsIn : List Event → List ℕ
+inputsIn [] = []
+inputsIn (reset ∷ es) = inputsIn es
+inputsIn (input x ∷ es) = x ∷ inputsIn es
+
+gives-length : (os : List ℕ) (rs : List (Option ℕ)) → Gives os rs → length os ≡ length rs
+unfolding Gives
+gives-length [] [] g = refl
+gives-length [] (r ∷ rs) g = absurd g
+gives-length (o ∷ os) [] g = absurd g
+gives-length (o ∷ os) (none ∷ rs) g = ap suc (gives-length os rs g)
+gives-length (o ∷ os) (some r ∷ rs) g = ap suc (gives-length os rs (g .1))
+
+required-length : (rule : ℕ → ℕ → Option Move) (st : Option ℕ) (es : List Event) → length (requiredFrom rule st es) ≡ length (inputsIn es)
+unfolding requiredFrom inputsIn
+required-length rule st [] = refl
+required-length rule st (reset ∷ es) = required-length rule (some 0) es
+required-length rule st (input x ∷ es) = ap suc (required-length rule (targetOf (moveFrom rule st x)) es)
+
+-- what gives every specified output gives one output for each input
+pub gives-each : (sh : Sheet) (implementation : Implementation) (es : List Event) → GivesAll sh implementation es → length (implementation es) ≡ length (inputsIn es)
+unfolding GivesAll required
+gives-each sh implementation es g = gives-length (implementation es) (required sh es) g ∙ required-length (rule sh) none es
 
 module _ (m : Pair) where
   -- what conforms gives the specified output, and conforms after it

@@ -9,17 +9,16 @@ use borrow.Author.Tests.{eqb-true, eq-eqb, ne-eqb}
 use native.Mathlib.Decide.{ℕ-discrete}
 use lib.Dec.{eqb}
 use lib.ListN.{length, length-append}
-use Rattle.sheet.specs.Lists.{maybe, All}
+use Rattle.sheet.specs.Lists.{maybe}
 use Rattle.sheet.specs.Sheet.{Sheet}
 use Rattle.sheet.specs.Encode.{rowBytes, pressBytes, testBytes, sizeBytes, machineBytes, body, encode}
 use Rattle.sheet.specs.WellFormed.{WellFormed}
 use Rattle.sheet.specs.laws.Basics.{never}
 use Rattle.sheet.specs.laws.Parts.{presses-length}
-use Rattle.model.specs.Machine.{Move, outputsFrom, specifiedFrom}
-use Rattle.model.specs.Mutant.{rule, later, step, initial, outputs, specified}
-use Rattle.model.specs.Suite.{firstWrong, wrongIn, Place, laterTest, firstFailedIn, firstFailedOf, Passes}
+use Rattle.model.specs.Machine.{Move, Pair}
+use Rattle.model.specs.Mutant.{rule, later, step, initial, against}
+use Rattle.model.specs.Suite.{wrongFrom, wrongIn, Place, laterTest, firstFailedIn, firstFailedOf, Passes}
 use Rattle.model.specs.Log.{Observation, reset, seen, GivesFrom, GivesLog, failedIn, testLog, testsLog, suiteLog}
-use Rattle.model.specs.laws.SuiteLaw.{specified-uncons, Specified, test-specified}
 
 abbrev place : ℕ → ℕ → Option Place
 place t i = some (record { test = t; position = i })
@@ -48,31 +47,36 @@ module _ (move : ℕ → ℕ → Move) (start : ℕ) where
       go true ec h n = (eqb-true (move s x .output) o ec, h n)
       go false ec h n = never (cc)
 
-  -- along a test, before a log on which neither the state nor the position matters
-  module _ (rule : ℕ → ℕ → Option Move) (begun : ℕ) (l : List Observation) (rest : Option Place)
-      (after : (q i : ℕ) → failedIn move start q begun i l ≡ rest) where
-    abbrev at : ℕ → ℕ → Option Place
-    at i j = place (begun - 1) (i + j)
+-- along a test, before a log on which neither the state nor the position matters
+module _ (m : Pair) (start begun : ℕ) (l : List Observation) (rest : Option Place)
+    (after : (q i : ℕ) → failedIn (m .move) start q begun i l ≡ rest) where
+  abbrev at : ℕ → ℕ → Option Place
+  at i j = place (begun - 1) (i + j)
 
-    one-later : (i : ℕ) (w : Option ℕ) → maybe w rest (at (suc i)) ≡ maybe (later w) rest (at i)
-    one-later i none = refl
-    one-later i (some j) = same-place refl (omega arith)
+  one-later : (i : ℕ) (w : Option ℕ) → maybe w rest (at (suc i)) ≡ maybe (later w) rest (at i)
+  one-later i none = refl
+  one-later i (some j) = same-place refl (omega arith)
 
-    along-test : (xs os : List ℕ) (s q i : ℕ) → specifiedFrom rule s xs ≡ some os →
-        failedIn move start q begun i (testLog rule s xs ++ l) ≡ maybe (firstWrong os (outputsFrom move q xs)) rest (at i)
-    unfolding testLog failedIn specifiedFrom firstWrong outputsFrom
-    along-test [] os s q i e = let z : [] ≡ os = cc in rw (← z) (after q i)
-    along-test (x ∷ xs) os s q i e =
-        let f = specified-uncons rule s x xs os e in
-        rw (f .is, f .ruled)
-        (go (f .move .output) (firstWrong (f .rest) (outputsFrom move (move q x .target) xs)) (ℕ-discrete (move q x .output) (f .move .output))
-        (along-test xs (f .rest) (f .move .target) (move q x .target) (suc i) (f .specifies)))
-      where
-        go : (o : ℕ) (w : Option ℕ) → Dec (move q x .output ≡ o) → {r : Option Place} → r ≡ maybe w rest (at (suc i)) →
-            cond (eqb (move q x .output) o) r (place (begun - 1) i)
-            ≡ maybe (cond (eqb o (move q x .output)) (later w) (some zero)) rest (at i)
-        go o w (yes same) h = rw (eq-eqb _ _ same, eq-eqb _ _ (sym same)) (h ∙ one-later i w)
-        go o w (no other) h = rw (ne-eqb _ _ other, ne-eqb _ _ (λ z. other (sym z))) (same-place refl (omega arith))
+  along-test : (xs : List ℕ) (s q i : ℕ) → failedIn (m .move) start q begun i (testLog (m .rule) s xs ++ l) ≡ maybe (wrongFrom m s q xs) rest (at i)
+  unfolding testLog failedIn wrongFrom
+  along-test [] s q i = after q i
+  along-test (x ∷ xs) s q i = go (m .rule s x) (λ p. along-test xs p (m .move q x .target) (suc i))
+    where
+      one : (o : ℕ) (w : Option ℕ) → Dec (m .move q x .output ≡ o) → {r : Option Place} → r ≡ maybe w rest (at (suc i)) →
+          cond (eqb (m .move q x .output) o) r (place (begun - 1) i)
+          ≡ maybe (cond (eqb o (m .move q x .output)) (later w) (some zero)) rest (at i)
+      one o w (yes same) h = rw (eq-eqb _ _ same, eq-eqb _ _ (sym same)) (h ∙ one-later i w)
+      one o w (no other) h = rw (ne-eqb _ _ other, ne-eqb _ _ (λ z. other (sym z))) (same-place refl (omega arith))
+
+      go : (o : Option Move) →
+          ((p : ℕ) → failedIn (m .move) start (m .move q x .target) begun (suc i) (testLog (m .rule) p xs ++ l)
+          ≡ maybe (wrongFrom m p (m .move q x .target) xs) rest (at (suc i))) →
+          failedIn (m .move) start q begun i (maybe o [] (λ r. seen x (r .output) ∷ testLog (m .rule) (r .target) xs) ++ l)
+          ≡ maybe
+          (maybe o none (λ r. cond (eqb (r .output) (m .move q x .output)) (later (wrongFrom m (r .target) (m .move q x .target) xs)) (some zero)))
+          rest (at i)
+      go none h = after q i
+      go (some r) h = one (r .output) (wrongFrom m (r .target) (m .move q x .target) xs) (ℕ-discrete (m .move q x .output) (r .output)) (h (r .target))
 
 -- that many tests later
 laterBy : ℕ → Option Place → Option Place
@@ -80,14 +84,14 @@ laterBy t none = none
 laterBy t (some f) = place (t + f .test) (f .position)
 
 module _ (sh : Sheet) (b : List ℕ) where
-  along-tests : (ts : List (List ℕ)) → All (Specified sh) ts → (q begun i : ℕ) →
+  along-tests : (ts : List (List ℕ)) (q begun i : ℕ) →
       failedIn (step sh b) (initial sh b) q begun i (testsLog (rule sh) ts) ≡ laterBy begun (firstFailedIn sh b ts)
-  unfolding failedIn testsLog firstFailedIn wrongIn specified outputs laterBy
-  along-tests [] a q begun i = refl
-  along-tests (t ∷ ts) a q begun i =
-      along-test (step sh b) (initial sh b) (rule sh) (suc begun) (testsLog (rule sh) ts) (laterBy (suc begun) (firstFailedIn sh b ts))
-      (λ p j. along-tests ts (a .1) p (suc begun) j) t (a .0 .expected) 0 (initial sh b) 0 (a .0 .is)
-      ∙ rw (a .0 .is) (go (firstWrong (a .0 .expected) (outputsFrom (step sh b) (initial sh b) t)) (firstFailedIn sh b ts))
+  unfolding failedIn testsLog firstFailedIn wrongIn laterBy
+  along-tests [] q begun i = refl
+  along-tests (t ∷ ts) q begun i =
+      along-test (against sh b) (initial sh b) (suc begun) (testsLog (rule sh) ts) (laterBy (suc begun) (firstFailedIn sh b ts))
+      (λ p j. along-tests ts p (suc begun) j) t 0 (initial sh b) 0
+      ∙ go (wrongFrom (against sh b) 0 (initial sh b) t) (firstFailedIn sh b ts)
     where
       go : (w : Option ℕ) (o : Option Place) →
           maybe w (laterBy (suc begun) o) (λ j. place (suc begun - 1) (0 + j))
@@ -96,22 +100,21 @@ module _ (sh : Sheet) (b : List ℕ) where
       go none (some f) = same-place (omega arith) refl
       go (some j) o = same-place (omega arith) (omega arith)
 
-  module _ (wf : WellFormed sh) where
-    -- the first failed test is where the mutant does not give the suite's log
-    pub failed-log : failedIn (step sh b) (initial sh b) (initial sh b) 0 0 (suiteLog sh) ≡ firstFailedOf sh b
-    unfolding suiteLog firstFailedOf laterBy
-    failed-log = along-tests (sh .tests) (test-specified sh wf) (initial sh b) 0 0 ∙ go (firstFailedIn sh b (sh .tests))
-      where
-        go : (o : Option Place) → laterBy 0 o ≡ o
-        go none = refl
-        go (some f) = same-place (omega arith) refl
+  -- the first failed test is where the mutant does not give the suite's log
+  pub failed-log : failedIn (step sh b) (initial sh b) (initial sh b) 0 0 (suiteLog sh) ≡ firstFailedOf sh b
+  unfolding suiteLog firstFailedOf laterBy
+  failed-log = along-tests (sh .tests) (initial sh b) 0 0 ∙ go (firstFailedIn sh b (sh .tests))
+    where
+      go : (o : Option Place) → laterBy 0 o ≡ o
+      go none = refl
+      go (some f) = same-place (omega arith) refl
 
-    -- a mutant passes the suite exactly if it gives that log
-    pub passes-gives : Passes sh b → GivesLog sh b (suiteLog sh)
-    passes-gives e = none-gives (step sh b) (initial sh b) (suiteLog sh) (initial sh b) 0 0 (failed-log ∙ e)
+  -- a mutant passes the suite exactly if it gives that log
+  pub passes-gives : Passes sh b → GivesLog sh b (suiteLog sh)
+  passes-gives e = none-gives (step sh b) (initial sh b) (suiteLog sh) (initial sh b) 0 0 (failed-log ∙ e)
 
-    pub gives-passes : GivesLog sh b (suiteLog sh) → Passes sh b
-    gives-passes g = sym failed-log ∙ gives-none (step sh b) (initial sh b) (suiteLog sh) (initial sh b) 0 0 g
+  pub gives-passes : GivesLog sh b (suiteLog sh) → Passes sh b
+  gives-passes g = sym failed-log ∙ gives-none (step sh b) (initial sh b) (suiteLog sh) (initial sh b) 0 0 g
 
 -- ---- how long it is
 

@@ -1,6 +1,6 @@
 -- The machines here are 000's: their runs are traces, conforming is quasi-equivalence, and a run is the response after one reset.
 use Prim.Native.Nat.{ℕ, suc}
-use mathlib.Core.Path.{_≡_, refl, ap}
+use mathlib.Core.Path.{_≡_, refl, sym, ap}
 use mathlib.Core.Option.{Option, none, some}
 use mathlib.Core.List.{List, [], _∷_, _++_, map}
 use lib.ListN.{length, replicate}
@@ -11,7 +11,8 @@ use Rattle.model.specs.Machine.{Move, prepend, outputsFrom, specifiedFro
 use Rattle.model.specs.Mutant.{rule, step, initial, outputs, specified, Conforming}
 use Rattle.model.specs.Implementation.{reset, input, respondFrom, respond, requiredFrom, required}
 use Rattle.model.specs.Traces.{TraceFrom, QuasiEquivalent, specification, machine}
-use Rattle.model.specs.laws.SuiteLaw.{specified-uncons}
+use Rattle.model.specs.Verdict.{RanMeans}
+use Rattle.model.specs.laws.SuiteLaw.{outputs-length, specified-uncons}
 
 -- xs has specified outputs, or it begins with ys, which has, and goes on with an input x that has no rule there
 pub data DefinedOr (specifies : List ℕ → Option (List ℕ)) (xs : List ℕ) : Type 0 where
@@ -124,6 +125,11 @@ module _ (sh : Sheet) where
   pub one-reset : (b xs : List ℕ) → respond sh b (reset ∷ map input xs) ≡ outputs sh b xs
   unfolding respond respondFrom outputs
   one-reset b xs = inputs-only (step sh b) (initial sh b) (initial sh b) xs
+
+  -- so a run is told as 01 describes the machine
+  pub ran-means : (b xs : List ℕ) → RanMeans sh b xs (outputs sh b xs)
+  unfolding outputs
+  ran-means b xs = record { responds = sym (one-reset b xs); one-each = outputs-length (step sh b) (initial sh b) xs }
 
   -- the required outputs after one reset are the specified ones, if the sequence is defined
   pub required-after-reset : (xs os : List ℕ) → specified sh xs ≡ some os → required sh (reset ∷ map input xs) ≡ map (λ o. some o) os

@@ -11,7 +11,7 @@ use lib.ListN.{getD}
 use Rattle.sheet.specs.Lists.{maybe}
 use Rattle.sheet.specs.Sheet.{Sheet, choicesAt, isOpen}
 use Rattle.sheet.specs.WellFormed.{WellFormed}
-use Rattle.model.specs.Mutant.{transitions, slots, siteOf, IsMutant, idle, step}
+use Rattle.model.specs.Mutant.{transitions, slots, siteOf, IsMutant, idle, acts, step}
 use Rattle.model.specs.laws.SuspectLaw.{openBefore, site-none, site-open, site-is}
 use Rattle.model.specs.laws.TransitionLaw.{choices-some}
 use Rattle.model.specs.laws.OperationLaw.{mutant-length, in-range-at}
@@ -23,7 +23,7 @@ choiceOf sh b s x = maybe (siteOf sh s x) zero (λ i. getD b i 0)
 module _ (sh : Sheet) (b : List ℕ) (s x : ℕ) where
   -- it takes the transition that its choice names
   pub step-at : s < sh .size .states → x < sh .size .inputs → step sh b s x ≡ getD (transitions sh s x) (choiceOf sh b s x) idle
-  unfolding step siteOf
+  unfolding step acts siteOf
   step-at ls lx = rw (lt-ltb s (sh .size .states) ls, lt-ltb x (sh .size .inputs) lx) refl
 
   -- at an open pair the one of its byte
@@ -35,9 +35,18 @@ module _ (sh : Sheet) (b : List ℕ) (s x : ℕ) where
   pub step-only : s < sh .size .states → x < sh .size .inputs → isOpen sh s x ≡ false → step sh b s x ≡ getD (transitions sh s x) 0 idle
   step-only ls lx e = step-at ls lx ∙ rw (site-none sh s x e) refl
 
+  -- it uses the byte of an open pair, and none elsewhere
+  pub used-open : s < sh .size .states → x < sh .size .inputs → isOpen sh s x ≡ true → acts sh b s x .used ≡ some (openBefore sh s x)
+  unfolding acts siteOf
+  used-open ls lx e = site-open sh s x ls lx e
+
+  pub used-none : isOpen sh s x ≡ false → acts sh b s x .used ≡ none
+  unfolding acts siteOf
+  used-none e = site-none sh s x e
+
   -- outside the sheet's states and inputs it is idle
   pub step-outside : (s < sh .size .states → x < sh .size .inputs → ⊥) → step sh b s x ≡ idle
-  unfolding step siteOf
+  unfolding step acts siteOf
   step-outside out = go (ltb s (sh .size .states)) refl (ltb x (sh .size .inputs)) refl
     where
       go : (c : Bool) → ltb s (sh .size .states) ≡ c → (d : Bool) → ltb x (sh .size .inputs) ≡ d →

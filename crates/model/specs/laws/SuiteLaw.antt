@@ -2,7 +2,7 @@
 use Prim.Native.Nat.{ℕ, zero, suc, _<_, suc-le-suc}
 use native.Mathlib.Nat.{le-of-suc-le-suc}
 use native.Mathlib.Omega.{arith}
-use mathlib.Core.Path.{_≡_, refl, sym, _∙_, ap}
+use mathlib.Core.Path.{_≡_, refl, sym, _∙_, ap, ap₂}
 use mathlib.Core.Bool.{Bool, true, false, cond}
 use mathlib.Core.Option.{Option, none, some}
 use mathlib.Core.List.{List, [], _∷_}
@@ -14,9 +14,9 @@ use Rattle.sheet.specs.Lists.{maybe, All}
 use Rattle.sheet.specs.Sheet.{Sheet, ruleAt, after}
 use Rattle.sheet.specs.WellFormed.{TestIn, WellFormed}
 use Rattle.sheet.specs.laws.Basics.{never}
-use Rattle.model.specs.Machine.{Move, prepend, outputsFrom, specifiedFrom}
-use Rattle.model.specs.Mutant.{moveOf, rule, later, initial, step, outputs, specified}
-use Rattle.model.specs.Suite.{firstWrong, wrongIn, Place, laterTest, firstFailedIn, firstFailedOf, Passes}
+use Rattle.model.specs.Machine.{Move, Pair, prepend, outputsFrom, specifiedFrom}
+use Rattle.model.specs.Mutant.{moveOf, rule, later, initial, outputs, specified, against}
+use Rattle.model.specs.Suite.{wrongFrom, wrongIn, Place, laterTest, firstFailedIn, firstFailedOf, Passes}
 use Rattle.model.specs.Verdict.{RightOn, FirstFailed, FailedMeans}
 use Rattle.model.specs.laws.Basics.{all-imp}
 
@@ -92,75 +92,102 @@ test-specified sh wf =
     record { expected = w .0; is = w .1; long = specified-length (rule sh) 0 t (w .0) (w .1) })
     (sh .tests) (wf .tests)
 
--- no wrong output: the same outputs
-none-wrong : (rs os : List ℕ) → length rs ≡ length os → firstWrong rs os ≡ none → rs ≡ os
-unfolding firstWrong
-none-wrong [] [] l e = refl
-none-wrong [] (o ∷ os) l e = absurd (omega arith)
-none-wrong (r ∷ rs) [] l e = absurd (omega arith)
-none-wrong (r ∷ rs) (o ∷ os) l e = go (eqb r o) refl (firstWrong rs os) (none-wrong rs os (omega arith)) e
-  where
-    go : (b : Bool) → eqb r o ≡ b → (w : Option ℕ) → (w ≡ none → rs ≡ os) → cond b (later w) (some zero) ≡ none → r ∷ rs ≡ o ∷ os
-    go true eb none h e′ = let a : r ≡ o = eqb-true r o eb in let c : rs ≡ os = h refl in cc
-    go true eb (some i) h e′ = never (cc)
-    go false eb w h e′ = never (cc)
-
--- the same outputs: none is wrong
-pub same-right : (os : List ℕ) → firstWrong os os ≡ none
-unfolding firstWrong
-same-right [] = refl
-same-right (o ∷ os) = rw (eq-eqb o o refl, same-right os) refl
-
 -- the outputs before i are right, and the one there is wrong
 pub record Differ (rs os : List ℕ) (i : ℕ) : Type 0 where
   pub reached : i < length rs
   pub agree : take i os ≡ take i rs
   pub wrong : getD os i 0 ≡ getD rs i 0 → ⊥
 
-pub first-wrong : (rs os : List ℕ) (i : ℕ) → length rs ≡ length os → firstWrong rs os ≡ some i → Differ rs os i
-unfolding firstWrong
-first-wrong [] os i l e = never (cc)
-first-wrong (r ∷ rs) [] i l e = absurd (omega arith)
-first-wrong (r ∷ rs) (o ∷ os) i l e = go (eqb r o) refl (firstWrong rs os) (λ j. first-wrong rs os j (omega arith)) e
-  where
-    go : (b : Bool) → eqb r o ≡ b → (w : Option ℕ) → ((j : ℕ) → w ≡ some j → Differ rs os j) → cond b (later w) (some zero) ≡ some i →
-        Differ (r ∷ rs) (o ∷ os) i
-    go true eb none h e′ = never (cc)
-    go true eb (some j) h e′ =
-        let z : suc j ≡ i = cc in
-        let t = h j refl in
-        let a : r ≡ o = eqb-true r o eb in
-        let c : take j os ≡ take j rs = t .agree in
-        rw (← z) (record { reached = suc-le-suc (t .reached); agree = cc; wrong = t .wrong })
-    go false eb w h e′ =
-        let z : zero ≡ i = cc in
-        rw (← z) (record { reached = omega arith; agree = refl; wrong = λ s. eqb-false r o eb (sym s) })
+module _ (m : Pair) where
+  -- no wrong output: the same outputs
+  none-wrong : (xs rs : List ℕ) (p q : ℕ) → specifiedFrom (m .rule) p xs ≡ some rs → wrongFrom m p q xs ≡ none → rs ≡ outputsFrom (m .move) q xs
+  unfolding specifiedFrom outputsFrom wrongFrom
+  none-wrong [] rs p q s e = cc
+  none-wrong (x ∷ xs) rs p q s e =
+      let f = specified-uncons (m .rule) p x xs rs s in
+      let t = m .move q x in
+      rw (f .is) (go (f .move) (eqb (f .move .output) (t .output)) refl (wrongFrom m (f .move .target) (t .target) xs)
+      (none-wrong xs (f .rest) (f .move .target) (t .target) (f .specifies)) (rw (f .ruled) at e))
+    where
+      go : (r : Move) (c : Bool) → eqb (r .output) (m .move q x .output) ≡ c → {rest : List ℕ} (w : Option ℕ) →
+          (w ≡ none → rest ≡ outputsFrom (m .move) (m .move q x .target) xs) → cond c (later w) (some zero) ≡ none →
+          r .output ∷ rest ≡ m .move q x .output ∷ outputsFrom (m .move) (m .move q x .target) xs
+      go r true ec none h n = ap₂ (λ (o : ℕ) (os : List ℕ). o ∷ os) (eqb-true (r .output) (m .move q x .output) ec) (h refl)
+      go r true ec (some i) h n = never (cc)
+      go r false ec w h n = never (cc)
 
-wrong-first : (rs os : List ℕ) (i : ℕ) → length rs ≡ length os → Differ rs os i → firstWrong rs os ≡ some i
-unfolding firstWrong
-wrong-first [] os i l d = absurd (omega (arith, d .reached))
-wrong-first (r ∷ rs) [] i l d = absurd (omega arith)
-wrong-first (r ∷ rs) (o ∷ os) zero l d = rw (ne-eqb r o (λ e. d .wrong (sym e))) refl
-wrong-first (r ∷ rs) (o ∷ os) (suc i) l d =
-    let g : o ∷ take i os ≡ r ∷ take i rs = d .agree in
-    let e : r ≡ o = cc in
-    let a : take i os ≡ take i rs = cc in
-    rw (eq-eqb r o e, wrong-first rs os i (omega arith) (record { reached = le-of-suc-le-suc (d .reached); agree = a; wrong = d .wrong })) refl
+  -- the same outputs: none is wrong
+  same-right : (xs : List ℕ) (p q : ℕ) → specifiedFrom (m .rule) p xs ≡ some (outputsFrom (m .move) q xs) → wrongFrom m p q xs ≡ none
+  unfolding specifiedFrom outputsFrom wrongFrom
+  same-right [] p q s = refl
+  same-right (x ∷ xs) p q s =
+      let t = m .move q x in
+      let f = specified-uncons (m .rule) p x xs (t .output ∷ outputsFrom (m .move) (t .target) xs) s in
+      let is : t .output ∷ outputsFrom (m .move) (t .target) xs ≡ f .move .output ∷ f .rest = f .is in
+      let same : f .move .output ≡ t .output = cc in
+      let others : f .rest ≡ outputsFrom (m .move) (t .target) xs = cc in
+      rw (
+        f .ruled,
+        eq-eqb (f .move .output) (t .output) same,
+        same-right xs (f .move .target) (t .target) (f .specifies ∙ ap (λ os. some os) others),
+      ) refl
+
+  -- a wrong output is the first one
+  first-wrong : (xs rs : List ℕ) (p q i : ℕ) → specifiedFrom (m .rule) p xs ≡ some rs → wrongFrom m p q xs ≡ some i → Differ rs (outputsFrom (m .move) q xs) i
+  unfolding specifiedFrom outputsFrom wrongFrom
+  first-wrong [] rs p q i s e = never (cc)
+  first-wrong (x ∷ xs) rs p q i s e =
+      let f = specified-uncons (m .rule) p x xs rs s in
+      let t = m .move q x in
+      rw (f .is) (go (f .move) (eqb (f .move .output) (t .output)) refl (wrongFrom m (f .move .target) (t .target) xs)
+      (λ j. first-wrong xs (f .rest) (f .move .target) (t .target) j (f .specifies)) (rw (f .ruled) at e))
+    where
+      go : (r : Move) (c : Bool) → eqb (r .output) (m .move q x .output) ≡ c → {rest : List ℕ} (w : Option ℕ) →
+          ((j : ℕ) → w ≡ some j → Differ rest (outputsFrom (m .move) (m .move q x .target) xs) j) → cond c (later w) (some zero) ≡ some i →
+          Differ (r .output ∷ rest) (m .move q x .output ∷ outputsFrom (m .move) (m .move q x .target) xs) i
+      go r true ec none h n = never (cc)
+      go r true ec (some j) h n =
+          let z : suc j ≡ i = cc in
+          let d = h j refl in
+          rw (← z)
+          (record {
+            reached = suc-le-suc (d .reached);
+            agree = ap₂ (λ (o : ℕ) (os : List ℕ). o ∷ os) (sym (eqb-true (r .output) (m .move q x .output) ec)) (d .agree);
+            wrong = d .wrong;
+          })
+      go r false ec w h n =
+          let z : zero ≡ i = cc in
+          rw (← z) (record { reached = omega arith; agree = refl; wrong = λ same. eqb-false (r .output) (m .move q x .output) ec (sym same) })
+
+  -- and only the first one is the answer
+  wrong-first : (xs rs : List ℕ) (p q i : ℕ) → specifiedFrom (m .rule) p xs ≡ some rs → Differ rs (outputsFrom (m .move) q xs) i → wrongFrom m p q xs ≡ some i
+  unfolding specifiedFrom outputsFrom wrongFrom
+  wrong-first [] rs p q i s d = let z : rs ≡ [] = cc in let l = rw z at (d .reached) in absurd (omega (arith, l))
+  wrong-first (x ∷ xs) rs p q i s d =
+      let f = specified-uncons (m .rule) p x xs rs s in
+      rw (f .ruled) (go (f .move) (f .rest) i (λ j. wrong-first xs (f .rest) (f .move .target) (m .move q x .target) j (f .specifies)) (rw (f .is) at d))
+    where
+      go : (r : Move) (rest : List ℕ) (k : ℕ) →
+          ((j : ℕ) → Differ rest (outputsFrom (m .move) (m .move q x .target) xs) j → wrongFrom m (r .target) (m .move q x .target) xs ≡ some j) →
+          Differ (r .output ∷ rest) (m .move q x .output ∷ outputsFrom (m .move) (m .move q x .target) xs) k →
+          cond (eqb (r .output) (m .move q x .output)) (later (wrongFrom m (r .target) (m .move q x .target) xs)) (some zero) ≡ some k
+      go r rest zero ih e = rw (ne-eqb (r .output) (m .move q x .output) (λ same. e .wrong (sym same))) refl
+      go r rest (suc k) ih e =
+          let g : m .move q x .output ∷ take k (outputsFrom (m .move) (m .move q x .target) xs) ≡ r .output ∷ take k rest = e .agree in
+          let same : r .output ≡ m .move q x .output = cc in
+          let others : take k (outputsFrom (m .move) (m .move q x .target) xs) ≡ take k rest = cc in
+          rw (eq-eqb (r .output) (m .move q x .output) same, ih k (record { reached = le-of-suc-le-suc (e .reached); agree = others; wrong = e .wrong })) refl
 
 module _ (sh : Sheet) (b : List ℕ) where
-  same-length : (t : List ℕ) (s : Specified sh t) → length (s .expected) ≡ length (outputs sh b t)
-  unfolding outputs
-  same-length t s = s .long ∙ sym (outputs-length (step sh b) (initial sh b) t)
-
   -- no output of the test is wrong: the mutant is right on it
   pub none-right : (t : List ℕ) → Specified sh t → wrongIn sh b t ≡ none → RightOn sh b t
-  unfolding wrongIn
-  none-right t s e = rw (s .is) (ap (λ os. some os) (none-wrong (s .expected) (outputs sh b t) (same-length t s) (rw (s .is) at e)))
+  unfolding wrongIn specified outputs
+  none-right t s e = s .is ∙ ap (λ os. some os) (none-wrong (against sh b) t (s .expected) 0 (initial sh b) (s .is) e)
 
   -- and back
   pub right-none : (t : List ℕ) → RightOn sh b t → wrongIn sh b t ≡ none
-  unfolding wrongIn
-  right-none t e = rw e (same-right (outputs sh b t))
+  unfolding wrongIn specified outputs
+  right-none t e = same-right (against sh b) t 0 (initial sh b) e
 
   -- the first wrong output of the mutant on the test stands at i
   pub record WrongOn (t : List ℕ) (i : ℕ) : Type 0 where
@@ -170,20 +197,18 @@ module _ (sh : Sheet) (b : List ℕ) where
 
   -- a wrong output is the first one
   pub some-wrong : (t : List ℕ) (i : ℕ) → Specified sh t → wrongIn sh b t ≡ some i → WrongOn t i
-  unfolding wrongIn
+  unfolding wrongIn specified outputs
   some-wrong t i s e =
       record {
         expected = s .expected;
         specifies = s .is;
-        differ = first-wrong (s .expected) (outputs sh b t) i (same-length t s) (rw (s .is) at e);
+        differ = first-wrong (against sh b) t (s .expected) 0 (initial sh b) i (s .is) e;
       }
 
   -- and only the first one is the answer
-  pub wrong-some : (t : List ℕ) (i : ℕ) → Specified sh t → WrongOn t i → wrongIn sh b t ≡ some i
-  unfolding wrongIn
-  wrong-some t i s w =
-      let e : s .expected ≡ w .expected = cc (s .is, w .specifies) in
-      rw (w .specifies) (wrong-first (w .expected) (outputs sh b t) i (ap length (sym e) ∙ same-length t s) (w .differ))
+  pub wrong-some : (t : List ℕ) (i : ℕ) → WrongOn t i → wrongIn sh b t ≡ some i
+  unfolding wrongIn specified outputs
+  wrong-some t i w = wrong-first (against sh b) t (w .expected) 0 (initial sh b) i (w .specifies) (w .differ)
 
   -- the first failed one of some tests: those before it are right
   record FailedIn (ts : List (List ℕ)) (f : Place) : Type 0 where
@@ -226,7 +251,7 @@ module _ (sh : Sheet) (b : List ℕ) where
       go : (us : List (List ℕ)) (j : ℕ) → All (Specified sh) us → j < length us → ((i : ℕ) → i < j → RightOn sh b (getD us i [])) →
           WrongOn (getD us j []) (f .position) → firstFailedIn sh b us ≡ some (record { test = j; position = f .position })
       go [] j s l r w = absurd (omega arith)
-      go (t ∷ us) zero s l r w = rw (wrong-some t (f .position) (s .0) w) refl
+      go (t ∷ us) zero s l r w = rw (wrong-some t (f .position) w) refl
       go (t ∷ us) (suc j) s l r w =
           rw (right-none t (r 0 (omega arith)), go us j (s .1) (le-of-suc-le-suc l) (λ i m. r (suc i) (suc-le-suc m)) w) refl
 

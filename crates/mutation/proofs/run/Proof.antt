@@ -4,7 +4,7 @@ use lib.ListN.{length}
 use Rattle.mutation.specs.declared.Ran.the-variants.{Refused}
 use Rattle.sheet.specs.Lists.{overlay}
 use Rattle.mutation.specs.Answers.{ranAnswer, ranWrites}
-use Rattle.mutation.proofs.Opened.{opened, closed-by, running-on, running-refused}
+use Rattle.mutation.proofs.Opened.{opened, closed-by, ran-on, running-refused, told-ran}
 use Rattle.sheet.specs.laws.Refusals.{refusal-told}
 use borrow.Author.Needs.{needs}
 use Rattle.mutation.proofs.run.Statement.{statement}
@@ -32,7 +32,7 @@ returns c =
     let e = running-refused (a .sheet .now) (g .0 .0) (g .0 .1 .0) (closed-by (a .sheet .now) (at-load .load .result) (g .0 .0) (g .0 .1 .0) (at-load .load .ensures) (g .1)) (a .mutant .now) (a .inputs .now) (length (a .buffer .now)) in
     let answer = ap₂ Refused (z .0) (z .1) ∙ sym (ap ranAnswer e) in
     let bytes = sym (ap (λ q. overlay (ranWrites q) (a .buffer .now)) e) in
-    (answer, bytes)
+    (answer, (bytes, told-ran (a .sheet .now) (a .mutant .now) (a .inputs .now) (length (a .buffer .now)) _ (a .buffer .now) (a .buffer .now) answer bytes))
 
 run-accepted-requires : tie.Need-run-accepted-requires
 run-accepted-requires c κs =
@@ -51,11 +51,8 @@ returns-2 c =
     let entry = at-load .before .before .before .before .before in
     let a = entry .args in
     let o = opened (a .sheet .now) (at-load .load .result) (at-reading .reading .given .0 .0) (at-load .load .ensures) (at-reading .reading .given .1) in
-    let e = running-on (a .sheet .now) (o .sheet) (o .is) (a .mutant .now) (a .inputs .now) (length (a .buffer .now)) in
-    let is = c .before .before .run-accepted .ensures (o .sheet) (o .holds .read) in
-    let answer = is .answer ∙ sym (ap ranAnswer e) in
-    let bytes = is .bytes ∙ sym (ap (λ q. overlay (ranWrites q) (a .buffer .now)) e) in
-    (answer, bytes)
+    let is = ran-on (a .sheet .now) (o .sheet) (o .is) (a .mutant .now) (a .inputs .now) (length (a .buffer .now)) (c .before .before .run-accepted .ensures (o .sheet) (o .holds .read)) in
+    (is .answer, (is .bytes, told-ran (a .sheet .now) (a .mutant .now) (a .inputs .now) (length (a .buffer .now)) _ (a .buffer .now) _ (is .answer) (is .bytes)))
 
 pub run-spec : {M : Type 1} → statement M
 run-spec =

@@ -50,7 +50,7 @@ returns-3 c =
 
 respond-requires : tie.Need-respond-requires
 respond-requires c κs =
-    let at-if2 = c .before .before .before .before in
+    let at-if2 = c .before .before .before .before .before in
     let at-if1 = at-if2 .before in
     let at-first-over = at-if1 .before in
     let at-inputs = at-first-over .before in
@@ -59,14 +59,18 @@ respond-requires c κs =
     let at-tabulate = at-machine-of .before .before in
     let entry = at-tabulate .before .before .before .before .before .before in
     let tb = at-tabulate .tabulate .ensures .1 (entry .pre .0) (entry .pre .1) in
-    ((_, runnable tb (at-machine-of .machine-of .ensures (entry .pre .0) tb) (at-enum-told .enum-told .given .1) _ (at-inputs .inputs .ensures) (at-first-over .first-over .ensures) (at-if1 .if1 .left)), at-if2 .if2 .left)
+    (runnable tb (at-machine-of .machine-of .ensures (entry .pre .0) tb) (at-enum-told .enum-told .given .1) _ (at-inputs .inputs .ensures) (at-first-over .first-over .ensures) (at-if1 .if1 .left), at-if2 .if2 .left)
+
+counted-requires : tie.Need-counted-requires
+counted-requires c κs = search needs
 
 same-length : tie.Need-same-length
 same-length c = search needs
 
 returns-4 : tie.Need-returns-4
 returns-4 c =
-    let at-if2 = c .before .before .before .before .before .before .before in
+    let at-respond = c .before .before .before in
+    let at-if2 = at-respond .before .before .before .before .before .before in
     let at-if1 = at-if2 .before in
     let at-first-over = at-if1 .before in
     let at-inputs = at-first-over .before in
@@ -75,8 +79,8 @@ returns-4 c =
     let at-tabulate = at-machine-of .before .before in
     λ sh rd.
     let tb = at-tabulate .tabulate .ensures .1 sh rd in
-    let is = at-machine-of .machine-of .ensures sh tb in
-    run-done tb is (at-enum-told .enum-told .given .1) _ (at-inputs .inputs .ensures) (at-first-over .first-over .ensures) (at-if1 .if1 .left) _ (at-if2 .if2 .left) (c .before .before .respond .ensures _ (runnable tb is (at-enum-told .enum-told .given .1) _ (at-inputs .inputs .ensures) (at-first-over .first-over .ensures) (at-if1 .if1 .left)))
+    run-done tb (at-machine-of .machine-of .ensures sh tb) (at-enum-told .enum-told .given .1) _ (at-inputs .inputs .ensures) (at-first-over .first-over .ensures) (at-if1 .if1 .left) _ (at-if2 .if2 .left)
+    (at-respond .respond .ensures .0) (at-respond .respond .ensures .1) (c .counted .ensures)
 
 pub run-accepted-spec : {M : Type 1} → statement M
 run-accepted-spec =
@@ -93,5 +97,6 @@ run-accepted-spec =
     returns-2
     returns-3
     respond-requires
+    counted-requires
     same-length
     returns-4)

@@ -1,5 +1,4 @@
-use mathlib.Core.Path.{sym, ap}
-use Rattle.mutation.specs.Answers.{failedBy}
+use mathlib.Core.Path.{refl}
 use borrow.Author.Needs.{needs}
 use Rattle.mutation.proofs.suite.failure.Statement.{statement}
 use Rattle.mutation.proofs.suite.failure.Tie as tie
@@ -11,10 +10,10 @@ enum-known-found : tie.Need-enum-known-found
 enum-known-found c = search needs
 
 returns : tie.Need-returns
-returns c = search needs
+returns c = rw (c .enum-told .given .1) refl
 
 returns-2 : tie.Need-returns-2
-returns-2 c = sym (ap failedBy (c .before .found .given .1))
+returns-2 c = rw (c .before .found .given .1) refl
 
 pub failure-spec : {M : Type 1} → statement M
 failure-spec = tie.close (tie.spec enum-told enum-known-found returns returns-2)

@@ -1,11 +1,12 @@
+-- `first_failed_accepted`: a short array for the log of a short sheet, a long one for any other.
 use borrow.Author.Needs.{needs}
-use Rattle.mutation.proofs.SuiteLaw.{suite-short, suite-long}
 use mathlib.Core.Path.{sym, _∙_, ap}
 use native.Mathlib.Omega.{arith}
 use Rattle.sheet.specs.Reading.{accepted}
-use Rattle.model.specs.Suite.{firstFailedOf}
+use Rattle.model.specs.Suite.{findingOf}
 use Rattle.mutation.specs.Answers.{failedAnswer}
-use Rattle.mutation.proofs.Operating.{mutant-refused, mutant, failed-on}
+use Rattle.mutation.proofs.Operating.{mutant-refused, plays, failed-on}
+use Rattle.mutation.proofs.SuiteLaw.{suite-short, suite-long}
 use Rattle.mutation.proofs.suite.first_failed_accepted.Statement.{statement}
 use Rattle.mutation.proofs.suite.first_failed_accepted.Tie as tie
 
@@ -16,13 +17,23 @@ tabulate-requires : tie.Need-tabulate-requires
 tabulate-requires c κs = search needs
 
 machine-of-requires : tie.Need-machine-of-requires
-machine-of-requires c κs = (c .before .before .before .before .before .before .pre .0, c .before .tabulate .ensures .1 (c .before .before .before .before .before .before .pre .0) (c .before .before .before .before .before .before .pre .1 .read))
+machine-of-requires c κs =
+    let at-tabulate = c .before in
+    let entry = at-tabulate .before .before .before .before .before in
+    (entry .pre .0, at-tabulate .tabulate .ensures .1 (entry .pre .0) (entry .pre .1 .read))
 
 enum-known-fit : tie.Need-enum-known-fit
 enum-known-fit c = search needs
 
 returns : tie.Need-returns
-returns c = λ sh rd. sym (ap failedAnswer (mutant-refused (c .before .before .before .before .before .tabulate .ensures .1 sh (rd .read)) (c .before .before .before .machine-of .ensures sh (c .before .before .before .before .before .tabulate .ensures .1 sh (rd .read))) (c .before .fit .given .1) (accepted (firstFailedOf sh (c .before .before .before .before .before .before .before .before .before .before .args .mutant .now)))))
+returns c =
+    let at-fit = c .before in
+    let at-machine-of = at-fit .before .before in
+    let at-tabulate = at-machine-of .before .before in
+    let entry = at-tabulate .before .before .before .before .before in
+    λ sh rd.
+    let tb = at-tabulate .tabulate .ensures .1 sh (rd .read) in
+    sym (ap failedAnswer (mutant-refused tb (at-machine-of .machine-of .ensures sh tb) (at-fit .fit .given .1) (accepted (findingOf sh (entry .args .mutant .now)))))
 
 enum-told : tie.Need-enum-told
 enum-told c = search needs
@@ -31,25 +42,55 @@ slice-aggregate-first-failure : tie.Need-slice-aggregate-first-failure
 slice-aggregate-first-failure c = search needs
 
 first-failure-requires : tie.Need-first-failure-requires
-first-failure-requires c κs = (c .before .before .before .before .before .before .before .before .before .before .before .before .before .before .before .before .before .before .pre .0, suite-short (c .before .before .before .before .before .before .before .before .before .before .before .before .before .before .before .before .before .before .pre .1) (c .before .before .before .before .before .before .before .before .before .before .before .before .before .tabulate .ensures .1 (c .before .before .before .before .before .before .before .before .before .before .before .before .before .before .before .before .before .before .pre .0) (c .before .before .before .before .before .before .before .before .before .before .before .before .before .before .before .before .before .before .pre .1 .read)) (omega (arith, c .before .before .before .before .before .before .before .before .if1 .taken)))
+first-failure-requires c κs =
+    let at-if1 = c .before .before .before .before .before .before .before .before in
+    let at-enum-told = at-if1 .before in
+    let at-machine-of = at-enum-told .before .before in
+    let at-tabulate = at-machine-of .before .before in
+    let entry = at-tabulate .before .before .before .before .before in
+    let sh = entry .pre .0 in
+    let rd = entry .pre .1 in
+    let tb = at-tabulate .tabulate .ensures .1 sh (rd .read) in
+    (sh, _, suite-short rd tb (omega (arith, at-if1 .if1 .taken)), plays tb (at-machine-of .machine-of .ensures sh tb) (at-enum-told .enum-told .given .1))
 
 returns-2 : tie.Need-returns-2
-returns-2 c = λ sh rd.
-    let is = c .before .before .before .before .before .before .before .before .before .before .before .before .before .machine-of .ensures sh (c .before .before .before .before .before .before .before .before .before .before .before .before .before .before .before .tabulate .ensures .1 sh (rd .read)) in
-    let e = c .before .before .before .before .before .before .before .before .before .before .before .enum-told .given .1 in
-    c .before .first-failure .ensures sh _ (suite-short rd (c .before .before .before .before .before .before .before .before .before .before .before .before .before .before .before .tabulate .ensures .1 sh (rd .read)) (omega (arith, c .before .before .before .before .before .before .before .before .before .before .if1 .taken))) (record { mutant = mutant (c .before .before .before .before .before .before .before .before .before .before .before .before .before .before .before .tabulate .ensures .1 sh (rd .read)) is e; moves = is .moves (mutant (c .before .before .before .before .before .before .before .before .before .before .before .before .before .before .before .tabulate .ensures .1 sh (rd .read)) is e); starts = is .start (mutant (c .before .before .before .before .before .before .before .before .before .before .before .before .before .before .before .tabulate .ensures .1 sh (rd .read)) is e) }) ∙ sym (ap failedAnswer (failed-on (c .before .before .before .before .before .before .before .before .before .before .before .before .before .before .before .tabulate .ensures .1 sh (rd .read)) is e))
+returns-2 c =
+    let at-first-failure = c .before in
+    let at-if1 = at-first-failure .before .before .before .before .before .before .before .before .before in
+    let at-enum-told = at-if1 .before in
+    let at-machine-of = at-enum-told .before .before in
+    let at-tabulate = at-machine-of .before .before in
+    λ sh rd.
+    let tb = at-tabulate .tabulate .ensures .1 sh (rd .read) in
+    let is = at-machine-of .machine-of .ensures sh tb in
+    let e = at-enum-told .enum-told .given .1 in
+    at-first-failure .first-failure .ensures sh _ (suite-short rd tb (omega (arith, at-if1 .if1 .taken))) (plays tb is e) ∙ sym (ap failedAnswer (failed-on tb is e))
 
 slice-aggregate-first-failure-2 : tie.Need-slice-aggregate-first-failure-2
 slice-aggregate-first-failure-2 c = search needs
 
 first-failure-requires-2 : tie.Need-first-failure-requires-2
-first-failure-requires-2 c κs = (c .before .before .before .before .before .before .before .before .before .before .before .before .before .before .before .before .before .before .pre .0, suite-long (c .before .before .before .before .before .before .before .before .before .before .before .before .before .before .before .before .before .before .pre .1) (c .before .before .before .before .before .before .before .before .before .before .before .before .before .tabulate .ensures .1 (c .before .before .before .before .before .before .before .before .before .before .before .before .before .before .before .before .before .before .pre .0) (c .before .before .before .before .before .before .before .before .before .before .before .before .before .before .before .before .before .before .pre .1 .read)) (omega arith))
+first-failure-requires-2 c κs =
+    let at-enum-told = c .before .before .before .before .before .before .before .before .before in
+    let at-machine-of = at-enum-told .before .before in
+    let at-tabulate = at-machine-of .before .before in
+    let entry = at-tabulate .before .before .before .before .before in
+    let sh = entry .pre .0 in
+    let rd = entry .pre .1 in
+    let tb = at-tabulate .tabulate .ensures .1 sh (rd .read) in
+    (sh, _, suite-long rd tb (omega arith), plays tb (at-machine-of .machine-of .ensures sh tb) (at-enum-told .enum-told .given .1))
 
 returns-3 : tie.Need-returns-3
-returns-3 c = λ sh rd.
-    let is = c .before .before .before .before .before .before .before .before .before .before .before .before .before .machine-of .ensures sh (c .before .before .before .before .before .before .before .before .before .before .before .before .before .before .before .tabulate .ensures .1 sh (rd .read)) in
-    let e = c .before .before .before .before .before .before .before .before .before .before .before .enum-told .given .1 in
-    c .before .first-failure2 .ensures sh _ (suite-long rd (c .before .before .before .before .before .before .before .before .before .before .before .before .before .before .before .tabulate .ensures .1 sh (rd .read)) (omega arith)) (record { mutant = mutant (c .before .before .before .before .before .before .before .before .before .before .before .before .before .before .before .tabulate .ensures .1 sh (rd .read)) is e; moves = is .moves (mutant (c .before .before .before .before .before .before .before .before .before .before .before .before .before .before .before .tabulate .ensures .1 sh (rd .read)) is e); starts = is .start (mutant (c .before .before .before .before .before .before .before .before .before .before .before .before .before .before .before .tabulate .ensures .1 sh (rd .read)) is e) }) ∙ sym (ap failedAnswer (failed-on (c .before .before .before .before .before .before .before .before .before .before .before .before .before .before .before .tabulate .ensures .1 sh (rd .read)) is e))
+returns-3 c =
+    let at-first-failure2 = c .before in
+    let at-enum-told = at-first-failure2 .before .before .before .before .before .before .before .before .before .before in
+    let at-machine-of = at-enum-told .before .before in
+    let at-tabulate = at-machine-of .before .before in
+    λ sh rd.
+    let tb = at-tabulate .tabulate .ensures .1 sh (rd .read) in
+    let is = at-machine-of .machine-of .ensures sh tb in
+    let e = at-enum-told .enum-told .given .1 in
+    at-first-failure2 .first-failure2 .ensures sh _ (suite-long rd tb (omega arith)) (plays tb is e) ∙ sym (ap failedAnswer (failed-on tb is e))
 
 pub first-failed-accepted-spec : {M : Type 1} → statement M
 first-failed-accepted-spec =

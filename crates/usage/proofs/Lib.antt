@@ -1,0 +1,2 @@
+pub mod MarkLaw
+pub mod TriedLaw
