@@ -1,4 +1,4 @@
-mod Packs
+mod PackingLaw
 mod SitesLaw
-mod SuspectSites
-mod Tabulates
+mod SlotLaw
+mod TabulateLaw

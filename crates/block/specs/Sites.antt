@@ -6,7 +6,7 @@ use mathlib.Core.List.{List, [], _∷_, _++_}
 use lib.Dec.{ltb}
 use lib.ListN.{length, getD, replicate}
 use Rattle.block.specs.declared.sites.Sites.{Sites}
-use Rattle.sheet.specs.Lists.{overlay}
+use Rattle.lists.specs.Lists.{overlay}
 
 -- of n states and k inputs: the pair at an index of the table has two choices or more
 unfoldable pub openAt : ℕ → ℕ → List ℕ → ℕ → Bool

@@ -4,6 +4,29 @@ ghost use Prim.Native.Nat.{_+_, _/_, _%_, _<_, _≤_};
 ghost use Rattle.block.specs.Layout.{pair, ruleOutput, ruleTarget, siteAt, choicesOf, statesOf, inputsOf, slotsOf};
 ghost use Rattle.block.specs.Tabulated.{StepIs, startOf};
 
+// How many bytes the block has, and where its tables stand in it (specs/Layout.antt).
+pub const BLOCK: usize = 1604;
+
+pub(crate) const TARGETS: usize = 256;
+
+pub(crate) const SITES: usize = 512;
+
+pub(crate) const FIRST_FAULTS: usize = 768;
+
+pub(crate) const MUTATED: usize = 1024;
+
+pub(crate) const DIVERTED: usize = 1280;
+
+pub(crate) const CHOICES: usize = 1536;
+
+pub(crate) const STATES: usize = 1568;
+
+pub(crate) const INPUTS: usize = 1569;
+
+pub(crate) const SLOTS: usize = 1570;
+
+pub(crate) const PAIRS: usize = 1571;
+
 pub fn wide(x: u8) -> usize
     ensures { λ r. ⌜ (r ≡ x) × (r < 256) ⌝ }
 {
@@ -37,7 +60,7 @@ pub fn some_place(s: u8, x: u8) -> usize
     ((s % 16) as usize) * 16 + ((x % 16) as usize)
 }
 
-pub fn rule_output(block: &[u8; 1604], k: usize) -> u8
+pub fn rule_output(block: &[u8; BLOCK], k: usize) -> u8
     requires { ⌜ k < 256 ⌝ }
     ensures { λ r. ⌜ r ≡ ruleOutput (now (block .entry)) k ⌝ }
 {
@@ -45,19 +68,19 @@ pub fn rule_output(block: &[u8; 1604], k: usize) -> u8
 }
 
 // The rule's next state, 255 where there is no rule.
-pub fn rule_target(block: &[u8; 1604], k: usize) -> u8
+pub fn rule_target(block: &[u8; BLOCK], k: usize) -> u8
     requires { ⌜ k < 256 ⌝ }
     ensures { λ r. ⌜ r ≡ ruleTarget (now (block .entry)) k ⌝ }
 {
-    block[256 + k]
+    block[TARGETS + k]
 }
 
 // Which suspect a pair is, 255 for none.
-pub fn site(block: &[u8; 1604], k: usize) -> u8
+pub fn site(block: &[u8; BLOCK], k: usize) -> u8
     requires { ⌜ k < 256 ⌝ }
     ensures { λ r. ⌜ r ≡ siteAt (now (block .entry)) k ⌝ }
 {
-    block[512 + k]
+    block[SITES + k]
 }
 
 fn more(x: u8) -> u16
@@ -67,45 +90,45 @@ fn more(x: u8) -> u16
 }
 
 // How many choices a suspect has.
-pub fn choices(block: &[u8; 1604], i: u8) -> u16
+pub fn choices(block: &[u8; BLOCK], i: u8) -> u16
     requires { ⌜ i < 32 ⌝ }
     ensures { λ r. ⌜ r ≡ choicesOf (now (block .entry)) i ⌝ }
 {
-    more(block[1536 + wide(i)])
+    more(block[CHOICES + wide(i)])
 }
 
-pub fn states(block: &[u8; 1604]) -> u8
+pub fn states(block: &[u8; BLOCK]) -> u8
     ensures { λ r. ⌜ r ≡ statesOf (now (block .entry)) ⌝ }
 {
-    block[1568]
+    block[STATES]
 }
 
-pub fn inputs(block: &[u8; 1604]) -> u8
+pub fn inputs(block: &[u8; BLOCK]) -> u8
     ensures { λ r. ⌜ r ≡ inputsOf (now (block .entry)) ⌝ }
 {
-    block[1569]
+    block[INPUTS]
 }
 
 // How many choices a mutant has (01: the length of a board).
-pub fn slots(block: &[u8; 1604]) -> u8
+pub fn slots(block: &[u8; BLOCK]) -> u8
     ensures { λ r. ⌜ r ≡ slotsOf (now (block .entry)) ⌝ }
 {
-    block[1570]
+    block[SLOTS]
 }
 
 // The state of the mutant with the choices p after a reset.
-pub fn initial(block: &[u8; 1604], p: &[u16; 32]) -> u8
+pub fn initial(block: &[u8; BLOCK], p: &[u16; 32]) -> u8
     ensures { λ r. ⌜ r ≡ startOf (now (block .entry)) (now (p .entry)) ⌝ }
 {
     0
 }
 
 // The pair of a suspect. That it is the right one is not promised: who relies on it asks `site`.
-pub fn pair_of(block: &[u8; 1604], i: u8) -> usize
+pub fn pair_of(block: &[u8; BLOCK], i: u8) -> usize
     requires { ⌜ i < 32 ⌝ }
     ensures { λ r. ⌜ r < 256 ⌝ }
 {
-    wide(block[1571 + wide(i)])
+    wide(block[PAIRS + wide(i)])
 }
 
 pub struct Step {
@@ -137,7 +160,7 @@ fn unruled(states: u8, c: u16) -> Step
 }
 
 // The transition of choice c at the pair k. Any number c is taken, as guesses may name one that there is not.
-pub fn transition(block: &[u8; 1604], k: usize, c: u16) -> Step
+pub fn transition(block: &[u8; BLOCK], k: usize, c: u16) -> Step
     requires { ⌜ k < 256 ⌝ }
     ensures { λ r. ⌜ StepIs (now (block .entry)) k c r ⌝ }
 {
@@ -151,7 +174,7 @@ pub fn transition(block: &[u8; 1604], k: usize, c: u16) -> Step
             target,
         };
     }
-    let f = wide(block[768 + k]) + wide16(c) - 1;
+    let f = wide(block[FIRST_FAULTS + k]) + wide16(c) - 1;
     if f >= 256 {
         return Step {
             output: 0,
@@ -159,7 +182,7 @@ pub fn transition(block: &[u8; 1604], k: usize, c: u16) -> Step
         };
     }
     Step {
-        output: block[1024 + f],
-        target: block[1280 + f],
+        output: block[MUTATED + f],
+        target: block[DIVERTED + f],
     }
 }

@@ -5,6 +5,7 @@ mod layout;
 mod packing;
 mod sites;
 
+pub use layout::BLOCK;
 pub use layout::Step;
 pub use layout::choices;
 pub use layout::initial;

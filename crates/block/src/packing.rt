@@ -5,6 +5,17 @@ ghost use lib.ListN.{length};
 ghost use Rattle.sheet.specs.Sheet.{Sheet};
 ghost use Rattle.block.specs.Packing.{Copied, FirstCopied, ChoicesCopied, Located};
 ghost use Rattle.block.specs.Tabled.{Read, Tabled};
+use crate::layout::BLOCK;
+use crate::layout::CHOICES;
+use crate::layout::DIVERTED;
+use crate::layout::FIRST_FAULTS;
+use crate::layout::INPUTS;
+use crate::layout::MUTATED;
+use crate::layout::PAIRS;
+use crate::layout::SITES;
+use crate::layout::SLOTS;
+use crate::layout::STATES;
+use crate::layout::TARGETS;
 use crate::layout::wide;
 use crate::sites::number;
 use sheet::Summary;
@@ -30,7 +41,7 @@ fn last(x: u16) -> u8
     narrow(x - 1)
 }
 
-fn copy(block: &mut [u8; 1604], base: usize, from: &[u8; 256])
+fn copy(block: &mut [u8; BLOCK], base: usize, from: &[u8; 256])
     requires { ⌜ (length (now block) ≡ 1604) × (base ≤ 1280) ⌝ }
     ensures { λ r. ⌜ Copied (now (block .entry)) (now (block .exit)) base (now (from .entry)) 256 ⌝ }
 {
@@ -42,26 +53,26 @@ fn copy(block: &mut [u8; 1604], base: usize, from: &[u8; 256])
     }
 }
 
-fn copy_first(block: &mut [u8; 1604], first: &[u16; 256])
+fn copy_first(block: &mut [u8; BLOCK], first: &[u16; 256])
     requires { ⌜ length (now block) ≡ 1604 ⌝ }
     ensures { λ r. ⌜ FirstCopied (now (block .entry)) (now (block .exit)) (now (first .entry)) 256 ⌝ }
 {
     let mut k: usize = 0;
     while k < 256 {
         let x = narrow(first[k]);
-        block[768 + k] = x;
+        block[FIRST_FAULTS + k] = x;
         k += 1;
     }
 }
 
-fn copy_choices(block: &mut [u8; 1604], choices: &[u16; 32])
+fn copy_choices(block: &mut [u8; BLOCK], choices: &[u16; 32])
     requires { ⌜ length (now block) ≡ 1604 ⌝ }
     ensures { λ r. ⌜ ChoicesCopied (now (block .entry)) (now (block .exit)) (now (choices .entry)) 32 ⌝ }
 {
     let mut i: usize = 0;
     while i < 32 {
         let x = last(choices[i]);
-        block[1536 + i] = x;
+        block[CHOICES + i] = x;
         i += 1;
     }
 }
@@ -71,13 +82,13 @@ fn pair_at(i: usize) -> usize
     ensures { λ r. ⌜ (1571 ≤ r) × (r < 1604) ⌝ }
 {
     if i < 32 {
-        return 1571 + i;
+        return PAIRS + i;
     }
-    1603
+    PAIRS + 32
 }
 
 // The pair of each suspect, all of which are among the first `end` pairs.
-fn locate(block: &mut [u8; 1604], site: &[u8; 256], end: usize)
+fn locate(block: &mut [u8; BLOCK], site: &[u8; 256], end: usize)
     requires { ⌜ (length (now block) ≡ 1604) × (end ≤ 256) ⌝ }
     ensures { λ r. ⌜ Located (now (block .entry)) (now (block .exit)) ⌝ }
 {
@@ -90,14 +101,14 @@ fn locate(block: &mut [u8; 1604], site: &[u8; 256], end: usize)
 }
 
 // A block to be filled.
-pub fn fresh() -> [u8; 1604]
+pub fn fresh() -> [u8; BLOCK]
     ensures { λ r. ⌜ length r ≡ 1604 ⌝ }
 {
-    [0u8; 1604]
+    [0u8; BLOCK]
 }
 
 // Puts the tables of an accepted sheet into the block.
-pub fn tabulate(size: Summary, tables: Tables, block: &mut [u8; 1604])
+pub fn tabulate(size: Summary, tables: Tables, block: &mut [u8; BLOCK])
     requires { ⌜ length (now block) ≡ 1604 ⌝ }
     requires { ⌜ ((sh : Sheet) × Read sh size tables) ⌝ }
     ensures { λ r. ⌜ length (now (block .exit)) ≡ 1604 ⌝ }
@@ -105,14 +116,14 @@ pub fn tabulate(size: Summary, tables: Tables, block: &mut [u8; 1604])
 {
     let sites = number(&tables.choices, wide(size.states), wide(size.inputs));
     copy(block, 0, &tables.output);
-    copy(block, 256, &tables.target);
-    copy(block, 512, &sites.site);
+    copy(block, TARGETS, &tables.target);
+    copy(block, SITES, &sites.site);
     copy_first(block, &tables.first);
-    copy(block, 1024, &tables.mutated);
-    copy(block, 1280, &tables.diverted);
+    copy(block, MUTATED, &tables.mutated);
+    copy(block, DIVERTED, &tables.diverted);
     copy_choices(block, &sites.slots);
     locate(block, &sites.site, 16 * wide(size.states));
-    block[1568] = size.states;
-    block[1569] = size.inputs;
-    block[1570] = sites.count;
+    block[STATES] = size.states;
+    block[INPUTS] = size.inputs;
+    block[SLOTS] = sites.count;
 }

@@ -7,7 +7,7 @@ ghost use Rattle.sheet.specs.Reading.{reading};
 ghost use Rattle.sheet.specs.Part.{parting};
 ghost use Rattle.sheet.specs.Tables.{readAnswer, partAnswer};
 ghost use Rattle.model.specs.Operations.{running, failing, comparing, judging};
-ghost use Rattle.sheet.specs.Lists.{overlay};
+ghost use Rattle.lists.specs.Lists.{overlay};
 ghost use Rattle.writing.specs.Drawing.{drawing};
 ghost use Rattle.writing.specs.Writing.{writing, writtenAnswer, sheetWrites};
 ghost use Rattle.generator.specs.Generating.{generating};

@@ -2,8 +2,10 @@
 use crate::literals::going;
 use crate::literals::sounds;
 use crate::starts::starts;
+use crate::tables::FACTS;
 use crate::words::holds;
 use crate::words::within;
+use block::BLOCK;
 use block::inputs;
 use block::place;
 use block::rule_output;
@@ -20,7 +22,7 @@ ghost use Rattle.block.specs.Tabulated.{Wf};
 ghost use Rattle.cubes.specs.Cube.{In, Given, LoneOk, FreedOk, CellOk, RowOk, LineOk, AllConform};
 
 // A pair that is no suspect: its output is o, and its next state is in the row.
-fn lone(block: &[u8; 1604], k: usize, o: u8, row: u16) -> bool
+fn lone(block: &[u8; BLOCK], k: usize, o: u8, row: u16) -> bool
     requires { ⌜ Wf (now block) × (k < 256) × (siteAt (now block) k ≡ 255) ⌝ }
     ensures { λ r. ⌜ (r ≡ true → LoneOk (now (block .entry)) k o row) ⌝ }
 {
@@ -32,7 +34,7 @@ fn lone(block: &[u8; 1604], k: usize, o: u8, row: u16) -> bool
 }
 
 // A suspect: every choice that the literal means has the output o, and its next state is in the row.
-fn freed(facts: &[u16; 832], l: u32, i: u8, o: u8, row: u16) -> bool
+fn freed(facts: &[u16; FACTS], l: u32, i: u8, o: u8, row: u16) -> bool
     requires { ⌜ i < 32 ⌝ }
     ensures { λ r. ⌜ (r ≡ true → FreedOk (now (facts .entry)) l i o row) ⌝ }
 {
@@ -47,8 +49,8 @@ fn freed(facts: &[u16; 832], l: u32, i: u8, o: u8, row: u16) -> bool
 
 // One input at a pair of states.
 fn cell_closed(
-    block: &[u8; 1604],
-    facts: &[u16; 832],
+    block: &[u8; BLOCK],
+    facts: &[u16; FACTS],
     cube: &[u32; 32],
     pairs: &[u16; 16],
     a: u8,
@@ -76,8 +78,8 @@ fn cell_closed(
 
 // Every input at a pair of states, if it is in the set.
 fn row_closed(
-    block: &[u8; 1604],
-    facts: &[u16; 832],
+    block: &[u8; BLOCK],
+    facts: &[u16; FACTS],
     cube: &[u32; 32],
     pairs: &[u16; 16],
     a: u8,
@@ -103,8 +105,8 @@ fn row_closed(
 
 // Every state of the mutant beside a state of the specification.
 fn line_closed(
-    block: &[u8; 1604],
-    facts: &[u16; 832],
+    block: &[u8; BLOCK],
+    facts: &[u16; FACTS],
     cube: &[u32; 32],
     pairs: &[u16; 16],
     a: u8,
@@ -124,7 +126,12 @@ fn line_closed(
 }
 
 // Whether the pairs of states have every start and are closed under the cube without a wrong output.
-pub fn closed(block: &[u8; 1604], facts: &[u16; 832], cube: &[u32; 32], pairs: &[u16; 16]) -> bool
+pub fn closed(
+    block: &[u8; BLOCK],
+    facts: &[u16; FACTS],
+    cube: &[u32; 32],
+    pairs: &[u16; 16],
+) -> bool
     requires { ⌜ Given (now block) (now facts) ⌝ }
     ensures { λ r. ⌜ (r ≡ true → AllConform (now (block .entry)) (now (cube .entry))) ⌝ }
 {

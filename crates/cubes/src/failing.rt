@@ -1,9 +1,11 @@
 // Whether no mutant in a cube gives a part of a log.
 use crate::literals::going;
 use crate::starts::starts;
+use crate::tables::FACTS;
 use crate::words::holds;
 use crate::words::one;
 use crate::words::union;
+use block::BLOCK;
 use block::inputs;
 use block::place;
 use block::site;
@@ -20,7 +22,7 @@ ghost use Rattle.cubes.specs.declared.goal.Goal.{Goal};
 ghost use Rattle.cubes.specs.Walk.{LoneLead, LeadOk, OnwardOk};
 
 // The next state of a pair that is no suspect, if its output is o.
-fn lone_lead(block: &[u8; 1604], k: usize, o: u8) -> u16
+fn lone_lead(block: &[u8; BLOCK], k: usize, o: u8) -> u16
     requires { ⌜ Wf (now block) × (k < 256) × (siteAt (now block) k ≡ 255) ⌝ }
     ensures { λ r. ⌜ LoneLead (now (block .entry)) k o r ⌝ }
 {
@@ -33,8 +35,8 @@ fn lone_lead(block: &[u8; 1604], k: usize, o: u8) -> u16
 
 // The next states on an input from a state, if it is in the set and the output is o.
 fn leads(
-    block: &[u8; 1604],
-    facts: &[u16; 832],
+    block: &[u8; BLOCK],
+    facts: &[u16; FACTS],
     cube: &[u32; 32],
     set: u16,
     q: u8,
@@ -57,7 +59,14 @@ fn leads(
 }
 
 // The states in which a mutant of the cube can be after an input in one of the set, if its output was o.
-fn onward(block: &[u8; 1604], facts: &[u16; 832], cube: &[u32; 32], set: u16, x: u8, o: u8) -> u16
+fn onward(
+    block: &[u8; BLOCK],
+    facts: &[u16; FACTS],
+    cube: &[u32; 32],
+    set: u16,
+    x: u8,
+    o: u8,
+) -> u16
     requires { ⌜ Given (now block) (now facts) × (x < inputsOf (now block)) × (o < 16) ⌝ }
     ensures { λ r. ⌜ OnwardOk (now (block .entry)) (now (cube .entry)) set x o r ⌝ }
 {
@@ -87,8 +96,8 @@ pub fn output_of(v: u16) -> u8
 
 // Whether no mutant in the cube gives the part of the log from a reset at `from` to the next.
 pub fn fails(
-    block: &[u8; 1604],
-    facts: &[u16; 832],
+    block: &[u8; BLOCK],
+    facts: &[u16; FACTS],
     cube: &[u32; 32],
     log: &[u16],
     from: usize,

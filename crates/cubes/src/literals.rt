@@ -1,4 +1,6 @@
 // Literals: which transitions of a suspect are meant. 4294967295: every one; else an output and a set of next states.
+use crate::tables::FACTS;
+use crate::tables::OUTPUTS;
 use crate::words::holds;
 use crate::words::one;
 use crate::words::shared;
@@ -35,7 +37,7 @@ pub fn means(l: u32, o: u8, t: u8) -> bool
 }
 
 // Where the choices of suspect i that the literal means and that have the output o lead.
-pub fn going(facts: &[u16; 832], l: u32, i: u8, o: u8) -> u16
+pub fn going(facts: &[u16; FACTS], l: u32, i: u8, o: u8) -> u16
     requires { ⌜ (i < 32) × (o < 16) ⌝ }
     ensures { λ r. ⌜ GoingOk (now (facts .entry)) l i o r ⌝ }
 {
@@ -51,12 +53,12 @@ pub fn going(facts: &[u16; 832], l: u32, i: u8, o: u8) -> u16
 }
 
 // Whether every choice of suspect i that the literal means has the output o.
-pub fn sounds(facts: &[u16; 832], l: u32, i: u8, o: u8) -> bool
+pub fn sounds(facts: &[u16; FACTS], l: u32, i: u8, o: u8) -> bool
     requires { ⌜ (i < 32) × (o < 16) ⌝ }
     ensures { λ r. ⌜ (r ≡ true → SoundsOk (now (facts .entry)) l i o) ⌝ }
 {
     if l == 4294967295 {
-        let s = facts[512 + wide(i)];
+        let s = facts[OUTPUTS + wide(i)];
         return s == one(o);
     }
     lit_out(l) == wide(o)

@@ -1,6 +1,7 @@
 // The facts of a block: by suspect and output the next states, by suspect the outputs.
 use crate::words::one;
 use crate::words::union;
+use block::BLOCK;
 use block::choices;
 use block::site;
 use block::transition;
@@ -15,9 +16,21 @@ ghost use Rattle.cubes.specs.Sets.{Put};
 ghost use Rattle.cubes.specs.Tables.{Entered, PairEntered, AllEntered};
 
 // By suspect and output, then by suspect; the rest is for others (which states can be exchanged, where tests begin).
-pub type Facts = [u16; 832];
+pub type Facts = [u16; FACTS];
 
-fn put(facts: &mut [u16; 832], at: usize, s: u8)
+// How many numbers the facts of a block are, and where in them are: by suspect, its outputs; by state, those that can be exchanged with
+// it; where each test begins; how many tests there are. Before them, by suspect and output, the next states.
+pub const FACTS: usize = 832;
+
+pub const OUTPUTS: usize = 512;
+
+pub const EXCHANGES: usize = 544;
+
+pub const TESTS: usize = 560;
+
+pub const TEST_COUNT: usize = 816;
+
+fn put(facts: &mut [u16; FACTS], at: usize, s: u8)
     requires { ⌜ (length (now facts) ≡ 832) × (at < 832) × (s < 16) ⌝ }
     ensures { λ r. ⌜ Put (now (facts .entry)) (now (facts .exit)) at s ⌝ }
 {
@@ -26,7 +39,7 @@ fn put(facts: &mut [u16; 832], at: usize, s: u8)
 }
 
 // One choice of a suspect; false where its output is none of the sheet's.
-fn enter(block: &[u8; 1604], facts: &mut [u16; 832], k: usize, i: u8, c: u16) -> bool
+fn enter(block: &[u8; BLOCK], facts: &mut [u16; FACTS], k: usize, i: u8, c: u16) -> bool
     requires { ⌜ Wf (now block) × (k < 256) × (i ≡ siteAt (now block) k) × (i < 32) × (c < choicesOf (now block) i) × (length (now facts) ≡ 832) ⌝ }
     ensures { λ r. ⌜ Entered (now (block .entry)) (now (facts .entry)) (now (facts .exit)) k c r ⌝ }
 {
@@ -37,12 +50,12 @@ fn enter(block: &[u8; 1604], facts: &mut [u16; 832], k: usize, i: u8, c: u16) ->
     }
     let at = wide(i) * 16 + wide(o);
     put(facts, at, step.target);
-    put(facts, 512 + wide(i), o);
+    put(facts, OUTPUTS + wide(i), o);
     true
 }
 
 // Every choice of a pair.
-fn enter_pair(block: &[u8; 1604], facts: &mut [u16; 832], k: usize) -> bool
+fn enter_pair(block: &[u8; BLOCK], facts: &mut [u16; FACTS], k: usize) -> bool
     requires { ⌜ Wf (now block) × (k < 256) × (length (now facts) ≡ 832) ⌝ }
     ensures { λ r. ⌜ PairEntered (now (block .entry)) (now (facts .entry)) (now (facts .exit)) k r ⌝ }
 {
@@ -62,7 +75,7 @@ fn enter_pair(block: &[u8; 1604], facts: &mut [u16; 832], k: usize) -> bool
 }
 
 // Every choice of every suspect; false where an output is none of the sheet's.
-pub fn enter_all(block: &[u8; 1604], facts: &mut [u16; 832]) -> bool
+pub fn enter_all(block: &[u8; BLOCK], facts: &mut [u16; FACTS]) -> bool
     requires { ⌜ Wf (now block) × (length (now facts) ≡ 832) ⌝ }
     ensures { λ r. ⌜ AllEntered (now (block .entry)) (now (facts .exit)) r ⌝ }
 {

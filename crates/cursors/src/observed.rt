@@ -1,12 +1,15 @@
 // The tests of a log: where they begin, and what they observe.
 use block::wide16;
+use cubes::tables::FACTS;
+use cubes::tables::TEST_COUNT;
+use cubes::tables::TESTS;
 ghost use mathlib.Core.Path.{_≡_};
 ghost use Prim.Native.Nat.{_<_, _≤_};
 ghost use lib.ListN.{length};
 ghost use Rattle.cursors.specs.Kept.{Kept};
 
 // Notes an observation where it is a reset: the next test begins there. How many tests there are.
-fn enter_test(facts: &mut [u16; 832], tests: usize, v: u16, at: usize) -> usize
+fn enter_test(facts: &mut [u16; FACTS], tests: usize, v: u16, at: usize) -> usize
     requires { ⌜ (length (now facts) ≡ 832) × (tests ≤ 256) ⌝ }
     ensures { λ r. ⌜ Kept (now (facts .entry)) (now (facts .exit)) × (r ≤ 256) ⌝ }
 {
@@ -16,12 +19,12 @@ fn enter_test(facts: &mut [u16; 832], tests: usize, v: u16, at: usize) -> usize
     if tests == 256 {
         return tests;
     }
-    facts[560 + tests] = (at % 65536) as u16;
+    facts[TESTS + tests] = (at % 65536) as u16;
     tests + 1
 }
 
 // Notes where the tests of a log begin, and how many there are (the first 256 of them).
-pub fn find_tests(log: &[u16], facts: &mut [u16; 832])
+pub fn find_tests(log: &[u16], facts: &mut [u16; FACTS])
     requires { ⌜ length (now facts) ≡ 832 ⌝ }
     ensures { λ r. ⌜ Kept (now (facts .entry)) (now (facts .exit)) ⌝ }
 {
@@ -31,18 +34,18 @@ pub fn find_tests(log: &[u16], facts: &mut [u16; 832])
         tests = enter_test(facts, tests, log[at], at);
         at += 1;
     }
-    facts[816] = tests as u16;
+    facts[TEST_COUNT] = tests as u16;
 }
 
 // Where the reset of a test stands.
-pub fn test_at(facts: &[u16; 832], t: usize) -> usize
+pub fn test_at(facts: &[u16; FACTS], t: usize) -> usize
     ensures { λ r. ⌜ r < 65536 ⌝ }
 {
-    wide16(facts[560 + t % 256])
+    wide16(facts[TESTS + t % 256])
 }
 
-pub fn tests_of(facts: &[u16; 832]) -> usize {
-    wide16(facts[816])
+pub fn tests_of(facts: &[u16; FACTS]) -> usize {
+    wide16(facts[TEST_COUNT])
 }
 
 // An observation; past the end of the log a reset.

@@ -3,10 +3,12 @@ use crate::observed::input_of;
 use crate::observed::output_of;
 use crate::observed::test_at;
 use crate::observed::tests_of;
+use block::BLOCK;
 use block::site;
 use block::some_place;
 use block::wide;
 use cubes::starts::starts;
+use cubes::tables::FACTS;
 use leaves::ANY;
 use leaves::among;
 use leaves::joined;
@@ -37,17 +39,17 @@ pub fn wait_of(c: u32) -> u8 {
 }
 
 // A test before its first input.
-pub fn begun(facts: &[u16; 832], t: usize, state: u8) -> u32 {
+pub fn begun(facts: &[u16; FACTS], t: usize, state: u8) -> u32 {
     cursor(test_at(facts, t) + 1, state, NOT_BEGUN)
 }
 
 // The state of the settled part after a reset, as a cube has it.
-pub fn start(block: &[u8; 1604], cube: &[u32; 32]) -> u8 {
+pub fn start(block: &[u8; BLOCK], cube: &[u32; 32]) -> u8 {
     least(starts(block, cube))
 }
 
 // Every test before its first input.
-pub fn start_cursors(block: &[u8; 1604], facts: &[u16; 832], cursors: &mut [u32; 256]) {
+pub fn start_cursors(block: &[u8; BLOCK], facts: &[u16; FACTS], cursors: &mut [u32; 256]) {
     let all = [ANY; 32];
     let state = start(block, &all);
     let mut t: usize = 0;
@@ -66,7 +68,7 @@ fn go(step: u8, v: u16) -> u16 {
 }
 
 // The next state on an observation; 256 + what the test waits for where it does not go on.
-fn go_on(block: &[u8; 1604], p: &[u8; 32], settled: u32, state: u8, v: u16) -> u16 {
+fn go_on(block: &[u8; BLOCK], p: &[u8; 32], settled: u32, state: u8, v: u16) -> u16 {
     if v >= 256 {
         return 256 + (THROUGH as u16);
     }
@@ -82,7 +84,7 @@ fn go_on(block: &[u8; 1604], p: &[u8; 32], settled: u32, state: u8, v: u16) -> u
 }
 
 // A test as far as the settled part goes.
-fn advance(block: &[u8; 1604], log: &[u16], p: &[u8; 32], settled: u32, from: u32) -> u32 {
+fn advance(block: &[u8; BLOCK], log: &[u16], p: &[u8; 32], settled: u32, from: u32) -> u32 {
     let mut state = state_of(from);
     let mut at = at_of(from);
     while at < log.len() {
@@ -98,7 +100,7 @@ fn advance(block: &[u8; 1604], log: &[u16], p: &[u8; 32], settled: u32, from: u3
 
 // The same if it waits for `last`.
 fn advance_if(
-    block: &[u8; 1604],
+    block: &[u8; BLOCK],
     log: &[u16],
     p: &[u8; 32],
     settled: u32,
@@ -113,8 +115,8 @@ fn advance_if(
 
 // Takes the tests that wait for `last` on; the first that fails, or 256.
 pub fn advance_all(
-    block: &[u8; 1604],
-    facts: &[u16; 832],
+    block: &[u8; BLOCK],
+    facts: &[u16; FACTS],
     log: &[u16],
     p: &[u8; 32],
     settled: u32,
@@ -138,7 +140,7 @@ pub fn advance_all(
 }
 
 // The settled suspects that a test meets, up to its wrong output.
-pub fn met(block: &[u8; 1604], log: &[u16], p: &[u8; 32], settled: u32, from: u32) -> u32 {
+pub fn met(block: &[u8; BLOCK], log: &[u16], p: &[u8; 32], settled: u32, from: u32) -> u32 {
     let mut used: u32 = 0;
     let mut c = from;
     let mut n: u8 = 0;

@@ -6,12 +6,14 @@ use crate::observed::test_at;
 use crate::progress::begun;
 use crate::progress::met;
 use crate::progress::start;
+use block::BLOCK;
 use block::site;
 use block::some_place;
 use block::states;
 use block::wide;
 use cubes::literals::going;
 use cubes::starts::starts;
+use cubes::tables::FACTS;
 use leaves::ANY;
 use leaves::add;
 use leaves::cell;
@@ -40,7 +42,7 @@ fn length_of(log: &[u16], from: usize) -> usize
 }
 
 // The states to which a mutant of the cube can go at a pair, if it gives the output o.
-fn arrive(block: &[u8; 1604], facts: &[u16; 832], cube: &[u32; 32], k: usize, o: u8) -> u16
+fn arrive(block: &[u8; BLOCK], facts: &[u16; FACTS], cube: &[u32; 32], k: usize, o: u8) -> u16
     requires { ⌜ (k < 256) × (o < 16) ⌝ }
 {
     let i = site(block, k);
@@ -55,7 +57,7 @@ fn arrive(block: &[u8; 1604], facts: &[u16; 832], cube: &[u32; 32], k: usize, o:
 }
 
 // The states in which an observation fails every mutant of the cube at once, or leads into `bad` only.
-fn backward(block: &[u8; 1604], facts: &[u16; 832], cube: &[u32; 32], bad: u16, v: u16) -> u16 {
+fn backward(block: &[u8; BLOCK], facts: &[u16; FACTS], cube: &[u32; 32], bad: u16, v: u16) -> u16 {
     let end = states(block);
     let mut set: u16 = 0;
     let mut s: u8 = 0;
@@ -71,8 +73,8 @@ fn backward(block: &[u8; 1604], facts: &[u16; 832], cube: &[u32; 32], bad: u16, 
 
 // By place of a test the states from which every mutant of the cube fails it, the last place first.
 fn fill_bad(
-    block: &[u8; 1604],
-    facts: &[u16; 832],
+    block: &[u8; BLOCK],
+    facts: &[u16; FACTS],
     cube: &[u32; 32],
     log: &[u16],
     from: usize,
@@ -90,7 +92,7 @@ fn fill_bad(
 }
 
 // What a suspect is narrowed to, so that it gives its own wrong output, or leads where it may.
-fn narrowed(facts: &[u16; 832], own: u8, i: u8, o: u8, into: u16) -> u32 {
+fn narrowed(facts: &[u16; FACTS], own: u8, i: u8, o: u8, into: u16) -> u32 {
     if own == o {
         return literal(o, into);
     }
@@ -109,8 +111,8 @@ fn wide32(x: u16) -> u32 {
 // A pair with an observed output: where the cube leads; 65536 where it left the states that are bad after it, and was narrowed. Only
 // what the base settles is narrowed.
 fn narrow_step(
-    block: &[u8; 1604],
-    facts: &[u16; 832],
+    block: &[u8; BLOCK],
+    facts: &[u16; FACTS],
     base: &[u32; 32],
     cube: &mut [u32; 32],
     k: usize,
@@ -137,8 +139,8 @@ fn narrow_step(
 
 // The same from each of a set of states.
 fn narrow_states(
-    block: &[u8; 1604],
-    facts: &[u16; 832],
+    block: &[u8; BLOCK],
+    facts: &[u16; FACTS],
     base: &[u32; 32],
     cube: &mut [u32; 32],
     set: u16,
@@ -162,8 +164,8 @@ fn narrow_states(
 
 // The test from its start up to where the cube is narrowed. True if it was.
 fn narrow_once<'a>(
-    block: &[u8; 1604],
-    facts: &[u16; 832],
+    block: &[u8; BLOCK],
+    facts: &[u16; FACTS],
     base: &'a [u32; 32],
     cube: &mut [u32; 32],
     log: &[u16],
@@ -199,8 +201,8 @@ fn narrow_once<'a>(
 
 // Narrows the cube until nothing is left to narrow.
 fn narrow_all<'a>(
-    block: &[u8; 1604],
-    facts: &[u16; 832],
+    block: &[u8; BLOCK],
+    facts: &[u16; FACTS],
     base: &'a [u32; 32],
     cube: &mut [u32; 32],
     log: &[u16],
@@ -221,8 +223,8 @@ fn narrow_all<'a>(
 
 // A wide cube around the settled part all of whose mutants fail a test: it speaks only of suspects that the test meets.
 pub fn propose_fail(
-    block: &[u8; 1604],
-    facts: &[u16; 832],
+    block: &[u8; BLOCK],
+    facts: &[u16; FACTS],
     log: &[u16],
     p: &[u8; 32],
     settled: u32,

@@ -4,9 +4,12 @@ use crate::observed::output_of;
 use crate::observed::tests_of;
 use crate::progress::at_of;
 use crate::progress::wait_of;
+use block::BLOCK;
 use block::slots;
 use block::wide;
 use block::wide16;
+use cubes::tables::FACTS;
+use cubes::tables::OUTPUTS;
 use leaves::DEAD;
 use leaves::HINTS;
 use leaves::add;
@@ -52,12 +55,12 @@ pub fn mark(notes: &mut [u16], j: u8, o: u8, next: u16, h: u16) {
 }
 
 // The outputs that a suspect has.
-fn outputs_of(facts: &[u16; 832], j: u8) -> u16 {
-    facts[512 + wide(j % 32)]
+fn outputs_of(facts: &[u16; FACTS], j: u8) -> u16 {
+    facts[OUTPUTS + wide(j % 32)]
 }
 
 // Notes the choices of a suspect with another output than a test wants.
-fn mark_test(facts: &[u16; 832], notes: &mut [u16], j: u8, want: u8, h: u16) {
+fn mark_test(facts: &[u16; FACTS], notes: &mut [u16], j: u8, want: u8, h: u16) {
     let mut left = less(outputs_of(facts, j), add(0, want));
     let mut n: u8 = 0;
     while n < 16 {
@@ -80,7 +83,7 @@ fn one_more(waiting: &mut [u16; 32], j: u8) {
 
 // Notes the choices that a test refutes, if it waits, and counts it.
 fn mark_want(
-    facts: &[u16; 832],
+    facts: &[u16; FACTS],
     log: &[u16],
     c: u32,
     notes: &mut [u16],
@@ -97,7 +100,7 @@ fn mark_want(
 
 // Notes the choices that waiting tests refute, and counts the tests that wait for each suspect.
 pub fn mark_wants(
-    facts: &[u16; 832],
+    facts: &[u16; FACTS],
     log: &[u16],
     cursors: &[u32; 256],
     notes: &mut [u16],
@@ -122,7 +125,7 @@ pub fn mark_wants(
 }
 
 // How many choices of a suspect are not known to be refuted.
-fn alive(facts: &[u16; 832], notes: &[u16], j: u8) -> u32
+fn alive(facts: &[u16; FACTS], notes: &[u16], j: u8) -> u32
     ensures { λ r. ⌜ r < 512 ⌝ }
 {
     let mut sum: u32 = 0;
@@ -154,7 +157,7 @@ struct Best {
 }
 
 // The better one: fewer choices left for each test that waits for it.
-fn better(facts: &[u16; 832], notes: &[u16], best: Best, j: u8, tests: u16) -> Best {
+fn better(facts: &[u16; FACTS], notes: &[u16], best: Best, j: u8, tests: u16) -> Best {
     if tests == 0 {
         return best;
     }
@@ -168,7 +171,7 @@ fn better(facts: &[u16; 832], notes: &[u16], best: Best, j: u8, tests: u16) -> B
 }
 
 // The suspect with the fewest choices left for each test that waits for it, or 255.
-pub fn pick(block: &[u8; 1604], facts: &[u16; 832], notes: &[u16], waiting: &[u16; 32]) -> u8 {
+pub fn pick(block: &[u8; BLOCK], facts: &[u16; FACTS], notes: &[u16], waiting: &[u16; 32]) -> u8 {
     let end = slots(block);
     let mut best = Best {
         at: 255,

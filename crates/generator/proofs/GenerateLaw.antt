@@ -8,11 +8,11 @@ use lib.ListN.{length, take, drop}
 use lib.Seq.{take-append-seam}
 use borrow.Author.Tests.{lt-ltb, le-ltb}
 use Rattle.sheet.specs.declared.Size.{Size}
-use Rattle.sheet.specs.Lists.{joined, overlay}
+use Rattle.lists.specs.Lists.{joined, overlay}
 use Rattle.sheet.specs.Reading.{accepted, sizeInRange}
 use Rattle.sheet.specs.Encode.{encode}
 use Rattle.sheet.specs.WellFormed.{SizeIn}
-use Rattle.sheet.specs.laws.Right.{size-in, in-size}
+use Rattle.sheet.specs.laws.CommandLaw.{size-in, in-size}
 use Rattle.writing.specs.declared.Written.{Written}
 use Rattle.writing.specs.declared.Written.the-variants as written
 use Rattle.writing.specs.Drawing.{drawing, drawingOf}
@@ -21,7 +21,7 @@ use Rattle.writing.specs.laws.WritingLaw.{written-again}
 use Rattle.generator.specs.declared.pairs.Place.{Place}
 use Rattle.generator.specs.Generating.{drafted, sheetFrom, generating}
 use Rattle.generator.specs.Generated.{ToldGenerated}
-use Rattle.generator.specs.Standing.{Standing}
+use Rattle.generator.specs.words.Standing.{Standing}
 use Rattle.generator.specs.laws.GeneratedLaw.{short, read-back, generated}
 
 module _ (seed : ℕ) (z : Size) (room : ℕ) where

@@ -9,16 +9,16 @@ use lib.ListN.{length, replicate, length-replicate}
 use borrow.Author.Tests.{eq-eqb, ne-eqb, le-leb, lt-leb, lt-ltb, le-ltb}
 use Rattle.sheet.specs.declared.Row.{Row}
 use Rattle.sheet.specs.declared.Size.{Size}
-use Rattle.sheet.specs.Lists.{joined}
+use Rattle.lists.specs.Lists.{joined}
 use Rattle.sheet.specs.Sheet.{rowOf}
 use Rattle.sheet.specs.WellFormed.{SizeIn}
-use Rattle.sheet.specs.laws.ListLaw.{joined-append}
-use Rattle.writing.specs.Spelled.{Spelled}
+use Rattle.lists.specs.laws.ListLaw.{joined-append}
+use Rattle.writing.specs.words.Spelled.{Spelled}
 use Rattle.writing.specs.laws.SpelledLaw.{spelled-none, spelled-both}
 use Rattle.generator.specs.declared.pairs.Pair.{Pair}
 use Rattle.generator.specs.declared.pairs.Place.{Place}
 use Rattle.generator.specs.Generating.{third, drawn, ruleFrom, isFaulty, faultOf, Draft, withPair, drafted}
-use Rattle.generator.specs.Standing.{pairFrom, faultsOf, Ready, PairPut, Standing}
+use Rattle.generator.specs.words.Standing.{pairFrom, faultsOf, Ready, PairPut, Standing}
 use Rattle.generator.specs.laws.DraftLaw.{drafts}
 use Rattle.generator.specs.laws.GeneratedLaw.{few-pairs}
 

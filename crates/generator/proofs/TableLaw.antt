@@ -6,7 +6,7 @@ use mathlib.Core.List.{List, [], _∷_, _++_}
 use lib.ListN.{length, set, length-set}
 use Rattle.sheet.specs.declared.Row.{Row}
 use Rattle.sheet.specs.Sheet.{rowOf}
-use Rattle.writing.specs.Spelled.{Spelled}
+use Rattle.writing.specs.words.Spelled.{Spelled}
 use Rattle.writing.specs.laws.SpelledLaw.{spelled-none, spelled-byte, spelled-both}
 
 -- one byte more

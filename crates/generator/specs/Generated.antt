@@ -6,7 +6,7 @@ use mathlib.Core.List.{List, []}
 use lib.ListN.{length, take}
 use Rattle.sheet.specs.declared.Row.{Row}
 use Rattle.sheet.specs.declared.Size.{Size}
-use Rattle.sheet.specs.Lists.{All}
+use Rattle.lists.specs.Lists.{All}
 use Rattle.sheet.specs.Sheet.{Sheet, ruleAt}
 use Rattle.sheet.specs.Reading.{accepted, reading}
 use Rattle.writing.specs.declared.Written.{Written}

@@ -1,4 +1,4 @@
 pub mod Generating
 pub mod Generated
-pub mod Standing
+pub mod words
 pub mod laws

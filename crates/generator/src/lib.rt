@@ -4,7 +4,7 @@
 ghost use mathlib.Core.Path.{_≡_};
 ghost use Prim.Native.Nat.{_≤_};
 ghost use lib.ListN.{length};
-ghost use Rattle.sheet.specs.Lists.{overlay};
+ghost use Rattle.lists.specs.Lists.{overlay};
 ghost use Rattle.sheet.specs.Reading.{inOneTo16, sizeInRange};
 ghost use Rattle.sheet.specs.WellFormed.{SizeIn};
 ghost use Rattle.writing.specs.Writing.{writtenAnswer, sheetWrites};

@@ -3,6 +3,7 @@
 // Called by `walks`, `cursors`, `pairs`, `store`, `refutation` and `search`.
 mod notes;
 
+use block::BLOCK;
 use block::transition;
 use block::wide;
 use block::wide32;
@@ -106,7 +107,7 @@ pub fn packed(output: u8, target: u8) -> u8 {
 }
 
 // The transition of a pair that is no suspect.
-pub fn lone(block: &[u8; 1604], k: usize) -> u8
+pub fn lone(block: &[u8; BLOCK], k: usize) -> u8
     requires { ⌜ k < 256 ⌝ }
 {
     let step = transition(block, k, 0);

@@ -6,7 +6,7 @@ use mathlib.Core.Path.{_≡_, refl, sym, _∙_, ap, subst}
 use mathlib.Core.List.{List, [], _∷_, _++_, append-assoc, append-nil}
 use lib.ListN.{length, getD, set, take, length-set, length-append}
 use lib.Seq.{take-suc-set, append-snoc}
-use Rattle.sheet.specs.laws.ListLaw.{map-append}
+use Rattle.lists.specs.laws.ListLaw.{map-append}
 use Rattle.model.specs.Log.{Observation, reset, seen, testLog, testsLog}
 use Rattle.model.specs.laws.SuiteLaw.{Following, specified-uncons}
 use Rattle.block.specs.Layout.{pair, ruleOutput, ruleTarget}

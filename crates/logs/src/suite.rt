@@ -1,4 +1,5 @@
 // The test suite of a sheet as a log: 256 for a reset, an input * 16 + the specified output.
+use block::BLOCK;
 use block::place;
 use block::rule_output;
 use block::rule_target;
@@ -26,7 +27,7 @@ fn record_test(
     sheet: &[u8],
     start: usize,
     inputs: usize,
-    block: &[u8; 1604],
+    block: &[u8; BLOCK],
     log: &mut [u16],
     from: usize,
 ) -> usize
@@ -57,7 +58,7 @@ pub fn record_suite(
     starts: &[u16; 256],
     lengths: &[u16; 256],
     tests: usize,
-    block: &[u8; 1604],
+    block: &[u8; BLOCK],
     log: &mut [u16],
 ) -> usize
     requires { ⌜ TestsAt (ruleOf (now block)) (now sheet) (now starts) (now lengths) tests ⌝ }

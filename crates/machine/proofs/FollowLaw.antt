@@ -12,16 +12,16 @@ use lib.ListN.{length, getD, set, take, drop, length-set, take-append-drop, repl
 use borrow.Author.Tests.{lt-ltb, le-ltb}
 use lib.Seq.{take-suc-set, append-snoc, drop-set-lt, drop-drop}
 use Rattle.model.specs.Machine.{Move, Pair}
-use Rattle.model.specs.Compare.{compareFrom, comparePair, distance, least, target, shows, within, best, shortest}
-use Rattle.model.specs.laws.Closed.{Closed}
+use Rattle.model.specs.Compare.{compareFrom, comparePair, distance, least, target, shows, within, best, shortest, found}
+use Rattle.model.specs.laws.StaysLaw.{Closed}
 use Rattle.model.specs.laws.LeastLaw.{least-unique}
-use Rattle.model.specs.laws.Basics.{clash, not-true-false}
+use Rattle.lists.specs.laws.TestLaw.{clash, not-true-false}
 use Rattle.model.specs.laws.CompareLaw.{Shown, shows-shown, best-shows, best-below, exact-next, within-mono, shortest-length, best-agrees, Stable, stable-all}
-use Rattle.sheet.specs.Lists.{overlay}
+use Rattle.lists.specs.Lists.{overlay}
 use Rattle.machine.specs.declared.distance.Difference.{Difference}
 use Rattle.machine.specs.declared.distance.Difference.the-variants as difference
 use Rattle.machine.specs.Tables.{Exact, Marks, near, cellOf}
-use Rattle.machine.specs.Differences.{differenceOf, found}
+use Rattle.machine.specs.Differences.{differenceOf}
 use Rattle.machine.proofs.MarksLaw.{marks-next, stable-round}
 
 pub record Following (m : Pair) (d : ℕ) (buf₀ buf : List ℕ) (p q i left : ℕ) : Type 0 where

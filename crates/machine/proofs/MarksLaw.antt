@@ -13,7 +13,7 @@ use lib.ListN.{length, getD, set}
 use lib.Seq.{getD-set-same, getD-set-other, set-getD}
 use Rattle.model.specs.Machine.{Pair}
 use Rattle.model.specs.Compare.{least, shows, within, best}
-use Rattle.model.specs.laws.Closed.{Closed}
+use Rattle.model.specs.laws.StaysLaw.{Closed}
 use Rattle.model.specs.laws.CompareLaw.{within-mono, best-agrees, Stable}
 use Rattle.machine.specs.Tables.{near, cellWith, cellOf, Marks}
 

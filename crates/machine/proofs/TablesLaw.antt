@@ -10,7 +10,7 @@ use lib.Dec.{leb}
 use lib.ListN.{getD}
 use Rattle.model.specs.Machine.{Move}
 use Rattle.model.specs.Compare.{target, shows}
-use Rattle.model.specs.laws.Closed.{Closed}
+use Rattle.model.specs.laws.StaysLaw.{Closed}
 use Rattle.block.specs.Layout.{pair, ruleOutput, ruleTarget, statesOf, inputsOf}
 use Rattle.block.specs.Tabulated.{ruleOf}
 use Rattle.block.specs.laws.ChoiceLaw.{rule-at}

@@ -1,7 +1,7 @@
--- What the search for a difference answers, and the bytes it writes.
+-- What the search for a difference answers.
 use Prim.Native.Nat.{ℕ}
 use mathlib.Core.Option.{Option, none, some}
-use mathlib.Core.List.{List, []}
+use mathlib.Core.List.{List}
 use lib.ListN.{length}
 use Rattle.machine.specs.declared.distance.Difference.{Difference}
 use Rattle.machine.specs.declared.distance.Difference.the-variants as difference
@@ -9,8 +9,3 @@ use Rattle.machine.specs.declared.distance.Difference.the-variants as di
 abbrev pub differenceOf : Option (List ℕ) → Difference
 differenceOf none = difference.Nothing
 differenceOf (some xs) = difference.Shown (length xs)
-
--- what is written: the distinguishing sequence, if there is one
-abbrev pub found : Option (List ℕ) → List ℕ
-found none = []
-found (some xs) = xs

@@ -3,11 +3,12 @@ ghost use mathlib.Core.Path.{_≡_};
 ghost use mathlib.Core.Bool.{false};
 ghost use Prim.Native.Nat.{ℕ, _-_, _*_, _/_, _%_, _≤_, _<_};
 ghost use lib.ListN.{length, getD, replicate};
-ghost use Rattle.model.specs.Compare.{least, shortest, comparePair, shows as showsOf};
-ghost use Rattle.sheet.specs.Lists.{overlay};
+ghost use Rattle.model.specs.Compare.{least, shortest, comparePair, shows as showsOf, found};
+ghost use Rattle.lists.specs.Lists.{overlay};
 ghost use Rattle.block.specs.Layout.{statesOf, inputsOf};
 ghost use Rattle.machine.specs.Tables.{tables, Valid, Marks, Exact, near, cellOf};
-ghost use Rattle.machine.specs.Differences.{differenceOf, found};
+ghost use Rattle.machine.specs.Differences.{differenceOf};
+use block::BLOCK;
 use block::inputs;
 use block::place;
 use block::rule_output;
@@ -23,7 +24,7 @@ pub enum Difference {
 
 // Whether input x shows another output at the states p and q, or leads to states at most j apart.
 fn shows(
-    block: &[u8; 1604],
+    block: &[u8; BLOCK],
     outputs: &[u8; 256],
     targets: &[u8; 256],
     dist: &[u16; 256],
@@ -58,7 +59,7 @@ pub fn bound(n: usize) -> u16
 
 // The smallest input that shows it, or how many inputs there are.
 fn first_showing(
-    block: &[u8; 1604],
+    block: &[u8; BLOCK],
     outputs: &[u8; 256],
     targets: &[u8; 256],
     dist: &[u16; 256],
@@ -83,7 +84,7 @@ fn first_showing(
 
 // The distance at an index of one of the states after one more round.
 fn cell(
-    block: &[u8; 1604],
+    block: &[u8; BLOCK],
     outputs: &[u8; 256],
     targets: &[u8; 256],
     dist: &[u16; 256],
@@ -122,7 +123,7 @@ fn following(i: usize, n: usize) -> usize
 
 // One round: each pair of states that is j + 1 apart gets its distance. Whether there was any.
 fn round(
-    block: &[u8; 1604],
+    block: &[u8; BLOCK],
     outputs: &[u8; 256],
     targets: &[u8; 256],
     dist: &mut [u16; 256],
@@ -150,7 +151,7 @@ fn round(
 
 // Writes the smallest of the shortest distinguishing sequences, of d inputs, along falling distances.
 fn follow(
-    block: &[u8; 1604],
+    block: &[u8; BLOCK],
     outputs: &[u8; 256],
     targets: &[u8; 256],
     dist: &[u16; 256],
@@ -189,7 +190,7 @@ fn unmarked() -> [u16; 256]
 // Conforming, or the shortest, then smallest, distinguishing sequence, written at the front of buf. Each turn asks whether the
 // states to start from are j + 1 apart before it finds out which others are.
 pub fn distinguish<'a, 'b>(
-    block: &'a [u8; 1604],
+    block: &'a [u8; BLOCK],
     outputs: &'b [u8; 256],
     targets: &'b [u8; 256],
     start: u8,

@@ -5,6 +5,7 @@ ghost use lib.ListN.{length};
 ghost use Rattle.sheet.specs.Sheet.{Sheet};
 ghost use Rattle.block.specs.Tabled.{Tabled};
 ghost use Rattle.machine.specs.Fits.{HighAt, fitOf};
+use block::BLOCK;
 use block::choices;
 use block::slots;
 use block::wide;
@@ -16,7 +17,7 @@ pub enum Fit {
 }
 
 // The lowest index of a choice that is not below its number of choices; the mutant's length where there is none.
-fn first_high(block: &[u8; 1604], mutant: &[u8]) -> usize
+fn first_high(block: &[u8; BLOCK], mutant: &[u8]) -> usize
     requires { ⌜ length (now mutant) ≤ 32 ⌝ }
     ensures { λ r. ⌜ HighAt (now (block .entry)) (now (mutant .entry)) r ⌝ }
 {
@@ -31,7 +32,7 @@ fn first_high(block: &[u8; 1604], mutant: &[u8]) -> usize
 }
 
 // Whether the bytes are as many as the slots, and each is below its number of choices.
-pub fn fits(block: &[u8; 1604], mutant: &[u8]) -> Fit
+pub fn fits(block: &[u8; BLOCK], mutant: &[u8]) -> Fit
     requires { ⌜ ((sh : Sheet) × Tabled sh (now block)) ⌝ }
     ensures { λ r. ⌜ ((sh : Sheet) → Tabled sh (now (block .entry)) → r ≡ fitOf sh (now (mutant .entry))) ⌝ }
 {

@@ -10,6 +10,7 @@ ghost use Rattle.machine.specs.Laid.{Chosen, asMove, Moves};
 ghost use Rattle.machine.specs.Fits.{Widened, Machined};
 use crate::fitting::Fit;
 use crate::fitting::fits;
+use block::BLOCK;
 use block::Step;
 use block::initial;
 use block::inputs;
@@ -27,7 +28,7 @@ pub struct Machine {
 }
 
 // The choice of p at a pair, 0 where it is no suspect.
-fn choice_at(block: &[u8; 1604], p: &[u16; 32], k: usize) -> u16
+fn choice_at(block: &[u8; BLOCK], p: &[u16; 32], k: usize) -> u16
     requires { ⌜ Wf (now block) × (k < 256) ⌝ }
     ensures { λ r. ⌜ r ≡ chosen (now (block .entry)) (now (p .entry)) k ⌝ }
 {
@@ -39,7 +40,7 @@ fn choice_at(block: &[u8; 1604], p: &[u16; 32], k: usize) -> u16
 }
 
 // What the mutant p does at an index of one of the states: nothing outside the inputs.
-fn act(block: &[u8; 1604], p: &[u16; 32], k: usize) -> Step
+fn act(block: &[u8; BLOCK], p: &[u16; 32], k: usize) -> Step
     requires { ⌜ Wf (now block) × Chosen (now block) (now p) × (k / 16 < statesOf (now block)) ⌝ }
     ensures { λ r. ⌜ asMove r ≡ stepOf (now (block .entry)) (now (p .entry)) (k / 16) (k % 16) ⌝ }
 {
@@ -54,7 +55,7 @@ fn act(block: &[u8; 1604], p: &[u16; 32], k: usize) -> Step
 }
 
 // Lays out what the mutant with the choices p does, at the indices of the states.
-pub fn lay(block: &[u8; 1604], p: &[u16; 32], outputs: &mut [u8; 256], targets: &mut [u8; 256])
+pub fn lay(block: &[u8; BLOCK], p: &[u16; 32], outputs: &mut [u8; 256], targets: &mut [u8; 256])
     requires { ⌜ Wf (now block) × Chosen (now block) (now p) ⌝ }
     requires { ⌜ (length (now outputs) ≡ 256) × (length (now targets) ≡ 256) ⌝ }
     ensures { λ r. ⌜ Moves (stepOf (now (block .entry)) (now (p .entry))) (now (outputs .exit)) (now (targets .exit)) (16 * statesOf (now (block .entry))) ⌝ }
@@ -106,7 +107,7 @@ fn widened(bytes: &[u8]) -> [u16; 32]
 }
 
 // The machine of the mutant with these bytes.
-pub fn machine_of(block: &[u8; 1604], mutant: &[u8]) -> Machine
+pub fn machine_of(block: &[u8; BLOCK], mutant: &[u8]) -> Machine
     requires { ⌜ ((sh : Sheet) × Tabled sh (now block)) ⌝ }
     ensures { λ r. ⌜ ((sh : Sheet) → Tabled sh (now (block .entry)) → Machined sh (now (mutant .entry)) r) ⌝ }
 {

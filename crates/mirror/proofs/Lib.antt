@@ -1,4 +1,4 @@
-pub mod Others
-pub mod Exchanges
-pub mod Images
-pub mod Reflections
+pub mod OtherLaw
+pub mod ExchangeLaw
+pub mod ImageLaw
+pub mod ReflectLaw

@@ -1,4 +1,5 @@
 // Which states can be exchanged: with them exchanged every mutant is another mutant, with the same outputs.
+use block::BLOCK;
 use block::choices;
 use block::inputs;
 use block::place;
@@ -8,6 +9,8 @@ use block::states;
 use block::transition;
 use block::wide;
 use cubes::starts::starts;
+use cubes::tables::EXCHANGES;
+use cubes::tables::FACTS;
 use cubes::words::holds;
 use cubes::words::one;
 use cubes::words::union;
@@ -33,7 +36,7 @@ fn other(s: u8, a: u8, b: u8) -> u8
 }
 
 // How many choices a pair has.
-fn choices_at(block: &[u8; 1604], k: usize) -> u16
+fn choices_at(block: &[u8; BLOCK], k: usize) -> u16
     requires { ⌜ Wf (now block) × (k < 256) ⌝ }
     ensures { λ r. ⌜ r ≡ choicesAt (now (block .entry)) k ⌝ }
 {
@@ -45,7 +48,7 @@ fn choices_at(block: &[u8; 1604], k: usize) -> u16
 }
 
 // Whether choice d of the pair j is the transition.
-fn is_choice(block: &[u8; 1604], j: usize, d: u16, o: u8, t: u8) -> bool
+fn is_choice(block: &[u8; BLOCK], j: usize, d: u16, o: u8, t: u8) -> bool
     requires { ⌜ Wf (now block) × (j < 256) × (d < choicesAt (now block) j) ⌝ }
     ensures { λ r. ⌜ (r ≡ true → OffersStep (now (block .entry)) j o t) ⌝ }
 {
@@ -67,7 +70,7 @@ fn clipped(d: u16, end: u16) -> u16
 }
 
 // Whether a choice of the pair j is the transition. They are tried in a circle from `first` on.
-fn offered(block: &[u8; 1604], j: usize, o: u8, t: u8, first: u16) -> bool
+fn offered(block: &[u8; BLOCK], j: usize, o: u8, t: u8, first: u16) -> bool
     requires { ⌜ Wf (now block) × (j < 256) ⌝ }
     ensures { λ r. ⌜ (r ≡ true → OffersStep (now (block .entry)) j o t) ⌝ }
 {
@@ -97,7 +100,7 @@ fn near(c: u16, target: u8, image: u8) -> u16 {
 }
 
 // Whether choice c of the pair k, exchanged, is one of the pair j.
-fn answered(block: &[u8; 1604], k: usize, j: usize, a: u8, b: u8, c: u16) -> bool
+fn answered(block: &[u8; BLOCK], k: usize, j: usize, a: u8, b: u8, c: u16) -> bool
     requires { ⌜ Wf (now block) × (k < 256) × (j < 256) × (c < choicesAt (now block) k) ⌝ }
     ensures { λ r. ⌜ (r ≡ true → Answered (now (block .entry)) a b k j c) ⌝ }
 {
@@ -107,7 +110,7 @@ fn answered(block: &[u8; 1604], k: usize, j: usize, a: u8, b: u8, c: u16) -> boo
 }
 
 // Whether this holds of every choice of the pair k.
-fn all_answered(block: &[u8; 1604], k: usize, j: usize, a: u8, b: u8) -> bool
+fn all_answered(block: &[u8; BLOCK], k: usize, j: usize, a: u8, b: u8) -> bool
     requires { ⌜ Wf (now block) × (k < 256) × (j < 256) ⌝ }
     ensures { λ r. ⌜ (r ≡ true → Exchanges (now (block .entry)) a b k j) ⌝ }
 {
@@ -123,7 +126,7 @@ fn all_answered(block: &[u8; 1604], k: usize, j: usize, a: u8, b: u8) -> bool
 }
 
 // The same of two pairs without a rule, which have every next state with each output.
-fn unruled_alike(block: &[u8; 1604], k: usize, j: usize) -> bool
+fn unruled_alike(block: &[u8; BLOCK], k: usize, j: usize) -> bool
     requires { ⌜ Wf (now block) × (k < 256) × (j < 256) ⌝ }
     ensures { λ r. ⌜ (r ≡ true → (choicesAt (now (block .entry)) k ≡ choicesAt (now (block .entry)) j) × (choicesAt (now (block .entry)) k % statesOf (now (block .entry)) ≡ 0)) ⌝ }
 {
@@ -134,7 +137,7 @@ fn unruled_alike(block: &[u8; 1604], k: usize, j: usize) -> bool
     c % (states(block) as u16) == 0
 }
 
-fn pair_exchanges(block: &[u8; 1604], k: usize, j: usize, a: u8, b: u8) -> bool
+fn pair_exchanges(block: &[u8; BLOCK], k: usize, j: usize, a: u8, b: u8) -> bool
     requires { ⌜ Wf (now block) × (k < 256) × (j < 256) × (a < statesOf (now block)) × (b < statesOf (now block)) ⌝ }
     ensures { λ r. ⌜ (r ≡ true → Exchanges (now (block .entry)) a b k j) ⌝ }
 {
@@ -148,7 +151,7 @@ fn pair_exchanges(block: &[u8; 1604], k: usize, j: usize, a: u8, b: u8) -> bool
 }
 
 // Every pair of the state s and its image.
-fn row_exchanges(block: &[u8; 1604], s: u8, a: u8, b: u8) -> bool
+fn row_exchanges(block: &[u8; BLOCK], s: u8, a: u8, b: u8) -> bool
     requires { ⌜ Wf (now block) × (s < statesOf (now block)) × (a < statesOf (now block)) × (b < statesOf (now block)) ⌝ }
     ensures { λ r. ⌜ (r ≡ true → RowExchanges (now (block .entry)) a b s) ⌝ }
 {
@@ -165,7 +168,7 @@ fn row_exchanges(block: &[u8; 1604], s: u8, a: u8, b: u8) -> bool
 }
 
 // Every pair and its image; those of a first, as most states differ there.
-fn all_exchange(block: &[u8; 1604], a: u8, b: u8) -> bool
+fn all_exchange(block: &[u8; BLOCK], a: u8, b: u8) -> bool
     requires { ⌜ Wf (now block) × (a < statesOf (now block)) × (b < statesOf (now block)) ⌝ }
     ensures { λ r. ⌜ (r ≡ true → Below (λ s. RowExchanges (now (block .entry)) a b s) (statesOf (now (block .entry)))) ⌝ }
 {
@@ -184,7 +187,7 @@ fn all_exchange(block: &[u8; 1604], a: u8, b: u8) -> bool
 }
 
 // The states that no exchange may move: where mutants start, and 0.
-fn fixed(block: &[u8; 1604]) -> u16
+fn fixed(block: &[u8; BLOCK]) -> u16
     requires { ⌜ Wf (now block) ⌝ }
     ensures { λ r. ⌜ FixedOk (now (block .entry)) r ⌝ }
 {
@@ -193,7 +196,7 @@ fn fixed(block: &[u8; 1604]) -> u16
 }
 
 // The state b, if it can be exchanged with a.
-fn partner(block: &[u8; 1604], fixed: u16, a: u8, b: u8) -> u16
+fn partner(block: &[u8; BLOCK], fixed: u16, a: u8, b: u8) -> u16
     requires { ⌜ Wf (now block) × FixedOk (now block) fixed × (a < statesOf (now block)) × (b < statesOf (now block)) × Movable (now block) a ⌝ }
     ensures { λ r. ⌜ Each (λ t. Exchangeable (now (block .entry)) a t) r ⌝ }
 {
@@ -210,7 +213,7 @@ fn partner(block: &[u8; 1604], fixed: u16, a: u8, b: u8) -> u16
 }
 
 // The states that can be exchanged with a.
-fn partners(block: &[u8; 1604], fixed: u16, a: u8) -> u16
+fn partners(block: &[u8; BLOCK], fixed: u16, a: u8) -> u16
     requires { ⌜ Wf (now block) × FixedOk (now block) fixed × (a < 16) ⌝ }
     ensures { λ r. ⌜ Each (λ t. Exchangeable (now (block .entry)) a t) r ⌝ }
 {
@@ -231,7 +234,7 @@ fn partners(block: &[u8; 1604], fixed: u16, a: u8) -> u16
 }
 
 // Fills in, by state a at 544 + a of the facts, the states that can be exchanged with it.
-pub fn exchange_all(block: &[u8; 1604], facts: &mut [u16; 832])
+pub fn exchange_all(block: &[u8; BLOCK], facts: &mut [u16; FACTS])
     requires { ⌜ Wf (now block) × (length (now facts) ≡ 832) ⌝ }
     ensures { λ r. ⌜ Exchanged (now (block .entry)) (now (facts .entry)) (now (facts .exit)) ⌝ }
 {
@@ -239,7 +242,7 @@ pub fn exchange_all(block: &[u8; 1604], facts: &mut [u16; 832])
     let mut a: u8 = 0;
     while a < 16 {
         let set = partners(block, keep, a);
-        facts[544 + wide(a)] = set;
+        facts[EXCHANGES + wide(a)] = set;
         a += 1;
     }
 }

@@ -1,4 +1,5 @@
 // What a cube without a mutant sought tells of the states that can be exchanged with the one in hand.
+use block::BLOCK;
 use block::inputs;
 use block::place;
 use block::site;
@@ -6,6 +7,8 @@ use block::wide;
 use cubes::gather::note;
 use cubes::literals::lit_next;
 use cubes::literals::means;
+use cubes::tables::EXCHANGES;
+use cubes::tables::FACTS;
 use cubes::words::holds;
 use cubes::words::one;
 use cubes::words::union;
@@ -19,7 +22,7 @@ ghost use Rattle.mirror.specs.Mirror.{Each, Exchangeable, SwapsOk};
 ghost use Rattle.mirror.specs.Reflect.{Quiet, Silent, Blind, BlindBut, Mirrors, ReflectedOk};
 
 // Whether the cube does not speak of the pair k.
-fn quiet(block: &[u8; 1604], cube: &[u32; 32], k: usize) -> bool
+fn quiet(block: &[u8; BLOCK], cube: &[u32; 32], k: usize) -> bool
     requires { ⌜ Wf (now block) × (k < 256) ⌝ }
     ensures { λ r. ⌜ (r ≡ true → Quiet (now (block .entry)) (now (cube .entry)) k) ⌝ }
 {
@@ -31,7 +34,7 @@ fn quiet(block: &[u8; 1604], cube: &[u32; 32], k: usize) -> bool
 }
 
 // Nor of any pair of the state s.
-fn silent(block: &[u8; 1604], cube: &[u32; 32], s: u8) -> bool
+fn silent(block: &[u8; BLOCK], cube: &[u32; 32], s: u8) -> bool
     requires { ⌜ Wf (now block) × (s < 16) ⌝ }
     ensures { λ r. ⌜ (r ≡ true → Silent (now (block .entry)) (now (cube .entry)) s) ⌝ }
 {
@@ -88,7 +91,7 @@ fn blind_but(cube: &[u32; 32], i: u8, a: u8, b: u8) -> bool
 }
 
 // The state b, if it is in the set and the cube does not tell it from a.
-fn image(block: &[u8; 1604], cube: &[u32; 32], i: u8, set: u16, a: u8, b: u8) -> u16
+fn image(block: &[u8; BLOCK], cube: &[u32; 32], i: u8, set: u16, a: u8, b: u8) -> u16
     requires { ⌜ Wf (now block) × Each (λ t. Exchangeable (now block) a t) set × (a < 16) × (b < 16) ⌝ }
     ensures { λ r. ⌜ Each (λ t. Mirrors (now (block .entry)) (now (cube .entry)) i a t) r ⌝ }
 {
@@ -105,7 +108,7 @@ fn image(block: &[u8; 1604], cube: &[u32; 32], i: u8, set: u16, a: u8, b: u8) ->
 }
 
 // The states of the set that the cube does not tell from a.
-fn images(block: &[u8; 1604], cube: &[u32; 32], i: u8, set: u16, a: u8) -> u16
+fn images(block: &[u8; BLOCK], cube: &[u32; 32], i: u8, set: u16, a: u8) -> u16
     requires { ⌜ Wf (now block) × Each (λ t. Exchangeable (now block) a t) set × (a < 16) ⌝ }
     ensures { λ r. ⌜ Each (λ t. Mirrors (now (block .entry)) (now (cube .entry)) i a t) r ⌝ }
 {
@@ -127,8 +130,8 @@ fn literal(o: u8, set: u16) -> u32
 // Adds to `done` the transitions of the pair k with the output o to states that the cube, in which no mutant is sought and which
 // means the transition to a, does not tell from a.
 pub fn reflect(
-    block: &[u8; 1604],
-    facts: &[u16; 832],
+    block: &[u8; BLOCK],
+    facts: &[u16; FACTS],
     cube: &[u32; 32],
     k: usize,
     a: u8,
@@ -141,7 +144,7 @@ pub fn reflect(
     if a >= 16 {
         return;
     }
-    let set = facts[544 + wide(a)];
+    let set = facts[EXCHANGES + wide(a)];
     if set == 0 {
         return;
     }

@@ -4,7 +4,7 @@ use mathlib.Core.Bool.{Bool, true, false, cond}
 use mathlib.Core.Option.{Option, none, some}
 use mathlib.Core.List.{List, [], _∷_}
 use lib.Dec.{eqb, ltb}
-use Rattle.sheet.specs.Lists.{maybe}
+use Rattle.lists.specs.Lists.{maybe}
 use Rattle.model.specs.Machine.{Move, Pair}
 
 -- the least i below n that passes the test; n if there is none
@@ -53,3 +53,8 @@ compareFrom m p q =
 -- from the starts of both
 unfoldable pub comparePair : Pair → Option (List ℕ)
 comparePair m = compareFrom m 0 (m .start)
+
+-- what is written of it: the distinguishing sequence, if there is one
+abbrev pub found : Option (List ℕ) → List ℕ
+found none = []
+found (some xs) = xs

@@ -3,7 +3,7 @@ use Prim.Native.Nat.{ℕ}
 use mathlib.Core.Path.{_≡_}
 use mathlib.Core.Option.{Option, none, some}
 use mathlib.Core.List.{List, [], _∷_}
-use Rattle.sheet.specs.Lists.{maybe}
+use Rattle.lists.specs.Lists.{maybe}
 
 -- what happens at a state and an input: an output, and the next state
 pub record Move : Type 0 where

@@ -6,7 +6,7 @@ use mathlib.Core.List.{List, [], _∷_, map}
 use lib.Dec.{eqb, ltb}
 use lib.ListN.{getD}
 use Rattle.sheet.specs.declared.Row.{Row}
-use Rattle.sheet.specs.Lists.{maybe, upTo, joined}
+use Rattle.lists.specs.Lists.{maybe, upTo, joined}
 use Rattle.sheet.specs.Sheet.{Sheet, rowsAt, ruleAt, choicesAt, isOpen}
 use Rattle.model.specs.Machine.{Move, Action, Pair, outputsFrom, specifiedFrom, DistinguishesFrom, ConformingFrom}
 

@@ -6,7 +6,7 @@ use mathlib.Core.Option.{Option, none, some}
 use mathlib.Core.List.{List, [], _∷_, _++_}
 use lib.Dec.{eqb}
 use lib.ListN.{getD, take}
-use Rattle.sheet.specs.Lists.{maybe}
+use Rattle.lists.specs.Lists.{maybe}
 use Rattle.sheet.specs.Sheet.{Sheet}
 use Rattle.model.specs.Machine.{Pair}
 use Rattle.model.specs.Mutant.{later, initial, mutants, against}

@@ -6,7 +6,7 @@ use mathlib.Core.Option.{Option, none, some}
 use mathlib.Core.Bool.{true}
 use mathlib.Core.List.{List, [], _∷_, map}
 use lib.ListN.{length, getD, take}
-use Rattle.sheet.specs.Lists.{Before, count}
+use Rattle.lists.specs.Lists.{Before, count}
 use Rattle.sheet.specs.Sheet.{Sheet}
 use Rattle.model.specs.Mutant.{slots, IsMutant, outputs, specified, Distinguishes, Conforming}
 use Rattle.model.specs.Used.{has, Usage}

@@ -1,11 +1,10 @@
-pub mod Basics
 pub mod LeastLaw
 pub mod SumLaw
-pub mod Closed
+pub mod StaysLaw
 pub mod CompareLaw
 pub mod MutantLaw
 pub mod JudgeLaw
-pub mod Quick
+pub mod QuickJudgeLaw
 pub mod SuspectLaw
 pub mod TransitionLaw
 pub mod OperationLaw
@@ -14,6 +13,6 @@ pub mod SuiteLaw
 pub mod BitLaw
 pub mod UsedLaw
 pub mod LogLaw
-pub mod Published
+pub mod PublishedLaw
 pub mod GuaranteeLaw
 pub mod Demands

@@ -12,8 +12,8 @@ use Rattle.sheet.specs.Sheet.{Sheet}
 use Rattle.sheet.specs.Reading.{accepted, refused, Reading, reading}
 use Rattle.sheet.specs.Tables.{loadedOf}
 use Rattle.sheet.specs.WellFormed.{WellFormed}
-use Rattle.sheet.specs.laws.Accepted.{well-formed}
-use Rattle.sheet.specs.laws.Basics.{never}
+use Rattle.sheet.specs.laws.AcceptedLaw.{well-formed}
+use Rattle.lists.specs.laws.TestLaw.{never}
 use Rattle.model.specs.Mutant.{slots}
 use Rattle.model.specs.Suite.{Judgement, complete, survivor, judgeOf}
 use Rattle.model.specs.Operations.{judging, judgeOn}
@@ -30,7 +30,7 @@ use Rattle.search.specs.laws.JudgementLaw.{none-judged, first-judged}
 use Rattle.mutation.specs.declared.verdict.Judged.{Judged}
 use Rattle.mutation.specs.declared.verdict.Judged.the-variants as judged
 use Rattle.mutation.specs.Judging.{judgedBy, Judges, SaysOf, ToldJudged}
-use Rattle.mutation.proofs.Opened.{closed-by}
+use Rattle.mutation.proofs.OpenLaw.{closed-by}
 
 -- ---- a sheet that was read, in the block
 

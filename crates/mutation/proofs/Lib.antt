@@ -1,6 +1,6 @@
 -- What the proofs of the functions share.
 mod RespondLaw
-mod Operating
+mod OperateLaw
 mod SuiteLaw
-mod Opened
+mod OpenLaw
 mod JudgingLaw

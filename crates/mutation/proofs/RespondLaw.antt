@@ -11,7 +11,7 @@ use Rattle.model.specs.Used.{mark, markFrom}
 use Rattle.model.specs.Operations.{firstOver}
 use Rattle.model.specs.laws.OperationLaw.{first-over, none-over}
 use Rattle.model.specs.laws.SuiteLaw.{outputs-length}
-use Rattle.sheet.specs.Lists.{indexOr, overlay}
+use Rattle.lists.specs.Lists.{indexOr, overlay}
 use Rattle.block.specs.Layout.{pair, statesOf}
 use Rattle.machine.specs.Tables.{movesIn}
 use Rattle.machine.specs.laws.LaidLaw.{move-at}

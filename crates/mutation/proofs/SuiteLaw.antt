@@ -37,7 +37,7 @@ use Rattle.usage.specs.laws.MarksLaw.{used-tried}
 use Rattle.mutation.specs.declared.Failed.{Failed}
 use Rattle.mutation.specs.Answers.{usedOf, failedOf, failedAnswer}
 use Rattle.mutation.specs.Operate.{ReadFrom}
-use Rattle.mutation.specs.Suites.{SuiteIn, Logged, Plays, failedBy}
+use Rattle.mutation.specs.words.Suites.{SuiteIn, Logged, Plays, failedBy}
 
 module _ {sh : Sheet} {s starts lengths m : List ℕ} {tests room : ℕ} (su : SuiteIn sh s starts lengths tests m room) where
   wf : WellFormed sh

@@ -4,14 +4,14 @@ use mathlib.Core.Path.{_≡_}
 use mathlib.Core.Option.{Option, none, some}
 use mathlib.Core.List.{List, []}
 use lib.ListN.{length}
-use Rattle.sheet.specs.Lists.{overlay}
+use Rattle.lists.specs.Lists.{overlay}
 use Rattle.sheet.specs.Reading.{Result, accepted, refused}
 use Rattle.model.specs.Used.{Usage}
 use Rattle.model.specs.Suite.{Place, Finding}
 use Rattle.model.specs.Operations.{Response}
 use Rattle.machine.specs.declared.distance.Difference.{Difference}
 use Rattle.machine.specs.declared.distance.Difference.the-variants as difference
-use Rattle.machine.specs.Differences.{found}
+use Rattle.model.specs.Compare.{found}
 use Rattle.mutation.specs.declared.Used.{Used}
 use Rattle.mutation.specs.declared.Ran.{Ran}
 use Rattle.mutation.specs.declared.Ran.the-variants as ran

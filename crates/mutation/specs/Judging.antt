@@ -3,7 +3,7 @@ use Prim.Native.Nat.{ℕ, _*_, _≤_}
 use mathlib.Core.Path.{_≡_}
 use mathlib.Core.List.{List, []}
 use lib.ListN.{length, take}
-use Rattle.sheet.specs.Lists.{overlay}
+use Rattle.lists.specs.Lists.{overlay}
 use Rattle.sheet.specs.Sheet.{Sheet}
 use Rattle.sheet.specs.Reading.{Result, accepted, refused, reading}
 use Rattle.model.specs.Mutant.{slots}

@@ -1,4 +1,4 @@
 pub mod Answers
 pub mod Operate
 pub mod Judging
-pub mod Suites
+pub mod words

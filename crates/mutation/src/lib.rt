@@ -3,7 +3,7 @@
 // Called by users, and by `capi` and `report`.
 ghost use mathlib.Core.Path.{_≡_};
 ghost use lib.ListN.{length};
-ghost use Rattle.sheet.specs.Lists.{overlay};
+ghost use Rattle.lists.specs.Lists.{overlay};
 ghost use Rattle.model.specs.Used.{counted as usage};
 ghost use Rattle.model.specs.Operations.{running, failing, comparing};
 ghost use Rattle.mutation.specs.Answers.{usedOf, ranAnswer, ranWrites, failedAnswer, comparedAnswer, comparedWrites};

@@ -5,7 +5,7 @@ ghost use lib.ListN.{length};
 ghost use Rattle.model.specs.Machine.{outputsFrom};
 ghost use Rattle.model.specs.Used.{mark, markFrom};
 ghost use Rattle.model.specs.Operations.{firstOver, runOn};
-ghost use Rattle.sheet.specs.Lists.{indexOr, overlay};
+ghost use Rattle.lists.specs.Lists.{indexOr, overlay};
 ghost use Rattle.sheet.specs.Sheet.{Sheet};
 ghost use Rattle.block.specs.Tabled.{Read};
 ghost use Rattle.machine.specs.Tables.{movesIn};
@@ -14,6 +14,7 @@ ghost use Rattle.mutation.specs.Answers.{Runs};
 ghost use Rattle.mutation.specs.Operate.{Runnable};
 use crate::Ran;
 use crate::counted;
+use block::BLOCK;
 use block::fresh;
 use block::place;
 use block::tabulate;
@@ -40,7 +41,7 @@ fn first_over(k: u8, inputs: &[u8]) -> usize
 
 // Writes one output for each input at the buffer's front; gives the set of the slots used.
 fn respond<'a>(
-    block: &[u8; 1604],
+    block: &[u8; BLOCK],
     outputs: &'a [u8; 256],
     targets: &'a [u8; 256],
     start: u8,

@@ -10,10 +10,11 @@ ghost use Rattle.model.specs.Suite.{findingOf};
 ghost use Rattle.model.specs.Operations.{withMutant};
 ghost use Rattle.mutation.specs.Answers.{failedAnswer};
 ghost use Rattle.mutation.specs.Operate.{ReadFrom};
-ghost use Rattle.mutation.specs.Suites.{SuiteIn, Logged, Plays, failedBy};
+ghost use Rattle.mutation.specs.words.Suites.{SuiteIn, Logged, Plays, failedBy};
 use crate::Failed;
 use crate::Used;
 use crate::counted;
+use block::BLOCK;
 use block::fresh;
 use block::tabulate;
 use logs::Wrong;
@@ -31,7 +32,7 @@ pub(crate) fn log_suite(
     starts: &[u16; 256],
     lengths: &[u16; 256],
     tests: usize,
-    block: &[u8; 1604],
+    block: &[u8; BLOCK],
     log: &mut [u16],
 ) -> usize
     requires { ⌜ ((sh : Sheet) × SuiteIn sh (now sheet) (now starts) (now lengths) tests (now block) (length (now log))) ⌝ }
@@ -55,7 +56,7 @@ fn first_failure<'a, 'b>(
     starts: &'a [u16; 256],
     lengths: &'a [u16; 256],
     tests: usize,
-    block: &[u8; 1604],
+    block: &[u8; BLOCK],
     outputs: &'b [u8; 256],
     targets: &'b [u8; 256],
     start: u8,

@@ -1,5 +1,6 @@
 // 01's Judge.
 use crate::suite::log_suite;
+use block::BLOCK;
 use block::fresh;
 use block::slots;
 use block::states;
@@ -18,14 +19,14 @@ use sheet::refusal_of;
 ghost use mathlib.Core.Path.{_≡_};
 ghost use Prim.Native.Nat.{ℕ};
 ghost use lib.ListN.{length};
-ghost use Rattle.sheet.specs.Lists.{overlay};
+ghost use Rattle.lists.specs.Lists.{overlay};
 ghost use Rattle.sheet.specs.Sheet.{Sheet};
 ghost use Rattle.sheet.specs.Reading.{accepted};
 ghost use Rattle.model.specs.Suite.{judgeOf};
 ghost use Rattle.model.specs.Operations.{judging, judgeOn};
 ghost use Rattle.search.specs.Shown.{Room};
 ghost use Rattle.mutation.specs.Operate.{ReadFrom};
-ghost use Rattle.mutation.specs.Suites.{SuiteIn};
+ghost use Rattle.mutation.specs.words.Suites.{SuiteIn};
 ghost use Rattle.mutation.specs.Judging.{judgedAnswer, judgedBy, boardWrites, sequenceWrites, Judges, Measured, ToldJudged};
 
 // What Judge answers: complete, or the length of the first survivor's shortest distinguishing sequence.
@@ -52,7 +53,7 @@ fn conclude<'a>(
     starts: &'a [u16; 256],
     lengths: &'a [u16; 256],
     tests: usize,
-    block: &[u8; 1604],
+    block: &[u8; BLOCK],
     log: &mut [u16],
     board: &mut [u8],
     sequence: &mut [u8],

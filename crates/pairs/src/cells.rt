@@ -1,4 +1,5 @@
 // What the mutants of a cube do on an input at a pair of states: specification's * 16 + mutant's.
+use block::BLOCK;
 use block::rule_output;
 use block::rule_target;
 use block::site;
@@ -6,6 +7,7 @@ use block::some_place;
 use block::wide;
 use cubes::literals::going;
 use cubes::literals::sounds;
+use cubes::tables::FACTS;
 use leaves::add;
 use leaves::lone;
 use leaves::low;
@@ -20,7 +22,7 @@ pub struct Cell {
     pub go: u16,
 }
 
-pub fn look(block: &[u8; 1604], facts: &[u16; 832], cube: &[u32; 32], z: u8, x: u8) -> Cell {
+pub fn look(block: &[u8; BLOCK], facts: &[u16; FACTS], cube: &[u32; 32], z: u8, x: u8) -> Cell {
     let k = some_place(z / 16, x);
     let next = rule_target(block, k);
     if next == 255 {

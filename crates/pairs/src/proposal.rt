@@ -1,10 +1,12 @@
 // A wide cube that may conform, and the pairs of states that may be closed under it.
 use crate::cells::Cell;
 use crate::cells::look;
+use block::BLOCK;
 use block::inputs;
 use block::states;
 use block::wide;
 use cubes::starts::starts;
+use cubes::tables::FACTS;
 use leaves::add;
 use leaves::common;
 use leaves::either;
@@ -19,8 +21,8 @@ use leaves::without_least;
 
 // Whether no wrong output and only safe pairs follow a pair on an input.
 fn cell_safe(
-    block: &[u8; 1604],
-    facts: &[u16; 832],
+    block: &[u8; BLOCK],
+    facts: &[u16; FACTS],
     cube: &[u32; 32],
     safe: &[u16; 16],
     z: u8,
@@ -35,8 +37,8 @@ fn cell_safe(
 
 // The same on every input.
 fn pair_safe(
-    block: &[u8; 1604],
-    facts: &[u16; 832],
+    block: &[u8; BLOCK],
+    facts: &[u16; FACTS],
     cube: &[u32; 32],
     safe: &[u16; 16],
     z: u8,
@@ -54,8 +56,8 @@ fn pair_safe(
 
 // Takes a pair of states that is not safe away; whether it did.
 fn sift_pair(
-    block: &[u8; 1604],
-    facts: &[u16; 832],
+    block: &[u8; BLOCK],
+    facts: &[u16; FACTS],
     cube: &[u32; 32],
     safe: &mut [u16; 16],
     z: u8,
@@ -78,12 +80,12 @@ fn pair_at(h: u16) -> u8 {
     (h % 256) as u8
 }
 
-fn rows_end(block: &[u8; 1604]) -> u16 {
+fn rows_end(block: &[u8; BLOCK]) -> u16 {
     (states(block) as u16) * 16
 }
 
 // Takes pairs that are not safe away, each looked at once; whether there was one.
-fn sift(block: &[u8; 1604], facts: &[u16; 832], cube: &[u32; 32], safe: &mut [u16; 16]) -> bool {
+fn sift(block: &[u8; BLOCK], facts: &[u16; FACTS], cube: &[u32; 32], safe: &mut [u16; 16]) -> bool {
     let end = rows_end(block);
     let mut changed = false;
     let mut h: u16 = 0;
@@ -97,7 +99,7 @@ fn sift(block: &[u8; 1604], facts: &[u16; 832], cube: &[u32; 32], safe: &mut [u1
 }
 
 // Of some pairs of states the most that are closed under the cube without a wrong output.
-fn safe_pairs(block: &[u8; 1604], facts: &[u16; 832], cube: &[u32; 32], safe: &mut [u16; 16]) {
+fn safe_pairs(block: &[u8; BLOCK], facts: &[u16; FACTS], cube: &[u32; 32], safe: &mut [u16; 16]) {
     let mut rounds: u16 = 0;
     while rounds < 300 {
         if !sift(block, facts, cube, safe) {
@@ -125,8 +127,8 @@ fn narrows(cell: Cell, go: u16) -> bool {
 
 // Spreads over one input, and narrows the cube where it would leave the safe pairs.
 fn spread_cell(
-    block: &[u8; 1604],
-    facts: &[u16; 832],
+    block: &[u8; BLOCK],
+    facts: &[u16; FACTS],
     safe: &[u16; 16],
     cube: &mut [u32; 32],
     pairs: &mut [u16; 16],
@@ -162,8 +164,8 @@ fn spread_cell(
 
 // Spreads over the inputs at a pair.
 fn spread_pair(
-    block: &[u8; 1604],
-    facts: &[u16; 832],
+    block: &[u8; BLOCK],
+    facts: &[u16; FACTS],
     safe: &[u16; 16],
     cube: &mut [u32; 32],
     pairs: &mut [u16; 16],
@@ -185,8 +187,8 @@ fn spread_pair(
 
 // Spreads over the next pair that is new; a row without one is done with.
 fn spread_next(
-    block: &[u8; 1604],
-    facts: &[u16; 832],
+    block: &[u8; BLOCK],
+    facts: &[u16; FACTS],
     safe: &[u16; 16],
     cube: &mut [u32; 32],
     pairs: &mut [u16; 16],
@@ -210,8 +212,8 @@ fn spread_next(
 // Spreads over the pairs of states reachable under a cube, and narrows it where they would leave the safe ones; false if it
 // was narrowed. Strict: false as soon as an output can be wrong.
 fn spread(
-    block: &[u8; 1604],
-    facts: &[u16; 832],
+    block: &[u8; BLOCK],
+    facts: &[u16; FACTS],
     safe: &[u16; 16],
     cube: &mut [u32; 32],
     pairs: &mut [u16; 16],
@@ -238,8 +240,8 @@ fn spread(
 
 // Narrows the cube until the pairs reachable under it are safe.
 fn narrow(
-    block: &[u8; 1604],
-    facts: &[u16; 832],
+    block: &[u8; BLOCK],
+    facts: &[u16; FACTS],
     safe: &[u16; 16],
     cube: &mut [u32; 32],
     pairs: &mut [u16; 16],
@@ -255,8 +257,8 @@ fn narrow(
 
 // A wide cube that has the settled part, and its pairs, if the settled part conforms whatever the unsettled suspects do.
 pub fn propose(
-    block: &[u8; 1604],
-    facts: &[u16; 832],
+    block: &[u8; BLOCK],
+    facts: &[u16; FACTS],
     p: &[u8; 32],
     settled: u32,
     cube: &mut [u32; 32],

@@ -2,9 +2,11 @@
 use crate::cells::Cell;
 use crate::cells::look;
 use crate::witness::keep;
+use block::BLOCK;
 use block::inputs;
 use block::wide;
 use cubes::starts::starts;
+use cubes::tables::FACTS;
 use leaves::ANY;
 use leaves::add;
 use leaves::exact;
@@ -65,8 +67,8 @@ fn unsettled(cube: &[u32; 32], i: u8) -> bool {
 
 // One input at a pair of states.
 fn walk_cell(
-    block: &[u8; 1604],
-    facts: &[u16; 832],
+    block: &[u8; BLOCK],
+    facts: &[u16; FACTS],
     cube: &[u32; 32],
     seen: &mut [u16; 16],
     list: &mut [u8; 256],
@@ -86,8 +88,8 @@ fn walk_cell(
 
 // Every input at a pair of states.
 fn walk_pair(
-    block: &[u8; 1604],
-    facts: &[u16; 832],
+    block: &[u8; BLOCK],
+    facts: &[u16; FACTS],
     cube: &[u32; 32],
     seen: &mut [u16; 16],
     list: &mut [u8; 256],
@@ -109,8 +111,8 @@ fn walk_pair(
 
 // Every pair of states in reach.
 fn walk(
-    block: &[u8; 1604],
-    facts: &[u16; 832],
+    block: &[u8; BLOCK],
+    facts: &[u16; FACTS],
     cube: &[u32; 32],
     seen: &mut [u16; 16],
     list: &mut [u8; 256],
@@ -141,8 +143,8 @@ fn walk(
 // The first unsettled suspect on the walk of the settled part; 255 if there is none, or if a wrong output is in reach: then a
 // witness is kept.
 pub fn meet(
-    block: &[u8; 1604],
-    facts: &[u16; 832],
+    block: &[u8; BLOCK],
+    facts: &[u16; FACTS],
     p: &[u8; 32],
     settled: u32,
     notes: &mut [u16],

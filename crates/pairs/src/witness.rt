@@ -1,4 +1,5 @@
 // A witness: choices of a mutant that is sought, kept in the notes to spare questions.
+use block::BLOCK;
 use block::choices;
 use block::pair_of;
 use block::transition;
@@ -9,7 +10,7 @@ use leaves::packed;
 ghost use Prim.Native.Nat.{_<_};
 
 // The choice of a suspect that is a transition, or 256.
-fn choice_of(block: &[u8; 1604], j: u8, step: u8) -> u16
+fn choice_of(block: &[u8; BLOCK], j: u8, step: u8) -> u16
     requires { ⌜ j < 32 ⌝ }
 {
     let k = pair_of(block, j);
@@ -26,7 +27,7 @@ fn choice_of(block: &[u8; 1604], j: u8, step: u8) -> u16
 }
 
 // The last choice of a suspect with another output than o, or 256.
-fn wrong_choice(block: &[u8; 1604], j: u8, o: u8) -> u16
+fn wrong_choice(block: &[u8; BLOCK], j: u8, o: u8) -> u16
     requires { ⌜ j < 32 ⌝ }
 {
     let k = pair_of(block, j);
@@ -42,7 +43,7 @@ fn wrong_choice(block: &[u8; 1604], j: u8, o: u8) -> u16
 }
 
 // What a witness says of a suspect: at one that can be wrong the last choice that is.
-fn noted(block: &[u8; 1604], p: &[u8; 32], settled: u32, at: u8, want: u8, j: u8) -> u16
+fn noted(block: &[u8; BLOCK], p: &[u8; 32], settled: u32, at: u8, want: u8, j: u8) -> u16
     requires { ⌜ j < 32 ⌝ }
 {
     if among(settled, j) {
@@ -55,7 +56,7 @@ fn noted(block: &[u8; 1604], p: &[u8; 32], settled: u32, at: u8, want: u8, j: u8
 }
 
 // Keeps the settled part, with a wrong output where it can be, as a witness.
-pub fn keep(block: &[u8; 1604], p: &[u8; 32], settled: u32, at: u8, want: u8, notes: &mut [u16]) {
+pub fn keep(block: &[u8; BLOCK], p: &[u8; 32], settled: u32, at: u8, want: u8, notes: &mut [u16]) {
     let mut kept = [256u16; 32];
     let mut j: u8 = 0;
     while j < 32 {

@@ -3,6 +3,7 @@ use crate::node::Node;
 use crate::node::UNHINTED;
 use crate::node::child;
 use crate::tell::look;
+use block::BLOCK;
 use block::Step;
 use block::choices;
 use block::pair_of;
@@ -13,6 +14,7 @@ use cubes::gather::meet_in;
 use cubes::gather::note as add;
 use cubes::goal::Goal;
 use cubes::literals::means;
+use cubes::tables::FACTS;
 use cubes::words::holds;
 use cursors::mark_wants;
 use cursors::pick;
@@ -39,8 +41,8 @@ ghost use Rattle.refutation.specs.Branching.{Found, SplitOk, TurnOk, Joi
 
 // The suspect to settle next: one for which tests wait, else one on the way of the settled part; 255 if there is none.
 fn next_suspect(
-    block: &[u8; 1604],
-    facts: &[u16; 832],
+    block: &[u8; BLOCK],
+    facts: &[u16; FACTS],
     log: &[u16],
     notes: &mut [u16],
     node: Node,
@@ -91,7 +93,7 @@ pub(crate) struct Split {
     pub n: u16,
 }
 
-fn split_at(block: &[u8; 1604], i: u8, left: u8) -> Split
+fn split_at(block: &[u8; BLOCK], i: u8, left: u8) -> Split
     ensures { λ r. ⌜ (r .k < 256 → SplitOk (now (block .entry)) left r) ⌝ }
 {
     if i >= 32 {
@@ -113,8 +115,8 @@ fn split_at(block: &[u8; 1604], i: u8, left: u8) -> Split
 
 // The suspect to settle next, and what is said of its choices.
 fn next_split(
-    block: &[u8; 1604],
-    facts: &[u16; 832],
+    block: &[u8; BLOCK],
+    facts: &[u16; FACTS],
     log: &[u16],
     notes: &mut [u16],
     node: Node,
@@ -151,7 +153,7 @@ fn has_step(sets: &[u16; 16], step: Step) -> bool
 }
 
 // In the first round a choice of which something is said is passed over.
-fn first_turn(block: &[u8; 1604], k: usize, c: u16, done: &[u16; 16], known: &[u16; 272]) -> Turn
+fn first_turn(block: &[u8; BLOCK], k: usize, c: u16, done: &[u16; 16], known: &[u16; 272]) -> Turn
     requires { ⌜ k < 256 ⌝ }
 {
     let step = transition(block, k, c);
@@ -163,7 +165,7 @@ fn first_turn(block: &[u8; 1604], k: usize, c: u16, done: &[u16; 16], known: &[u
     }
 }
 
-fn second_turn(block: &[u8; 1604], k: usize, c: u16, done: &[u16; 16], known: &[u16; 272]) -> Turn
+fn second_turn(block: &[u8; BLOCK], k: usize, c: u16, done: &[u16; 16], known: &[u16; 272]) -> Turn
     requires { ⌜ k < 256 ⌝ }
     ensures { λ r. ⌜ TurnOk (now (block .entry)) (now (done .entry)) k c r ⌝ }
 {
@@ -175,7 +177,7 @@ fn second_turn(block: &[u8; 1604], k: usize, c: u16, done: &[u16; 16], known: &[
     }
 }
 
-fn at_turn(block: &[u8; 1604], split: Split, r: u16, done: &[u16; 16], known: &[u16; 272]) -> Turn
+fn at_turn(block: &[u8; BLOCK], split: Split, r: u16, done: &[u16; 16], known: &[u16; 272]) -> Turn
     requires { ⌜ split .k < 256 ⌝ }
     ensures { λ t. ⌜ (split .n ≤ r → TurnOk (now (block .entry)) (now (done .entry)) (split .k) (r - split .n) t) ⌝ }
 {
@@ -197,8 +199,8 @@ fn final_at(ok: bool, cube: &[u32; 32], i: u8) -> bool
 
 // Joins a cube that has a choice to the others; false if it has not, or does not speak of its suspect.
 fn join(
-    block: &[u8; 1604],
-    facts: &[u16; 832],
+    block: &[u8; BLOCK],
+    facts: &[u16; FACTS],
     cube: &[u32; 32],
     k: usize,
     step: Step,
@@ -242,8 +244,8 @@ fn finish(store: &mut [u32], notes: &mut [u16], all: &[u32; 32], i: u8) -> Told
 
 // Refutes a node. First the choices of which nothing is said, then the others.
 pub(crate) fn explore(
-    block: &[u8; 1604],
-    facts: &[u16; 832],
+    block: &[u8; BLOCK],
+    facts: &[u16; FACTS],
     log: &[u16],
     goal: Goal,
     store: &mut [u32],

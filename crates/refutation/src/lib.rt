@@ -6,8 +6,10 @@ mod node;
 mod prefix;
 mod tell;
 
+use block::BLOCK;
 use branch::explore;
 use cubes::goal::Goal;
+use cubes::tables::FACTS;
 use cubes::tables::enter_all;
 use cursors::find_tests;
 use cursors::start_cursors;
@@ -27,7 +29,7 @@ ghost use Rattle.refutation.specs.Store.{StoreOk};
 ghost use Rattle.refutation.specs.Refuting.{Ready};
 
 // Fills the facts of a block and a log; false where it has none.
-pub fn prepare(block: &[u8; 1604], log: &[u16], facts: &mut [u16; 832]) -> bool
+pub fn prepare(block: &[u8; BLOCK], log: &[u16], facts: &mut [u16; FACTS]) -> bool
     requires { ⌜ Wf (now block) × (length (now facts) ≡ 832) ⌝ }
     ensures { λ r. ⌜ (r ≡ true → Ready (now (block .entry)) (now (facts .exit))) ⌝ }
 {
@@ -39,8 +41,8 @@ pub fn prepare(block: &[u8; 1604], log: &[u16], facts: &mut [u16; 832]) -> bool
 
 // Whether no mutant with all the choices of the prefix is sought; false promises nothing.
 pub fn none_from(
-    block: &[u8; 1604],
-    facts: &[u16; 832],
+    block: &[u8; BLOCK],
+    facts: &[u16; FACTS],
     log: &[u16],
     goal: Goal,
     store: &mut [u32],

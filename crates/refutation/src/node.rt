@@ -1,4 +1,5 @@
 // Nodes of the search: settled parts of mutants.
+use block::BLOCK;
 use block::Step;
 use block::pair_of;
 use block::site;
@@ -39,7 +40,7 @@ pub(crate) fn child(node: Node, i: u8, step: Step, hint: u16) -> Node
 }
 
 // The transition of a choice of a suspect.
-fn step_of(block: &[u8; 1604], j: u8, c: u16) -> u8
+fn step_of(block: &[u8; BLOCK], j: u8, c: u16) -> u8
     requires { ⌜ j < 32 ⌝ }
 {
     let step = transition(block, pair_of(block, j), c);
@@ -47,7 +48,7 @@ fn step_of(block: &[u8; 1604], j: u8, c: u16) -> u8
 }
 
 // The set with a slot of the prefix, if it is a suspect that is settled.
-fn settled_with(block: &[u8; 1604], set: u32, j: u8, c: u16) -> u32
+fn settled_with(block: &[u8; BLOCK], set: u32, j: u8, c: u16) -> u32
     requires { ⌜ j < 32 ⌝ }
 {
     if c == 256 {
@@ -60,7 +61,7 @@ fn settled_with(block: &[u8; 1604], set: u32, j: u8, c: u16) -> u32
 }
 
 // The node of a prefix.
-pub(crate) fn root(block: &[u8; 1604], prefix: &[u16; 32]) -> Node {
+pub(crate) fn root(block: &[u8; BLOCK], prefix: &[u16; 32]) -> Node {
     let mut p = [0u8; 32];
     let mut settled: u32 = 0;
     let mut j: u8 = 0;

@@ -1,4 +1,5 @@
 // Whether a cube has every mutant with the choices of a prefix.
+use block::BLOCK;
 use block::site;
 use block::transition;
 use block::wide;
@@ -11,7 +12,7 @@ ghost use Rattle.block.specs.Tabulated.{Wf};
 ghost use Rattle.refutation.specs.Branching.{PairHas, PrefixIn};
 
 // One pair.
-fn pair_has(block: &[u8; 1604], cube: &[u32; 32], prefix: &[u16; 32], k: usize) -> bool
+fn pair_has(block: &[u8; BLOCK], cube: &[u32; 32], prefix: &[u16; 32], k: usize) -> bool
     requires { ⌜ Wf (now block) × (k < 256) ⌝ }
     ensures { λ r. ⌜ (r ≡ true → PairHas (now (block .entry)) (now (cube .entry)) (now (prefix .entry)) k) ⌝ }
 {
@@ -38,7 +39,7 @@ fn pair_has(block: &[u8; 1604], cube: &[u32; 32], prefix: &[u16; 32], k: usize) 
     means(l, step.output, t)
 }
 
-pub(crate) fn has_prefix(block: &[u8; 1604], cube: &[u32; 32], prefix: &[u16; 32]) -> bool
+pub(crate) fn has_prefix(block: &[u8; BLOCK], cube: &[u32; 32], prefix: &[u16; 32]) -> bool
     requires { ⌜ Wf (now block) ⌝ }
     ensures { λ r. ⌜ (r ≡ true → PrefixIn (now (block .entry)) (now (cube .entry)) (now (prefix .entry))) ⌝ }
 {

@@ -1,9 +1,11 @@
 // What is known of a settled part: by a test, by an entry of the store, or by pairs of states.
 use crate::node::Node;
+use block::BLOCK;
 use block::wide16;
 use cubes::conform::closed;
 use cubes::failing::fails;
 use cubes::goal::Goal;
+use cubes::tables::FACTS;
 use cursors::FROM_TEST;
 use cursors::advance_all;
 use cursors::propose_fail;
@@ -27,7 +29,7 @@ ghost use Rattle.refutation.specs.Refuting.{Ready};
 ghost use Rattle.refutation.specs.Branching.{Found};
 
 // That no mutant of a proposal gives a test's part of the log.
-fn by_test(block: &[u8; 1604], facts: &[u16; 832], log: &[u16], node: Node, t: usize) -> Told
+fn by_test(block: &[u8; BLOCK], facts: &[u16; FACTS], log: &[u16], node: Node, t: usize) -> Told
     requires { ⌜ Ready (now block) (now facts) ⌝ }
     ensures { λ r. ⌜ ((goal : Sort) → ToldOk goal (now (block .entry)) (now (log .entry)) r) ⌝ }
 {
@@ -38,7 +40,7 @@ fn by_test(block: &[u8; 1604], facts: &[u16; 832], log: &[u16], node: Node, t: u
 }
 
 // That every mutant of a proposal conforms.
-fn by_conforming(block: &[u8; 1604], facts: &[u16; 832], node: Node) -> Told
+fn by_conforming(block: &[u8; BLOCK], facts: &[u16; FACTS], node: Node) -> Told
     requires { ⌜ Ready (now block) (now facts) ⌝ }
     ensures { λ r. ⌜ (r .ok ≡ true → AllConform (now (block .entry)) (r .cube)) ⌝ }
 {
@@ -52,7 +54,7 @@ fn by_conforming(block: &[u8; 1604], facts: &[u16; 832], node: Node) -> Told
 }
 
 // The same, where a nonconforming mutant is sought.
-fn by_pairs(block: &[u8; 1604], facts: &[u16; 832], goal: Goal, node: Node) -> Told
+fn by_pairs(block: &[u8; BLOCK], facts: &[u16; FACTS], goal: Goal, node: Node) -> Told
     requires { ⌜ Ready (now block) (now facts) ⌝ }
     ensures { λ r. ⌜ ((log : List ℕ) → ToldOk goal (now (block .entry)) log r) ⌝ }
 {
@@ -64,8 +66,8 @@ fn by_pairs(block: &[u8; 1604], facts: &[u16; 832], goal: Goal, node: Node) -> T
 
 // What the node's hint says: a test, or an entry of the store.
 fn by_hint(
-    block: &[u8; 1604],
-    facts: &[u16; 832],
+    block: &[u8; BLOCK],
+    facts: &[u16; FACTS],
     log: &[u16],
     store: &mut [u32],
     node: Node,
@@ -82,8 +84,8 @@ fn by_hint(
 
 // What the store and the pairs of states say, where no test fails.
 fn consult(
-    block: &[u8; 1604],
-    facts: &[u16; 832],
+    block: &[u8; BLOCK],
+    facts: &[u16; FACTS],
     goal: Goal,
     store: &mut [u32],
     notes: &mut [u16],
@@ -103,8 +105,8 @@ fn consult(
 
 // What its hint, the tests, the store and the pairs of states say of a node.
 pub(crate) fn look(
-    block: &[u8; 1604],
-    facts: &[u16; 832],
+    block: &[u8; BLOCK],
+    facts: &[u16; FACTS],
     log: &[u16],
     goal: Goal,
     store: &mut [u32],

@@ -11,8 +11,8 @@ use lib.Seq.{take-at, length-take-le}
 use Rattle.sheet.specs.Sheet.{Sheet, openPairs}
 use Rattle.sheet.specs.Reading.{Result, accepted, refused, Reading, reading, summaryOf}
 use Rattle.sheet.specs.Tables.{readAnswer}
-use Rattle.sheet.specs.laws.Basics.{never}
-use Rattle.sheet.specs.laws.Accepted.{well-formed}
+use Rattle.lists.specs.laws.TestLaw.{never}
+use Rattle.sheet.specs.laws.AcceptedLaw.{well-formed}
 use Rattle.model.specs.Mutant.{slots}
 use Rattle.model.specs.Suite.{Judgement, complete, survivor, judgeOf}
 use Rattle.model.specs.Operations.{reads, refuseIf, judging, judgeOn}
@@ -20,7 +20,7 @@ use Rattle.model.specs.laws.JudgeLaw.{judged-survivor}
 use Rattle.model.specs.laws.OperationLaw.{mutant-length}
 use Rattle.model.specs.laws.SuspectLaw.{slot-count}
 use Rattle.mutation.specs.declared.verdict.Judged.the-variants as judged
-use Rattle.sheet.specs.Lists.{overlay}
+use Rattle.lists.specs.Lists.{overlay}
 use Rattle.mutation.specs.Judging.{judgedAnswer, boardWrites, sequenceWrites}
 use Rattle.report.specs.Text.{Appended, completeText, survivorLines, refusedLine, textOf, textIn, suspectsIn}
 use Rattle.report.specs.laws.TextLaw.{appended-none}

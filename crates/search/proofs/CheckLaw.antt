@@ -8,14 +8,14 @@ use mathlib.Core.Option.{Option, none, some}
 use mathlib.Core.List.{List, _∷_, _++_}
 use lib.ListN.{length, getD, take, drop, set, length-append, length-drop}
 use lib.Seq.{take-suc, take-at, drop-cons, append-snoc, set-at, length-take-le, getD-take}
-use Rattle.sheet.specs.Lists.{overlay}
+use Rattle.lists.specs.Lists.{overlay}
 use Rattle.sheet.specs.Sheet.{Sheet}
-use Rattle.sheet.specs.laws.Basics.{never}
+use Rattle.lists.specs.laws.TestLaw.{never}
 use Rattle.model.specs.Mutant.{slots, IsMutant, step, initial}
-use Rattle.model.specs.Compare.{comparePair}
+use Rattle.model.specs.Compare.{comparePair, found}
 use Rattle.model.specs.Suite.{Place, firstFailedOf, compareOf}
 use Rattle.model.specs.Log.{failedIn}
-use Rattle.model.specs.laws.Closed.{start-below}
+use Rattle.model.specs.laws.StaysLaw.{start-below}
 use Rattle.model.specs.laws.SuspectLaw.{slot-count}
 use Rattle.model.specs.laws.OperationLaw.{mutant-length, in-range-at}
 use Rattle.block.specs.Layout.{statesOf, slotsOf}
@@ -30,7 +30,7 @@ use Rattle.logs.specs.laws.WalkedLaw.{walked-failed}
 use Rattle.machine.specs.declared.distance.Difference.{Difference}
 use Rattle.machine.specs.declared.distance.Difference.the-variants as difference
 use Rattle.machine.specs.declared.laying.Machine.{Machine}
-use Rattle.machine.specs.Differences.{differenceOf, found}
+use Rattle.machine.specs.Differences.{differenceOf}
 use Rattle.machine.specs.Laid.{Chosen, Settles, Moves}
 use Rattle.machine.specs.Tables.{tables, Valid}
 use Rattle.machine.specs.Fits.{Machined}

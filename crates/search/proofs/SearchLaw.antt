@@ -11,10 +11,10 @@ use borrow.Author.Count.{below-more}
 use denote.Enum.Declared.{tagOf}
 use lib.ListN.{length, getD, set, length-set, length-replicate, getD-replicate, List·getD-eq-default}
 use lib.Seq.{getD-set-same, getD-set-other, getD-take, length-take-le, ext-getD}
-use Rattle.sheet.specs.Lists.{Before}
+use Rattle.lists.specs.Lists.{Before}
 use Rattle.sheet.specs.Sheet.{Sheet}
-use Rattle.sheet.specs.laws.Basics.{never}
-use Rattle.sheet.specs.laws.Rows.{before-irreflexive}
+use Rattle.lists.specs.laws.TestLaw.{never}
+use Rattle.sheet.specs.laws.RowLaw.{before-irreflexive}
 use Rattle.model.specs.Mutant.{slots, IsMutant}
 use Rattle.model.specs.Suite.{compareOf}
 use Rattle.model.specs.laws.JudgeLaw.{some-nonconforming}

@@ -5,7 +5,7 @@ use mathlib.Core.Bool.{Bool, true, false}
 use mathlib.Core.Option.{Option, none}
 use mathlib.Core.List.{List}
 use lib.ListN.{length, getD, take, replicate}
-use Rattle.sheet.specs.Lists.{Before}
+use Rattle.lists.specs.Lists.{Before}
 use Rattle.sheet.specs.Sheet.{Sheet}
 use Rattle.model.specs.Mutant.{slots, IsMutant}
 use Rattle.model.specs.Suite.{Passes, compareOf}

@@ -3,7 +3,7 @@ use Prim.Native.Nat.{ℕ, _*_, _≤_}
 use mathlib.Core.Path.{_≡_}
 use mathlib.Core.List.{List}
 use lib.ListN.{length}
-use Rattle.sheet.specs.Lists.{overlay}
+use Rattle.lists.specs.Lists.{overlay}
 use Rattle.sheet.specs.Sheet.{Sheet}
 use Rattle.model.specs.Mutant.{IsMutant}
 use Rattle.model.specs.Suite.{compareOf}
@@ -11,7 +11,8 @@ use Rattle.block.specs.Layout.{statesOf, slotsOf}
 use Rattle.block.specs.Tabled.{Tabled}
 use Rattle.cubes.specs.declared.goal.Goal.{Goal}
 use Rattle.machine.specs.declared.distance.Difference.{Difference}
-use Rattle.machine.specs.Differences.{differenceOf, found}
+use Rattle.model.specs.Compare.{found}
+use Rattle.machine.specs.Differences.{differenceOf}
 use Rattle.search.specs.declared.attempts.Searched.{Searched}
 use Rattle.search.specs.declared.attempts.Searched.the-variants.{Nothing, First}
 use Rattle.search.specs.Search.{NoneFrom, FirstFrom, mutantIn, unsettled}

@@ -3,7 +3,9 @@ use crate::check::show;
 use crate::settle::Attempt;
 use crate::settle::Found;
 use crate::settle::search;
+use block::BLOCK;
 use cubes::goal::Goal;
+use cubes::tables::FACTS;
 use leaves::LONG;
 use leaves::SHORT;
 use machine::Difference;
@@ -31,10 +33,10 @@ fn unsettled() -> [u16; 32]
     [256u16; 32]
 }
 
-fn no_facts() -> [u16; 832]
+fn no_facts() -> [u16; FACTS]
     ensures { λ r. ⌜ r ≡ replicate 832 0 ⌝ }
 {
-    [0u16; 832]
+    [0u16; FACTS]
 }
 
 // The notes of a quick attempt, and of a thorough one.
@@ -47,7 +49,7 @@ fn long_notes() -> [u16; LONG] {
 }
 
 // The first wanted mutant by a search with a store of refutations.
-fn find_thoroughly(block: &[u8; 1604], log: &[u16], goal: Goal, nodes: &mut u32) -> Attempt
+fn find_thoroughly(block: &[u8; BLOCK], log: &[u16], goal: Goal, nodes: &mut u32) -> Attempt
     requires { ⌜ ((sh : Sheet) × ForSheet sh (now block) (now log)) ⌝ }
     ensures { λ r. ⌜ ((sh : Sheet) → ForSheet sh (now (block .entry)) (now (log .entry)) → Answers goal sh nothingSettled 0 (r .found) (r .choices)) ⌝ }
     ensures { λ r. ⌜ (r .found ≡ GaveUp → ⊥) ⌝ }
@@ -72,7 +74,7 @@ fn find_thoroughly(block: &[u8; 1604], log: &[u16], goal: Goal, nodes: &mut u32)
 }
 
 // The same; first by a quick search, which needs no facts, keeps no refutations and may give up.
-fn find(block: &[u8; 1604], log: &[u16], goal: Goal, nodes: &mut u32) -> Attempt
+fn find(block: &[u8; BLOCK], log: &[u16], goal: Goal, nodes: &mut u32) -> Attempt
     requires { ⌜ ((sh : Sheet) × ForSheet sh (now block) (now log)) ⌝ }
     ensures { λ r. ⌜ ((sh : Sheet) → ForSheet sh (now (block .entry)) (now (log .entry)) → Answers goal sh nothingSettled 0 (r .found) (r .choices)) ⌝ }
     ensures { λ r. ⌜ (r .found ≡ GaveUp → ⊥) ⌝ }
@@ -102,7 +104,7 @@ fn find(block: &[u8; 1604], log: &[u16], goal: Goal, nodes: &mut u32) -> Attempt
 // The first mutant in dictionary order that gives the log and meets the goal, with what tells it from the specification, at the
 // buffers' fronts; and how many nodes the engine looked at, which is free.
 pub fn first(
-    block: &[u8; 1604],
+    block: &[u8; BLOCK],
     log: &[u16],
     goal: Goal,
     board: &mut [u8],

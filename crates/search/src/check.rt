@@ -1,4 +1,5 @@
 // A mutant with all its choices: whether it is wanted, and what is shown of it.
+use block::BLOCK;
 use block::initial;
 use block::slots;
 use block::wide;
@@ -13,7 +14,7 @@ use machine::machine_of;
 ghost use mathlib.Core.Path.{_≡_};
 ghost use Prim.Native.Nat.{ℕ, _<_, _≤_};
 ghost use lib.ListN.{length, getD, take};
-ghost use Rattle.sheet.specs.Lists.{overlay};
+ghost use Rattle.lists.specs.Lists.{overlay};
 ghost use Rattle.sheet.specs.Sheet.{Sheet};
 ghost use Rattle.model.specs.Compare.{comparePair};
 ghost use Rattle.model.specs.Mutant.{slots as slotsOf};
@@ -24,7 +25,7 @@ ghost use Rattle.search.specs.Shown.{Room, Showing, Written};
 
 // Whether the machine in the tables meets the goal.
 fn meets<'a>(
-    block: &[u8; 1604],
+    block: &[u8; BLOCK],
     goal: Goal,
     outputs: &'a [u8; 256],
     targets: &'a [u8; 256],
@@ -46,7 +47,7 @@ fn meets<'a>(
 }
 
 // Whether the mutant with the choices p gives the log and meets the goal.
-pub(crate) fn wanted(block: &[u8; 1604], log: &[u16], goal: Goal, p: &[u16; 32]) -> bool
+pub(crate) fn wanted(block: &[u8; BLOCK], log: &[u16], goal: Goal, p: &[u16; 32]) -> bool
     requires { ⌜ ((sh : Sheet) × Searching sh (now block) (now log) (now p) (length (slotsOf sh))) ⌝ }
     ensures { λ r. ⌜ ((sh : Sheet) → Searching sh (now (block .entry)) (now (log .entry)) (now (p .entry)) (length (slotsOf sh)) → Decides (Wanted goal sh (mutantIn sh (now (p .entry)))) r) ⌝ }
 {
@@ -74,7 +75,7 @@ fn write_choices(p: &[u16; 32], n: usize, board: &mut [u8])
 
 // Writes the mutant with the choices p, and what tells it from the specification, at the buffers' fronts.
 pub(crate) fn show(
-    block: &[u8; 1604],
+    block: &[u8; BLOCK],
     p: &[u16; 32],
     board: &mut [u8],
     sequence: &mut [u8],

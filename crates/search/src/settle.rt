@@ -1,9 +1,11 @@
 // The first wanted mutant in dictionary order: the slots are settled one after another.
 use crate::check::wanted;
+use block::BLOCK;
 use block::choices;
 use block::slots;
 use block::wide;
 use cubes::goal::Goal;
+use cubes::tables::FACTS;
 use refutation::none_from;
 use walks::spent;
 ghost use mathlib.Core.Path.{_≡_};
@@ -32,8 +34,8 @@ pub(crate) struct Attempt {
 
 // Whether the prefix is refuted: without a store by walks along the log, with one by the facts, where there are any.
 fn refuted(
-    block: &[u8; 1604],
-    facts: &[u16; 832],
+    block: &[u8; BLOCK],
+    facts: &[u16; FACTS],
     ready: bool,
     log: &[u16],
     goal: Goal,
@@ -72,8 +74,8 @@ fn settled(wanted: bool, p: [u16; 32]) -> Attempt
 // The first wanted mutant of those that begin as p's first i choices. Without a store it gives up where its notes are spent.
 // The number still unsettled falls.
 pub(crate) fn search(
-    block: &[u8; 1604],
-    facts: &[u16; 832],
+    block: &[u8; BLOCK],
+    facts: &[u16; FACTS],
     ready: bool,
     log: &[u16],
     goal: Goal,

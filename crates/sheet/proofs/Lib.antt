@@ -1,13 +1,13 @@
-mod Laws
-mod RuleLaws
-mod FaultLaws
-mod PressLaws
-mod StateLaws
-mod EndLaws
-mod StepLaws
-mod FetchLaws
-mod ScanLaws
-pub mod PlaceLaws
-mod PartLaws
-mod FillLaws
-mod LoadLaws
+mod RowTableLaw
+mod RuleLaw
+mod FaultLaw
+mod PressLaw
+mod StateLaw
+mod EndLaw
+mod ObeyLaw
+mod FetchLaw
+mod ScanLaw
+pub mod PlaceLaw
+mod SpanLaw
+mod FillLaw
+mod LoadLaw

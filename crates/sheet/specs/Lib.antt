@@ -1,11 +1,8 @@
-pub mod Lists
 pub mod Sheet
 pub mod Reading
 pub mod Encode
 pub mod Part
 pub mod Tables
 pub mod WellFormed
-pub mod Fetch
-pub mod Held
-pub mod Places
+pub mod words
 pub mod laws

@@ -8,7 +8,7 @@ use lib.ListN.{length, getD}
 use Rattle.sheet.specs.declared.Row.{Row}
 use Rattle.sheet.specs.declared.Size.{Size}
 use Rattle.sheet.specs.declared.Summary.{Summary}
-use Rattle.sheet.specs.Lists.{maybe, isNone, last, precedes}
+use Rattle.lists.specs.Lists.{maybe, isNone, last, precedes}
 use Rattle.sheet.specs.Sheet.{Sheet, pairOf, rowOf, ruleAt, after, allReached, openPairs}
 
 -- an answer, or a refusal's number and place

@@ -7,7 +7,7 @@ use lib.Dec.{eqb, ltb}
 use lib.ListN.{length}
 use Rattle.sheet.specs.declared.Row.{Row}
 use Rattle.sheet.specs.declared.Size.{Size}
-use Rattle.sheet.specs.Lists.{maybe, first, any, all, count}
+use Rattle.lists.specs.Lists.{maybe, first, any, all, count}
 
 pub record Sheet : Type 0 where
   pub size : Size

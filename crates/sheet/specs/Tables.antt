@@ -13,7 +13,7 @@ use Rattle.sheet.specs.declared.Parting.the-variants as part
 use Rattle.sheet.specs.declared.Span.{Span}
 use Rattle.sheet.specs.declared.Tables.{Tables}
 use Rattle.sheet.specs.declared.Loaded.{Loaded}
-use Rattle.sheet.specs.Lists.{maybe, isNone, first, upTo}
+use Rattle.lists.specs.Lists.{maybe, isNone, first, upTo}
 use Rattle.sheet.specs.Sheet.{Sheet, isAt, rowsAt, ruleAt, choicesAt}
 use Rattle.sheet.specs.Reading.{Result, accepted, refused, Reading, summaryOf}
 use Rattle.sheet.specs.Part.{spanOf}

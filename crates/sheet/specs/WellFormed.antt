@@ -6,7 +6,7 @@ use mathlib.Core.List.{List}
 use lib.ListN.{length}
 use Rattle.sheet.specs.declared.Row.{Row}
 use Rattle.sheet.specs.declared.Size.{Size}
-use Rattle.sheet.specs.Lists.{All, Ascending, Before}
+use Rattle.lists.specs.Lists.{All, Ascending, Before}
 use Rattle.sheet.specs.Sheet.{Sheet, pairOf, rowOf, ruleAt, after, openPairs}
 
 pub record OneTo16 (n : ℕ) : Type 0 where

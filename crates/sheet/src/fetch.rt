@@ -3,7 +3,7 @@ ghost use mathlib.Core.Path.{_≡_};
 ghost use Prim.Native.Nat.{_+_, _≤_};
 ghost use lib.ListN.{length};
 ghost use Rattle.sheet.specs.Reading.{width};
-ghost use Rattle.sheet.specs.Fetch.{operandOf, fetchAt, noItem, itemIn};
+ghost use Rattle.sheet.specs.words.Fetch.{operandOf, fetchAt, noItem, itemIn};
 
 // The sheet and the place of the next command, together.
 pub(crate) struct Reader<'a> {

@@ -4,10 +4,10 @@ ghost use mathlib.Core.Bool.{Bool, _||_, _&&_};
 ghost use mathlib.Core.List.{List};
 ghost use Prim.Native.Nat.{ℕ, _<_, _≤_};
 ghost use lib.ListN.{length};
-ghost use Rattle.sheet.specs.Lists.{any, all, count};
+ghost use Rattle.lists.specs.Lists.{any, all, count};
 ghost use Rattle.sheet.specs.Sheet.{Sheet, leads, allReached, isOpen, openPairs};
 ghost use Rattle.sheet.specs.Reading.{finishing};
-ghost use Rattle.sheet.specs.Held.{Within16, Leads, Marks, Follows, Linked, endOf};
+ghost use Rattle.sheet.specs.words.Held.{Within16, Leads, Marks, Follows, Linked, endOf};
 use crate::Row;
 use crate::Size;
 

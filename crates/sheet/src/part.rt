@@ -1,7 +1,7 @@
 // Where the PRESS commands of a test stand, in a sheet that was read before.
 ghost use Prim.Native.Nat.{_≤_};
 ghost use lib.ListN.{length};
-ghost use Rattle.sheet.specs.Places.{PressesFrom, TestAt, TestFrom};
+ghost use Rattle.sheet.specs.words.Places.{PressesFrom, TestAt, TestFrom};
 use crate::Span;
 use crate::fetch::fetch_from;
 use crate::fetch::item_in;

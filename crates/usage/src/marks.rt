@@ -4,10 +4,11 @@ ghost use Prim.Native.Nat.{_<_, _^_};
 ghost use lib.Bits.{bitOr};
 ghost use Rattle.model.specs.Used.{mark};
 ghost use Rattle.usage.specs.Marks.{slotAt, startSlotOf};
+use block::BLOCK;
 use block::site;
 
 // What is used before the first step: the slot that says where a mutant starts, if there is one.
-pub fn start_set(block: &[u8; 1604]) -> u32
+pub fn start_set(block: &[u8; BLOCK]) -> u32
     ensures { λ r. ⌜ r ≡ mark 0 (startSlotOf (now (block .entry))) ⌝ }
 {
     0
@@ -21,7 +22,7 @@ fn with(set: u32, i: u8) -> u32
 }
 
 // The set with the slot that the pair k uses, if it uses one.
-pub fn marked(block: &[u8; 1604], set: u32, k: usize) -> u32
+pub fn marked(block: &[u8; BLOCK], set: u32, k: usize) -> u32
     requires { ⌜ k < 256 ⌝ }
     ensures { λ r. ⌜ r ≡ mark set (slotAt (now (block .entry)) k) ⌝ }
 {

@@ -1,6 +1,7 @@
 // The slots that tests use, by a sheet's bytes and the tables of where each test starts and how many inputs it has.
 use crate::marks::marked;
 use crate::marks::start_set;
+use block::BLOCK;
 use block::some_place;
 use block::wide16;
 use logs::Wrong;
@@ -18,7 +19,7 @@ fn mark_test(
     sheet: &[u8],
     start: usize,
     inputs: usize,
-    block: &[u8; 1604],
+    block: &[u8; BLOCK],
     targets: &[u8; 256],
     initial: u8,
     set: u32,
@@ -46,7 +47,7 @@ fn use_tests<'a>(
     starts: &'a [u16; 256],
     lengths: &'a [u16; 256],
     tests: usize,
-    block: &[u8; 1604],
+    block: &[u8; BLOCK],
     targets: &[u8; 256],
     initial: u8,
 ) -> u32
@@ -77,7 +78,7 @@ pub fn use_tried<'a>(
     lengths: &'a [u16; 256],
     tests: usize,
     wrong: Wrong,
-    block: &[u8; 1604],
+    block: &[u8; BLOCK],
     targets: &[u8; 256],
     initial: u8,
 ) -> u32

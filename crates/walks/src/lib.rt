@@ -1,11 +1,13 @@
-// The quick first attempt to refute a prefix of choices: the log is walked with the settled suspects, and split at the first
-// unsettled one that the walk meets. No table is filled for it. For the crate `search`, which shows what it requires.
+// The quick first attempt: the log is walked with the settled suspects, and split at the first unsettled one that the walk meets.
+// Promises, where it says so, that no mutant with the choices of a prefix is sought; it fills no tables and may give up.
+// Called by `search`, which shows what it requires.
 mod effort;
 mod reach;
 mod refute;
 mod steps;
 mod walk;
 
+use block::BLOCK;
 use block::initial;
 use cubes::goal::Goal;
 pub use effort::spent;
@@ -25,7 +27,7 @@ fn hopeless(notes: &[u16], prefix: &[u16; 32]) -> bool {
 
 // Whether no mutant with all the choices of the prefix is sought; false promises nothing.
 pub fn none_from(
-    block: &[u8; 1604],
+    block: &[u8; BLOCK],
     log: &[u16],
     goal: Goal,
     notes: &mut [u16],

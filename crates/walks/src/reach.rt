@@ -1,6 +1,7 @@
 // The pairs of states, the specification's and the mutant's, that are in reach with the settled choices.
 use crate::steps::Taken;
 use crate::steps::take;
+use block::BLOCK;
 use block::initial;
 use block::inputs;
 use block::place;
@@ -76,7 +77,7 @@ fn stopped(reach: Reach, i: u8) -> Reach
 
 // One input at the pair of states k / 16 and k % 16.
 fn cell(
-    block: &[u8; 1604],
+    block: &[u8; BLOCK],
     p: &[u16; 32],
     k: u8,
     x: u8,
@@ -114,7 +115,7 @@ fn cell(
 
 // Every input at a pair of states, up to a wrong output.
 fn row(
-    block: &[u8; 1604],
+    block: &[u8; BLOCK],
     p: &[u16; 32],
     k: u8,
     rows: &mut [u16; 16],
@@ -138,7 +139,7 @@ fn row(
 }
 
 // Whether each row is within the other of its state.
-fn all_within(block: &[u8; 1604], rows: &[u16; 16], done: &[u16; 16]) -> bool
+fn all_within(block: &[u8; BLOCK], rows: &[u16; 16], done: &[u16; 16]) -> bool
     requires { ⌜ Wf (now block) ⌝ }
     ensures { λ r. ⌜ (r ≡ true → AllWithin (now (block .entry)) (now (rows .entry)) (now (done .entry))) ⌝ }
 {
@@ -161,7 +162,7 @@ fn row_of(k: u8) -> usize
 }
 
 // The pairs in reach, breadth first. Where nothing stops them, every mutant that has the choices of the suspects used conforms.
-pub(crate) fn spread(block: &[u8; 1604], p: &[u16; 32]) -> Reach
+pub(crate) fn spread(block: &[u8; BLOCK], p: &[u16; 32]) -> Reach
     requires { ⌜ Wf (now block) ⌝ }
     ensures { λ r. ⌜ (r .stop ≡ 255 → Conform (now (block .entry)) (Agrees (now (p .entry)) (r .used))) ⌝ }
 {

@@ -7,6 +7,7 @@ use crate::reach::spread;
 use crate::walk::Halt;
 use crate::walk::Place;
 use crate::walk::walk;
+use block::BLOCK;
 use block::choices;
 use block::wide;
 use cubes::goal::Goal;
@@ -36,7 +37,7 @@ fn unknown() -> Told
 }
 
 // By the pairs of states, at the end of the log.
-fn by_pairs(block: &[u8; 1604], notes: &mut [u16], p: &[u16; 32], place: Place) -> Halt
+fn by_pairs(block: &[u8; BLOCK], notes: &mut [u16], p: &[u16; 32], place: Place) -> Halt
     requires { ⌜ Wf (now block) ⌝ }
     ensures { λ r. ⌜ ((log : List ℕ) → Stands (now (block .entry)) log (now (p .entry)) place → Halts Nonconforming (now (block .entry)) log (now (p .entry)) r) ⌝ }
 {
@@ -54,7 +55,7 @@ fn by_pairs(block: &[u8; 1604], notes: &mut [u16], p: &[u16; 32], place: Place) 
 
 // By the log and then, where a nonconforming mutant is sought, by the pairs; nothing where the budget is spent.
 fn look(
-    block: &[u8; 1604],
+    block: &[u8; BLOCK],
     log: &[u16],
     goal: Goal,
     notes: &mut [u16],
@@ -91,7 +92,7 @@ fn told_of(halt: Halt) -> Told
 }
 
 // How many choices an unsettled suspect has; 0 for any other number, and where no more may be settled.
-fn to_settle(block: &[u8; 1604], p: &[u16; 32], i: u8, left: u8) -> u16
+fn to_settle(block: &[u8; BLOCK], p: &[u16; 32], i: u8, left: u8) -> u16
     ensures { λ r. ⌜ (0 < r → SplitOk (now (block .entry)) (now (p .entry)) i left r) ⌝ }
 {
     if i >= 32 {
@@ -119,7 +120,7 @@ fn is_final(told: Told, i: u8) -> bool
 
 // Refutes the settled part p, with the walk at a place. `left` falls: so many more may be settled.
 pub(crate) fn refute(
-    block: &[u8; 1604],
+    block: &[u8; BLOCK],
     log: &[u16],
     goal: Goal,
     notes: &mut [u16],

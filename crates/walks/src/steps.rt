@@ -1,4 +1,5 @@
 // What the settled choices do at a pair of a state and an input.
+use block::BLOCK;
 use block::Step;
 use block::site;
 use block::transition;
@@ -14,7 +15,7 @@ pub(crate) enum Taken {
     Waits(u8),
 }
 
-pub(crate) fn take(block: &[u8; 1604], p: &[u16; 32], k: usize, used: u32) -> Taken
+pub(crate) fn take(block: &[u8; BLOCK], p: &[u16; 32], k: usize, used: u32) -> Taken
     requires { ⌜ Wf (now block) × (k < 256) ⌝ }
     ensures { λ r. ⌜ TakenOk (now (block .entry)) (now (p .entry)) k used r ⌝ }
 {

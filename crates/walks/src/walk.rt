@@ -1,6 +1,7 @@
 // The walk of the log with the settled choices.
 use crate::steps::Taken;
 use crate::steps::take;
+use block::BLOCK;
 use block::initial;
 use block::inputs;
 use block::some_place;
@@ -28,7 +29,7 @@ pub(crate) enum Halt {
 }
 
 // One observation: `Ends` tells where the walk stands after it.
-fn observe(block: &[u8; 1604], log: &[u16], p: &[u16; 32], place: Place) -> Halt
+fn observe(block: &[u8; BLOCK], log: &[u16], p: &[u16; 32], place: Place) -> Halt
     requires { ⌜ Wf (now block) × Stands (now block) (now log) (now p) place × (place .at < length (now log)) ⌝ }
     ensures { λ r. ⌜ ((goal : Goal) → Halts goal (now (block .entry)) (now (log .entry)) (now (p .entry)) r) × GoesTo (place .at + 1) r ⌝ }
 {
@@ -65,7 +66,7 @@ fn observe(block: &[u8; 1604], log: &[u16], p: &[u16; 32], place: Place) -> Halt
 }
 
 // Walks the log from a place on.
-pub(crate) fn walk(block: &[u8; 1604], log: &[u16], p: &[u16; 32], from: Place) -> Halt
+pub(crate) fn walk(block: &[u8; BLOCK], log: &[u16], p: &[u16; 32], from: Place) -> Halt
     requires { ⌜ Wf (now block) × Stands (now block) (now log) (now p) from ⌝ }
     ensures { λ r. ⌜ ((goal : Goal) → Halts goal (now (block .entry)) (now (log .entry)) (now (p .entry)) r) ⌝ }
 {

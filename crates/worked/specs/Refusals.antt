@@ -4,7 +4,7 @@ use Prim.Native.Nat.{ℕ, suc, _/_, _%_}
 use mathlib.Core.Path.{_≡_, refl}
 use mathlib.Core.List.{List, [], _∷_, _++_, map}
 use lib.ListN.{replicate}
-use Rattle.sheet.specs.Lists.{last, precedes, count, any, all, upTo, joined}
+use Rattle.lists.specs.Lists.{last, precedes, count, any, all, upTo, joined}
 use Rattle.sheet.specs.Sheet.{rowsAt, ruleAt, after, leads, reachedWithin, allReached, unruledChoices, choicesAt, isOpen, openBelow, openPairs}
 use Rattle.sheet.specs.Reading.{refused, firstBroken, ascends, lastTest, ruleAfter, refusal, addPress, advance, finishing, doing, oneCommand, from, blank, reading}
 use Rattle.sheet.specs.Encode.{pressBytes}

@@ -8,12 +8,12 @@ use lib.Dec.{lit<}
 use lib.ListN.{length, replicate}
 use Rattle.sheet.specs.declared.Summary.{Summary}
 use Rattle.sheet.specs.declared.Span.{Span}
-use Rattle.sheet.specs.Lists.{last, precedes, count, any, all, upTo, joined}
+use Rattle.lists.specs.Lists.{last, precedes, count, any, all, upTo, joined}
 use Rattle.sheet.specs.Sheet.{Sheet, rowsAt, ruleAt, after, leads, reachedWithin, allReached, unruledChoices, choicesAt, isOpen, openBelow, openPairs}
 use Rattle.sheet.specs.Reading.{Result, accepted, refused, firstBroken, ascends, lastTest, ruleAfter, refusal, addPress, advance, finishing, doing, oneCommand, from, blank, reading, summaryOf}
 use Rattle.sheet.specs.Encode.{rowBytes, pressBytes, testBytes, sizeBytes, machineBytes}
 use Rattle.sheet.specs.Part.{spanOf, parting}
-use Rattle.sheet.specs.laws.Accepted.{well-formed}
+use Rattle.sheet.specs.laws.AcceptedLaw.{well-formed}
 use lib.Count.{ones}
 use Rattle.model.specs.Machine.{outputsFrom}
 use Rattle.model.specs.Mutant.{rule, unruled, transitions, Suspect, suspects, slots, siteIn, siteOf, choiceLists, mutants, acts, step, initial, startSlot, outputs}
@@ -22,7 +22,7 @@ use Rattle.model.specs.Compare.{least, shows, within, best, shortest, distance,
 use Rattle.model.specs.Suite.{Judgement, complete, survivor, wrongFrom, wrongIn, firstFailedIn, firstFailedOf, Finding, findingOf, compareOf, survivorAmong, judgeOf}
 use Rattle.model.specs.Operations.{reads, firstHigh, firstOver, withMutant, Response, responseOf, running, failing, comparing, judging, runOn, compareOn, judgeOn}
 use Rattle.model.specs.laws.BitLaw.{ones-count}
-use Rattle.model.specs.laws.Quick.{tabulate, cellAt, rounds, compareQuick, firstQuick, judgeQuick, quick}
+use Rattle.model.specs.laws.QuickJudgeLaw.{tabulate, cellAt, rounds, compareQuick, firstQuick, judgeQuick, quick}
 use Rattle.worked.specs.Sheets.{p1machine, p1, p2, p3, emptyTest, p4machine, p4, p5, p6, p9machine, bababa, p9, p10, stuck, chain, open32, open33, manyTests}
 
 -- the sheet that was read

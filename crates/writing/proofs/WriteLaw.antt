@@ -12,16 +12,16 @@ use Rattle.sheet.specs.declared.Reading.{Reading as ReadAnswer}
 use Rattle.sheet.specs.declared.Reading.the-variants as read
 use Rattle.sheet.specs.declared.Refusal.{Refusal}
 use Rattle.sheet.specs.declared.Summary.{Summary}
-use Rattle.sheet.specs.Lists.{overlay}
+use Rattle.lists.specs.Lists.{overlay}
 use Rattle.sheet.specs.Reading.{Result, accepted, refused, Reading, reading}
 use Rattle.sheet.specs.Encode.{encode}
 use Rattle.sheet.specs.Tables.{readAnswer, refusalOf}
-use Rattle.sheet.specs.laws.Basics.{never}
+use Rattle.lists.specs.laws.TestLaw.{never}
 use Rattle.writing.specs.declared.Written.{Written}
 use Rattle.writing.specs.declared.Written.the-variants as written
 use Rattle.writing.specs.Drawing.{Drawing, isCut, sheetOf}
 use Rattle.writing.specs.Writing.{placed, writing, writtenAnswer, sheetWrites, ToldWritten}
-use Rattle.writing.specs.Spelled.{Spelled, lengthOf}
+use Rattle.writing.specs.words.Spelled.{Spelled, lengthOf}
 use Rattle.writing.specs.laws.SpelledLaw.{spelled-front}
 use Rattle.writing.specs.laws.DrawingLaw.{whole}
 use Rattle.writing.specs.laws.LengthLaw.{sheet-length}

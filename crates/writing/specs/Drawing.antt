@@ -6,7 +6,7 @@ use lib.Dec.{eqb}
 use lib.ListN.{length, take, drop}
 use Rattle.sheet.specs.declared.Row.{Row}
 use Rattle.sheet.specs.declared.Size.{Size}
-use Rattle.sheet.specs.Lists.{joined}
+use Rattle.lists.specs.Lists.{joined}
 use Rattle.sheet.specs.Sheet.{Sheet, rowOf}
 
 -- rules and faults four bytes a row (s x o t); the lengths of the tests, and their inputs end to end

@@ -1,4 +1,4 @@
 pub mod Drawing
 pub mod Writing
-pub mod Spelled
+pub mod words
 pub mod laws

@@ -5,10 +5,10 @@ ghost use mathlib.Core.Path.{_≡_};
 ghost use lib.Dec.{eqb, ltb};
 ghost use lib.ListN.{length};
 ghost use Rattle.sheet.specs.declared.Size.{Size as Sizes};
-ghost use Rattle.sheet.specs.Lists.{overlay};
+ghost use Rattle.lists.specs.Lists.{overlay};
 ghost use Rattle.sheet.specs.Reading.{reading};
 ghost use Rattle.writing.specs.Drawing.{total, isCut, drawing};
-ghost use Rattle.writing.specs.Spelled.{lengthOf};
+ghost use Rattle.writing.specs.words.Spelled.{lengthOf};
 ghost use Rattle.writing.specs.Writing.{placed, writing, writtenAnswer, sheetWrites, ToldWritten};
 
 mod spell;

@@ -5,7 +5,7 @@ ghost use Prim.Native.Nat.{_+_, _≤_, _<_};
 ghost use lib.ListN.{length};
 ghost use Rattle.sheet.specs.Encode.{rowBytes, pressBytes, testBytes, encode};
 ghost use Rattle.writing.specs.Drawing.{rowsOf, testsOf, total, drawing, sheetOf};
-ghost use Rattle.writing.specs.Spelled.{Spelled};
+ghost use Rattle.writing.specs.words.Spelled.{Spelled};
 use sheet::Size;
 
 fn byte(b: u8, sheet: &mut [u8], at: usize) -> usize

@@ -9,7 +9,7 @@ use native.Mathlib.Decide.{ℕ-discrete, decLt}
 use borrow.Author.Tests.{eq-eqb, ne-eqb, lt-ltb, le-ltb}
 use lib.ListN.{getD}
 use Rattle.model.specs.Machine.{Move}
-use Rattle.sheet.specs.laws.Basics.{never}
+use Rattle.lists.specs.laws.TestLaw.{never}
 use Rattle.block.specs.Layout.{pair, ruleOutput, ruleTarget, siteAt, firstFault, mutated, diverted, choicesOf, statesOf, inputsOf}
 use Rattle.block.specs.Tabulated.{Wf, choicesAt, choiceOf, chosen, ruleOf, stepOf, startOf, Ranged, StepIs}
 use Rattle.block.specs.declared.layout.Step.{Step}

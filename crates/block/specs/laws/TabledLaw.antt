@@ -11,17 +11,17 @@ use borrow.Author.Tests.{lt-ltb, ltb-true, ne-eqb}
 use lib.Dec.{eqb, ltb}
 use lib.ListN.{length, getD, List·getD-eq-default}
 use Rattle.sheet.specs.declared.Row.{Row}
-use Rattle.sheet.specs.Lists.{maybe, isNone, first}
+use Rattle.lists.specs.Lists.{maybe, isNone, first}
 use Rattle.sheet.specs.Sheet.{Sheet, rowsAt, ruleAt, unruledChoices, choicesAt as choicesIn}
 use Rattle.sheet.specs.Tables.{firstAt, firstFault as firstRow, noRow}
-use Rattle.sheet.specs.laws.Basics.{never}
+use Rattle.lists.specs.laws.TestLaw.{never}
 use Rattle.sheet.specs.laws.TablesLaw.{fault-at, fault-below}
 use Rattle.sheet.specs.WellFormed.{RowIn, WellFormed}
 use Rattle.model.specs.Machine.{Move}
 use Rattle.model.specs.Mutant.{moveOf, rule, transitions, Suspect, suspects, slots, siteOf, IsMutant, idle, step, initial, against}
 use Rattle.model.specs.Log.{GivesLog}
-use Rattle.model.specs.laws.Basics.{all-every, all-imp, all-map, all-getD}
-use Rattle.model.specs.laws.Closed.{rule-row, rule-in}
+use Rattle.lists.specs.laws.AllLaw.{all-every, all-imp, all-map, all-getD}
+use Rattle.model.specs.laws.StaysLaw.{rule-row, rule-in}
 use Rattle.model.specs.laws.SuspectLaw.{slot-count, site-is, site-one, site-outside}
 use Rattle.model.specs.laws.TransitionLaw.{rule-choice, fault-choice, unruled-choice, choices-few, choices-some as some-choice}
 use Rattle.model.specs.laws.OperationLaw.{mutant-length, in-range-at}

@@ -11,4 +11,5 @@ returns c =
     (c .tell-length .ensures ∙ ap writtenNumbers (e .0), e .1 .0)
 
 pub ranthelo-generate-spec : {M : Type 1} → statement M
-ranthelo-generate-spec = tie.close (tie.spec (λ c κs. search needs) (λ c κs. search needs) (λ c. search needs) returns)
+ranthelo-generate-spec =
+    tie.close (tie.spec (λ c κs. search needs) (λ c κs. search needs) (λ c. search needs) returns)

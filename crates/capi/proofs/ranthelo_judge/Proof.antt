@@ -5,18 +5,6 @@ use Rattle.capi.specs.Numbers.{judgedNumbers}
 use Rattle.capi.proofs.ranthelo_judge.Statement.{statement}
 use Rattle.capi.proofs.ranthelo_judge.Tie as tie
 
-judge-requires : tie.Need-judge-requires
-judge-requires c κs = search needs
-
-tell-requires : tie.Need-tell-requires
-tell-requires c κs = search needs
-
-same-length : tie.Need-same-length
-same-length c = search needs
-
-same-length-2 : tie.Need-same-length-2
-same-length-2 c = search needs
-
 returns : tie.Need-returns
 returns c =
     let e = c .before .before .before .before .before .before .judge .ensures in
@@ -24,4 +12,4 @@ returns c =
 
 pub ranthelo-judge-spec : {M : Type 1} → statement M
 ranthelo-judge-spec =
-    tie.close (tie.spec judge-requires tell-requires same-length same-length-2 returns)
+    tie.close (tie.spec (λ c κs. search needs) (λ c κs. search needs) (λ c. search needs) (λ c. search needs) returns)

@@ -11,4 +11,5 @@ returns c =
     (c .tell-length .ensures ∙ ap writtenNumbers (e .0), e .1 .0)
 
 pub ranthelo-write-spec : {M : Type 1} → statement M
-ranthelo-write-spec = tie.close (tie.spec (λ c κs. search needs) (λ c κs. search needs) (λ c. search needs) returns)
+ranthelo-write-spec =
+    tie.close (tie.spec (λ c κs. search needs) (λ c κs. search needs) (λ c. search needs) returns)

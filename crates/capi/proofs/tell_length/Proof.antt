@@ -9,8 +9,6 @@ pub tell-length-spec : {M : Type 1} → statement M
 tell-length-spec =
     tie.close
     (tie.spec
-    (λ c. search needs)
-    (λ c. search needs)
-    (λ c. search needs)
+    (λ c. search needs) (λ c. search needs) (λ c. search needs)
     (λ c. ap writtenNumbers (sym (c .before .before .written .given .1)))
     (λ c. ap writtenNumbers (sym (c .before .before .written2 .given .1))))

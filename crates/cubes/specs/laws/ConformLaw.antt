@@ -7,8 +7,8 @@ use native.Mathlib.Omega.{arith}
 use native.Mathlib.Decide.{ℕ-discrete}
 use borrow.Author.Count.{below-more}
 use lib.ListN.{getD}
-use Rattle.sheet.specs.Lists.{maybe}
-use Rattle.sheet.specs.laws.Basics.{never}
+use Rattle.lists.specs.Lists.{maybe}
+use Rattle.lists.specs.laws.TestLaw.{never}
 use Rattle.model.specs.Machine.{Move, prepend, outputsFrom, specifiedFrom, ConformingFrom}
 use Rattle.cubes.specs.Sets.{Has, HasAll}
 use Rattle.block.specs.Layout.{pair, siteAt, ruleOutput, ruleTarget, statesOf, inputsOf}

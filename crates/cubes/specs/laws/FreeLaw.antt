@@ -6,7 +6,7 @@ use Prim.Native.Nat.{ℕ, _+_, _*_, _<_, _≤_}
 use native.Mathlib.Omega.{arith}
 use borrow.Author.Count.{below-more}
 use lib.ListN.{length, getD}
-use Rattle.sheet.specs.laws.Basics.{never}
+use Rattle.lists.specs.laws.TestLaw.{never}
 use Rattle.cubes.specs.Sets.{Has, Grows, Put}
 use Rattle.block.specs.Layout.{siteAt, choicesOf}
 use Rattle.block.specs.Tabulated.{Wf, choiceOf}

@@ -3,7 +3,7 @@ use borrow.Author.Needs.{needs}
 use borrow.Author.Tests.{not-true, not-false}
 use mathlib.Core.Path.{_∙_, sym}
 use lib.ListN.{length}
-use Rattle.sheet.specs.laws.Right.{size-in}
+use Rattle.sheet.specs.laws.CommandLaw.{size-in}
 use Rattle.generator.proofs.GenerateLaw.{out-of-range, no-room, told}
 use Rattle.generator.proofs.generate.Statement.{statement}
 use Rattle.generator.proofs.generate.Tie as tie

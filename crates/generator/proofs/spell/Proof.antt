@@ -6,7 +6,7 @@ use mathlib.Core.Path.{sym, _∙_, ap}
 use mathlib.Core.List.{List}
 use lib.ListN.{length}
 use lib.Seq.{length-take-le}
-use Rattle.sheet.specs.Lists.{overlay}
+use Rattle.lists.specs.Lists.{overlay}
 use Rattle.sheet.specs.Reading.{Result}
 use Rattle.writing.specs.Writing.{writtenAnswer, sheetWrites}
 use Rattle.generator.specs.laws.GeneratedLaw.{few-pairs}

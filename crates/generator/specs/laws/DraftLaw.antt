@@ -10,11 +10,12 @@ use lib.ListN.{length, length-append}
 use borrow.Author.Tests.{eq-eqb, eqb-true, eqb-false, leb-true, ltb-true}
 use Rattle.sheet.specs.declared.Row.{Row}
 use Rattle.sheet.specs.declared.Size.{Size}
-use Rattle.sheet.specs.Lists.{All, Ascending, Before}
+use Rattle.lists.specs.Lists.{All, Ascending, Before}
 use Rattle.sheet.specs.Sheet.{pairOf, rowOf}
 use Rattle.sheet.specs.WellFormed.{SizeIn, RowIn}
-use Rattle.sheet.specs.laws.Basics.{both, all-snoc}
-use Rattle.sheet.specs.laws.Rows.{before-trans}
+use Rattle.lists.specs.laws.TestLaw.{both}
+use Rattle.lists.specs.laws.AllLaw.{all-snoc}
+use Rattle.sheet.specs.laws.RowLaw.{before-trans}
 use Rattle.generator.specs.Generating.{second, third, drawn, ruleFrom, isFaulty, faultOf, Draft, withPair, drafted}
 use Rattle.generator.specs.Generated.{Ruled, Faulty}
 use Rattle.generator.specs.laws.PairLaw.{pair-before, pair-state, pair-input}

@@ -12,13 +12,13 @@ use lib.ListN.{length}
 use borrow.Author.Tests.{eqb-true, eqb-false}
 use Rattle.sheet.specs.declared.Row.{Row}
 use Rattle.sheet.specs.declared.Size.{Size}
-use Rattle.sheet.specs.Lists.{All}
+use Rattle.lists.specs.Lists.{All}
 use Rattle.sheet.specs.Sheet.{Sheet, after}
 use Rattle.sheet.specs.Reading.{accepted, reading}
 use Rattle.sheet.specs.Encode.{testBytes, encode}
 use Rattle.sheet.specs.WellFormed.{SizeIn, RowIn, Mutates, Reachable, WellFormed}
-use Rattle.sheet.specs.laws.Rows.{rule-has, after-snoc}
-use Rattle.sheet.specs.laws.Accepts.{accepts}
+use Rattle.sheet.specs.laws.RowLaw.{rule-has, after-snoc}
+use Rattle.sheet.specs.laws.AcceptsLaw.{accepts}
 use Rattle.writing.specs.laws.LengthLaw.{parts-length}
 use Rattle.generator.specs.Generating.{Draft, drafted, sheetFrom}
 use Rattle.generator.specs.Generated.{Ruled, Faulty, Generated}

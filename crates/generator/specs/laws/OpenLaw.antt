@@ -9,9 +9,9 @@ use lib.Dec.{eqb, ltb}
 use lib.ListN.{length}
 use borrow.Author.Tests.{eqb-true}
 use Rattle.sheet.specs.declared.Row.{Row}
-use Rattle.sheet.specs.Lists.{count}
+use Rattle.lists.specs.Lists.{count}
 use Rattle.sheet.specs.Sheet.{Sheet, isAt, rowsAt, ruleAt, choicesAt, isOpen, openBelow, openPairs}
-use Rattle.sheet.specs.laws.Basics.{never, both}
+use Rattle.lists.specs.laws.TestLaw.{never, both}
 
 -- numbers below k that pass: no more than those that pass another test, if the one implies it; nor than those of two tests together
 count-within : (p q : ℕ → Bool) (k : ℕ) → ((x : ℕ) → x < k → p x ≡ true → q x ≡ true) → count p k ≤ count q k

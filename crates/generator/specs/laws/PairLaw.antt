@@ -8,7 +8,7 @@ use mathlib.Core.Logic.{inl, inr}
 use mathlib.Core.List.{[], _∷_}
 use lib.Dec.{eqb}
 use borrow.Author.Tests.{eqb-true, eqb-false}
-use Rattle.sheet.specs.Lists.{Before}
+use Rattle.lists.specs.Lists.{Before}
 
 module _ (k : ℕ) (some : 0 < k) where
   -- pairs ascend

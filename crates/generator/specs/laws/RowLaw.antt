@@ -10,11 +10,12 @@ use lib.Dec.{eqb}
 use lib.ListN.{length}
 use borrow.Author.Tests.{eqb-true, eq-eqb}
 use Rattle.sheet.specs.declared.Row.{Row}
-use Rattle.sheet.specs.Lists.{All, Ascending, Before, first}
+use Rattle.lists.specs.Lists.{All, Ascending, Before, first}
 use Rattle.sheet.specs.Sheet.{pairOf, rowOf, isAt, rowsAt, ruleAt}
 use Rattle.sheet.specs.Encode.{rowBytes}
-use Rattle.sheet.specs.laws.Basics.{never, both, and-both, all-snoc}
-use Rattle.sheet.specs.laws.Rows.{before-irreflexive}
+use Rattle.lists.specs.laws.TestLaw.{never, both, and-both}
+use Rattle.lists.specs.laws.AllLaw.{all-snoc}
+use Rattle.sheet.specs.laws.RowLaw.{before-irreflexive}
 
 module _ {A : Type 0} where
   -- what each element keeps

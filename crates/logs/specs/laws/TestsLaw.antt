@@ -16,13 +16,13 @@ use Rattle.sheet.specs.Encode.{pressBytes, encode}
 use Rattle.sheet.specs.Part.{spanOf}
 use Rattle.sheet.specs.Tables.{tablesOf}
 use Rattle.sheet.specs.WellFormed.{WellFormed}
-use Rattle.sheet.specs.laws.ListLaw.{all-at-index}
-use Rattle.sheet.specs.laws.Parts.{before, presses, after, layout, presses-length}
+use Rattle.lists.specs.laws.ListLaw.{all-at-index}
+use Rattle.sheet.specs.laws.PartLaw.{before, presses, after, layout, presses-length}
 use Rattle.sheet.specs.laws.TablesLaw.{table-at}
 use Rattle.model.specs.Machine.{Move}
 use Rattle.model.specs.Mutant.{rule, specified}
 use Rattle.model.specs.Log.{testsLog, suiteLog}
-use Rattle.model.specs.laws.Closed.{rule-in}
+use Rattle.model.specs.laws.StaysLaw.{rule-in}
 use Rattle.model.specs.laws.SuiteLaw.{Specified, test-specified}
 use Rattle.model.specs.laws.LogLaw.{log-below, log-most}
 use Rattle.logs.specs.Tests.{inputsAt, testsFrom, testsAt, Low, TestsAt}

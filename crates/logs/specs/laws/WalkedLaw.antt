@@ -5,15 +5,15 @@ use mathlib.Core.Path.{_≡_, refl, _∙_}
 use mathlib.Core.Option.{Option, none, some}
 use mathlib.Core.List.{List, [], _∷_}
 use lib.ListN.{getD}
-use Rattle.sheet.specs.Lists.{maybe, All}
+use Rattle.lists.specs.Lists.{maybe, All}
 use Rattle.sheet.specs.Sheet.{Sheet}
 use Rattle.sheet.specs.WellFormed.{WellFormed}
 use Rattle.model.specs.Machine.{Move}
 use Rattle.model.specs.Mutant.{rule, step, initial}
 use Rattle.model.specs.Suite.{firstFailedOf}
 use Rattle.model.specs.Log.{Observation, reset, seen, failedIn, testLog, testsLog, suiteLog}
-use Rattle.model.specs.laws.Basics.{all-append}
-use Rattle.model.specs.laws.Closed.{rule-in, start-below}
+use Rattle.lists.specs.laws.AllLaw.{all-append}
+use Rattle.model.specs.laws.StaysLaw.{rule-in, start-below}
 use Rattle.model.specs.laws.LogLaw.{failed-log}
 use Rattle.block.specs.Layout.{pair}
 use Rattle.logs.specs.Walked.{movesIn}

@@ -9,7 +9,7 @@ use lib.Dec.{eqb}
 use lib.ListN.{length}
 use Rattle.sheet.specs.Sheet.{Sheet}
 use Rattle.sheet.specs.Reading.{Result, accepted, refused}
-use Rattle.sheet.specs.laws.Basics.{never}
+use Rattle.lists.specs.laws.TestLaw.{never}
 use Rattle.model.specs.Mutant.{slots, IsMutant}
 use Rattle.model.specs.Operations.{firstHigh, withMutant, refuseIf, refuseAt}
 use Rattle.model.specs.laws.OperationLaw.{mutant-goes-on, is-mutant}

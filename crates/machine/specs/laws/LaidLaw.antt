@@ -12,7 +12,7 @@ use lib.ListN.{getD}
 use Rattle.sheet.specs.Sheet.{Sheet}
 use Rattle.model.specs.Machine.{Move}
 use Rattle.model.specs.Mutant.{IsMutant, idle, step, initial, against}
-use Rattle.model.specs.laws.Closed.{step-in}
+use Rattle.model.specs.laws.StaysLaw.{step-in}
 use Rattle.model.specs.laws.StepLaw.{step-outside}
 use Rattle.model.specs.laws.SuspectLaw.{site-is}
 use Rattle.block.specs.Layout.{pair, siteAt, statesOf, inputsOf}

@@ -12,8 +12,8 @@ use lib.Bits.{bitOr, or-step, or-shr, or-lt}
 use lib.Count.{ones, ones-step}
 use lib.Dec.{eqb}
 use lib.Pow.{pow-lt, pow-pos, shr-lt, shr-shr}
-use Rattle.sheet.specs.Lists.{count}
-use Rattle.sheet.specs.laws.Basics.{never}
+use Rattle.lists.specs.Lists.{count}
+use Rattle.lists.specs.laws.TestLaw.{never}
 use Rattle.model.specs.Used.{has, mark}
 
 or-bit : (a b i : ℕ) → bitOr a b / 2 ^ i % 2 ≡ max (a / 2 ^ i % 2) (b / 2 ^ i % 2)

@@ -12,15 +12,15 @@ use mathlib.Core.List.{List, [], _∷_, List-discrete}
 use borrow.Author.Tests.{eqb-true, eqb-false, lt-ltb, ltb-true}
 use lib.Dec.{eqb}
 use lib.ListN.{length}
-use Rattle.sheet.specs.Lists.{maybe, Before}
-use Rattle.sheet.specs.laws.Basics.{never}
+use Rattle.lists.specs.Lists.{maybe, Before}
+use Rattle.lists.specs.laws.TestLaw.{never}
 use Rattle.model.specs.Machine.{Move, Pair, prepend, outputsFrom, specifiedFrom, DistinguishesFrom, ConformingFrom}
 use Rattle.model.specs.Compare.{least, target, shows, within, best, shortest, distance, compareFrom}
 use Rattle.model.specs.Verdict.{After}
-use Rattle.model.specs.laws.Basics.{clash, not-true-false}
+use Rattle.lists.specs.laws.TestLaw.{clash, not-true-false}
 use Rattle.model.specs.laws.LeastLaw.{least-le, least-true, least-false, least-at, least-unique}
 use Rattle.model.specs.laws.SumLaw.{sum, sum-const, sum-grow-pairs}
-use Rattle.model.specs.laws.Closed.{Closed}
+use Rattle.model.specs.laws.StaysLaw.{Closed}
 
 -- the input x is specified, and shows another output or leads to states of which P holds
 unfoldable pub Shown : Pair → (ℕ → ℕ → Type 0) → ℕ → ℕ → ℕ → Type 0

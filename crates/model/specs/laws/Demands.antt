@@ -7,16 +7,16 @@ use lib.ListN.{length}
 use Rattle.sheet.specs.Sheet.{Sheet}
 use Rattle.sheet.specs.Reading.{accepted, reading}
 use Rattle.sheet.specs.WellFormed.{WellFormed}
-use Rattle.sheet.specs.laws.Accepted.{well-formed}
+use Rattle.sheet.specs.laws.AcceptedLaw.{well-formed}
 use Rattle.model.specs.Mutant.{outputs, against, initial, Distinguishes, Conforming}
 use Rattle.model.specs.Used.{usedOn, Uses}
 use Rattle.model.specs.Suite.{firstFailedOf, compareOf, Judgement, complete, survivor, judgeOf}
 use Rattle.model.specs.Verdict.{RanMeans, UsedMeans, FailedMeans, ComparedMeans, Complete, JudgedMeans}
-use Rattle.model.specs.laws.Closed.{closed, some-state, start-below}
+use Rattle.model.specs.laws.StaysLaw.{closed, some-state, start-below}
 use Rattle.model.specs.laws.CompareLaw.{conforms-or-distinguished, short-exists}
 use Rattle.model.specs.laws.JudgeLaw.{compared, judged-complete, judged-survivor, complete-exactly}
 use Rattle.model.specs.laws.SuiteLaw.{failed-means}
-use Rattle.model.specs.laws.Published.{ran-means}
+use Rattle.model.specs.laws.PublishedLaw.{ran-means}
 use Rattle.model.specs.laws.UsedLaw.{used-means}
 use Rattle.model.specs.laws.GuaranteeLaw.{guarantee}
 

@@ -7,18 +7,18 @@ use mathlib.Core.Option.{Option, none, some}
 use mathlib.Core.List.{List, [], _∷_, _++_, map}
 use lib.ListN.{length}
 use Rattle.sheet.specs.declared.Row.{Row}
-use Rattle.sheet.specs.Lists.{maybe, All}
+use Rattle.lists.specs.Lists.{maybe, All}
 use Rattle.sheet.specs.Sheet.{Sheet, ruleAt, after}
 use Rattle.sheet.specs.WellFormed.{TestIn, WellFormed}
-use Rattle.sheet.specs.laws.Basics.{never}
+use Rattle.lists.specs.laws.TestLaw.{never}
 use Rattle.model.specs.Machine.{Move, Pair, outputsFrom, specifiedFrom, ConformingFrom}
 use Rattle.model.specs.Mutant.{rule, initial, outputs, specified, against, IsMutant, Conforming}
 use Rattle.model.specs.Suite.{Passes}
 use Rattle.model.specs.Implementation.{Event, reset, input, InputsBelow, ResetFirst, Proper, respondFrom, respond, moveFrom, outputOf, targetOf, requiredFrom, required, Gives, Implementation, BehavesAs, GivesAll, suiteEvents, PassesSuite, Guaranteed}
 use Rattle.model.specs.Verdict.{RightOn, Complete}
-use Rattle.model.specs.laws.Closed.{closed, some-state, start-below, rule-row}
+use Rattle.model.specs.laws.StaysLaw.{closed, some-state, start-below, rule-row}
 use Rattle.model.specs.laws.CompareLaw.{conforms-or-distinguished, conforming-not}
-use Rattle.sheet.specs.laws.ListLaw.{all-at-index, index-all}
+use Rattle.lists.specs.laws.ListLaw.{all-at-index, index-all}
 use Rattle.model.specs.laws.SuiteLaw.{specified-uncons, specified-cons, Specified, test-specified, right-passes, passes-right}
 
 -- the output is the specified one, if there is one

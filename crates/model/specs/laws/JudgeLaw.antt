@@ -4,16 +4,16 @@ use mathlib.Core.Path.{_≡_, refl, sym, _∙_, subst}
 use mathlib.Core.Logic.{_⊎_, inl, inr, ⊎-elim}
 use mathlib.Core.Option.{Option, none, some}
 use mathlib.Core.List.{List, [], _∷_, List·Memᴰ, List·Memᴰ·head, List·Memᴰ·tail, List·Memᴰ·cases-cons, List·Memᴰ·not-nil}
-use Rattle.sheet.specs.Lists.{Ascending, Before}
+use Rattle.lists.specs.Lists.{Ascending, Before}
 use Rattle.sheet.specs.Sheet.{Sheet}
 use Rattle.sheet.specs.WellFormed.{WellFormed}
-use Rattle.sheet.specs.laws.Basics.{never}
+use Rattle.lists.specs.laws.TestLaw.{never}
 use Rattle.model.specs.Mutant.{mutants, IsMutant, initial, against, Conforming}
 use Rattle.model.specs.Compare.{comparePair}
 use Rattle.model.specs.Suite.{Place, firstFailedOf, Passes, compareOf, Judgement, complete, survivor, survivorAmong, judgeOf}
 use Rattle.model.specs.Verdict.{ShortestOf, ComparedMeans, Survives, FirstSurvivor, Complete}
-use Rattle.model.specs.laws.Basics.{all-mem}
-use Rattle.model.specs.laws.Closed.{closed, some-state, start-below}
+use Rattle.lists.specs.laws.AllLaw.{all-mem}
+use Rattle.model.specs.laws.StaysLaw.{closed, some-state, start-below}
 use Rattle.model.specs.laws.CompareLaw.{compare-none, compare-some, conforming-not}
 use Rattle.model.specs.laws.MutantLaw.{listed, listed-in-range, mutants-ascending}
 

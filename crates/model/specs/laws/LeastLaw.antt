@@ -7,7 +7,7 @@ use mathlib.Core.Logic.{by-cases}
 use native.Mathlib.Decide.{decLt}
 use mathlib.Core.Bool.{Bool, true, false, cond}
 use Rattle.model.specs.Compare.{least}
-use Rattle.model.specs.laws.Basics.{clash}
+use Rattle.lists.specs.laws.TestLaw.{clash}
 
 -- at most n
 pub least-le : (n : ℕ) (g : ℕ → Bool) → least n g ≤ n

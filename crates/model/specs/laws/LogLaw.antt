@@ -9,12 +9,12 @@ use borrow.Author.Tests.{eqb-true, eq-eqb, ne-eqb}
 use native.Mathlib.Decide.{ℕ-discrete}
 use lib.Dec.{eqb}
 use lib.ListN.{length, length-append}
-use Rattle.sheet.specs.Lists.{maybe}
+use Rattle.lists.specs.Lists.{maybe}
 use Rattle.sheet.specs.Sheet.{Sheet}
 use Rattle.sheet.specs.Encode.{rowBytes, pressBytes, testBytes, sizeBytes, machineBytes, body, encode}
 use Rattle.sheet.specs.WellFormed.{WellFormed}
-use Rattle.sheet.specs.laws.Basics.{never}
-use Rattle.sheet.specs.laws.Parts.{presses-length}
+use Rattle.lists.specs.laws.TestLaw.{never}
+use Rattle.sheet.specs.laws.PartLaw.{presses-length}
 use Rattle.model.specs.Machine.{Move, Pair}
 use Rattle.model.specs.Mutant.{rule, later, step, initial, against}
 use Rattle.model.specs.Suite.{wrongFrom, wrongIn, Place, laterTest, firstFailedIn, firstFailedOf, Passes}

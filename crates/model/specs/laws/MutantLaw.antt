@@ -6,10 +6,11 @@ use mathlib.Core.Logic.{inl, inr, ⊎-elim}
 use mathlib.Core.Bool.{Bool, true, false, cond}
 use mathlib.Core.List.{List, [], _∷_, map, List·Memᴰ, List·Memᴰ·head, List·Memᴰ·cases-cons, List·Memᴰ·not-nil}
 use borrow.Author.Tests.{ltb-true}
-use Rattle.sheet.specs.Lists.{All, Ascending, Before, upTo, joined}
+use Rattle.lists.specs.Lists.{All, Ascending, Before, upTo, joined}
 use Rattle.sheet.specs.Sheet.{Sheet, choicesAt, isOpen}
 use Rattle.model.specs.Mutant.{Suspect, keepOpen, suspects, slots, choiceLists, mutants, InRange, IsMutant}
-use Rattle.model.specs.laws.Basics.{all-every, all-append, all-mem, all-map, all-joined, mem-map, map-mem, mem-joined, joined-mem, upTo-below, upTo-has, upTo-ascending, ascending-map, ascending-append}
+use Rattle.lists.specs.laws.AllLaw.{all-every, all-append, all-mem, all-map, all-joined}
+use Rattle.lists.specs.laws.MemberLaw.{mem-map, map-mem, mem-joined, joined-mem, upTo-below, upTo-has, upTo-ascending, ascending-map, ascending-append}
 
 -- a list of choices in range is among all lists of choices
 pub choices-listed : (cs b : List ℕ) → InRange cs b → List·Memᴰ b (choiceLists cs)

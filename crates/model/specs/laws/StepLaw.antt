@@ -8,7 +8,7 @@ use mathlib.Core.List.{List}
 use borrow.Author.Tests.{lt-ltb, ltb-true}
 use lib.Dec.{ltb}
 use lib.ListN.{getD}
-use Rattle.sheet.specs.Lists.{maybe}
+use Rattle.lists.specs.Lists.{maybe}
 use Rattle.sheet.specs.Sheet.{Sheet, choicesAt, isOpen}
 use Rattle.sheet.specs.WellFormed.{WellFormed}
 use Rattle.model.specs.Mutant.{transitions, slots, siteOf, IsMutant, idle, acts, step}

@@ -10,15 +10,15 @@ use borrow.Author.Tests.{eqb-true, eqb-false, eq-eqb, ne-eqb}
 use lib.Dec.{eqb}
 use lib.ListN.{length, getD, take}
 use Rattle.sheet.specs.declared.Row.{Row}
-use Rattle.sheet.specs.Lists.{maybe, All}
+use Rattle.lists.specs.Lists.{maybe, All}
 use Rattle.sheet.specs.Sheet.{Sheet, ruleAt, after}
 use Rattle.sheet.specs.WellFormed.{TestIn, WellFormed}
-use Rattle.sheet.specs.laws.Basics.{never}
+use Rattle.lists.specs.laws.TestLaw.{never}
 use Rattle.model.specs.Machine.{Move, Pair, prepend, outputsFrom, specifiedFrom}
 use Rattle.model.specs.Mutant.{moveOf, rule, later, initial, outputs, specified, against}
 use Rattle.model.specs.Suite.{wrongFrom, wrongIn, Place, laterTest, firstFailedIn, firstFailedOf, Passes}
 use Rattle.model.specs.Verdict.{RightOn, FirstFailed, FailedMeans}
-use Rattle.model.specs.laws.Basics.{all-imp}
+use Rattle.lists.specs.laws.AllLaw.{all-imp}
 
 -- as many outputs as inputs
 pub outputs-length : (move : ℕ → ℕ → Move) (s : ℕ) (xs : List ℕ) → length (outputsFrom move s xs) ≡ length xs

@@ -8,12 +8,14 @@ use mathlib.Core.List.{List, [], _∷_, _++_, append-assoc}
 use borrow.Author.Tests.{eqb-true, eq-eqb}
 use lib.Dec.{eqb}
 use lib.ListN.{length, getD, length-append, length-map}
-use Rattle.sheet.specs.Lists.{All, count, upTo, joined}
+use Rattle.lists.specs.Lists.{All, count, upTo, joined}
 use Rattle.sheet.specs.Sheet.{Sheet, choicesAt, isOpen, openBelow, openPairs}
-use Rattle.sheet.specs.laws.Basics.{never}
+use Rattle.lists.specs.laws.TestLaw.{never}
 use Rattle.model.specs.Mutant.{Suspect, keepOpen, suspects, slots, later, siteIn, siteOf}
-use Rattle.model.specs.laws.Basics.{clash, all-imp, all-append, all-joined, upTo-below}
-use Rattle.sheet.specs.laws.ListLaw.{joined-split, length-joined-snoc, getD-map-below, all-at-index}
+use Rattle.lists.specs.laws.TestLaw.{clash}
+use Rattle.lists.specs.laws.AllLaw.{all-imp, all-append, all-joined}
+use Rattle.lists.specs.laws.MemberLaw.{upTo-below}
+use Rattle.lists.specs.laws.ListLaw.{joined-split, length-joined-snoc, getD-map-below, all-at-index}
 
 -- the suspects of the state s with inputs below i; those of the states below i
 abbrev suspectsAt : Sheet → ℕ → ℕ → List Suspect

@@ -12,15 +12,15 @@ use lib.ListN.{length, getD, length-map, List·getD-append, List·getD-map}
 use lib.Seq.{getD-append-add}
 use Rattle.sheet.specs.declared.Row.{Row}
 use Rattle.sheet.specs.declared.Size.{Size}
-use Rattle.sheet.specs.Lists.{maybe, All, Ascending, Before, upTo, joined}
+use Rattle.lists.specs.Lists.{maybe, All, Ascending, Before, upTo, joined}
 use Rattle.sheet.specs.Sheet.{Sheet, rowOf, isAt, rowsAt, ruleAt, unruledChoices, choicesAt}
 use Rattle.sheet.specs.Tables.{noRow}
 use Rattle.sheet.specs.WellFormed.{Mutates, WellFormed}
 use Rattle.model.specs.Machine.{Move}
 use Rattle.model.specs.Mutant.{moveOf, unruled, transitions, idle}
-use Rattle.model.specs.laws.Basics.{all-getD}
-use Rattle.sheet.specs.laws.ListLaw.{all-both, ascending-of, getD-map-below, joined-split, length-upTo, getD-upTo, length-joined-even}
-use Rattle.model.specs.laws.Closed.{MoveIn, RowAt, rows-at, rule-row, transitions-in}
+use Rattle.lists.specs.laws.AllLaw.{all-getD}
+use Rattle.lists.specs.laws.ListLaw.{all-both, ascending-of, getD-map-below, joined-split, length-upTo, getD-upTo, length-joined-even}
+use Rattle.model.specs.laws.StaysLaw.{MoveIn, RowAt, rows-at, rule-row, transitions-in}
 
 -- without a rule every output goes with every next state
 pub unruled-count : (sh : Sheet) → length (unruled sh) ≡ sh .size .outputs * sh .size .states

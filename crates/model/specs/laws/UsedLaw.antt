@@ -9,7 +9,7 @@ use mathlib.Core.List.{List, [], _∷_, _++_}
 use lib.ListN.{length}
 use lib.Pow.{pow-pos}
 use Rattle.sheet.specs.Sheet.{Sheet}
-use Rattle.sheet.specs.laws.Basics.{never}
+use Rattle.lists.specs.laws.TestLaw.{never}
 use Rattle.model.specs.Machine.{Action}
 use Rattle.model.specs.Mutant.{slots, siteOf, acts, initial, startSlot}
 use Rattle.model.specs.Used.{has, mark, markFrom, markAll, usedOn, UsesFrom, UsesIn, Uses}

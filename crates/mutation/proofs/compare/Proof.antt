@@ -2,25 +2,13 @@
 use mathlib.Core.Path.{sym, _∙_, ap, ap₂}
 use lib.ListN.{length}
 use Rattle.mutation.specs.declared.Compared.the-variants.{Refused}
-use Rattle.sheet.specs.Lists.{overlay}
+use Rattle.lists.specs.Lists.{overlay}
 use Rattle.mutation.specs.Answers.{comparedAnswer, comparedWrites}
-use Rattle.mutation.proofs.Opened.{opened, closed-by, comparing-on, comparing-refused, told-compared}
-use Rattle.sheet.specs.laws.Refusals.{refusal-told}
+use Rattle.mutation.proofs.OpenLaw.{opened, closed-by, comparing-on, comparing-refused, told-compared}
+use Rattle.sheet.specs.laws.RefusalLaw.{refusal-told}
 use borrow.Author.Needs.{needs}
 use Rattle.mutation.proofs.compare.Statement.{statement}
 use Rattle.mutation.proofs.compare.Tie as tie
-
-load-requires : tie.Need-load-requires
-load-requires c κs = search needs
-
-enum-known-reading : tie.Need-enum-known-reading
-enum-known-reading c = search needs
-
-enum-told : tie.Need-enum-told
-enum-told c = search needs
-
-refusal-of-requires : tie.Need-refusal-of-requires
-refusal-of-requires c κs = search needs
 
 returns : tie.Need-returns
 returns c =
@@ -41,9 +29,6 @@ compare-accepted-requires c κs =
     let entry = at-load .before .before .before .before in
     let a = entry .args in let o = opened (a .sheet .now) (at-load .load .result) (at-reading .reading .given .0 .0) (at-load .load .ensures) (at-reading .reading .given .1) in (o .sheet, o .holds .read)
 
-same-length : tie.Need-same-length
-same-length c = search needs
-
 returns-2 : tie.Need-returns-2
 returns-2 c =
     let at-reading = c .before .before .before .before .before .before in
@@ -61,11 +46,5 @@ pub compare-spec : {M : Type 1} → statement M
 compare-spec =
     tie.close
     (tie.spec
-    load-requires
-    enum-known-reading
-    enum-told
-    refusal-of-requires
-    returns
-    compare-accepted-requires
-    same-length
-    returns-2)
+    (λ c κs. search needs) (λ c. search needs) (λ c. search needs) (λ c κs. search needs) returns compare-accepted-requires
+    (λ c. search needs) returns-2)

@@ -2,23 +2,11 @@
 use mathlib.Core.Path.{sym, _∙_, ap, ap₂}
 use Rattle.mutation.specs.declared.Failed.the-variants.{Refused}
 use Rattle.mutation.specs.Answers.{failedAnswer}
-use Rattle.mutation.proofs.Opened.{opened, closed-by, failing-on, failing-refused, told-failed}
-use Rattle.sheet.specs.laws.Refusals.{refusal-told}
+use Rattle.mutation.proofs.OpenLaw.{opened, closed-by, failing-on, failing-refused, told-failed}
+use Rattle.sheet.specs.laws.RefusalLaw.{refusal-told}
 use borrow.Author.Needs.{needs}
 use Rattle.mutation.proofs.first_failed.Statement.{statement}
 use Rattle.mutation.proofs.first_failed.Tie as tie
-
-load-requires : tie.Need-load-requires
-load-requires c κs = search needs
-
-enum-known-reading : tie.Need-enum-known-reading
-enum-known-reading c = search needs
-
-enum-told : tie.Need-enum-told
-enum-told c = search needs
-
-refusal-of-requires : tie.Need-refusal-of-requires
-refusal-of-requires c κs = search needs
 
 returns : tie.Need-returns
 returns c =
@@ -52,10 +40,5 @@ pub first-failed-spec : {M : Type 1} → statement M
 first-failed-spec =
     tie.close
     (tie.spec
-    load-requires
-    enum-known-reading
-    enum-told
-    refusal-of-requires
-    returns
-    first-failed-accepted-requires
+    (λ c κs. search needs) (λ c. search needs) (λ c. search needs) (λ c κs. search needs) returns first-failed-accepted-requires
     returns-2)

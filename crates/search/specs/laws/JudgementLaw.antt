@@ -5,9 +5,9 @@ use mathlib.Core.Path.{_≡_, refl, _∙_, ap}
 use mathlib.Core.Option.{Option, none, some}
 use mathlib.Core.List.{List}
 use lib.ListN.{length}
-use Rattle.sheet.specs.Lists.{overlay}
+use Rattle.lists.specs.Lists.{overlay}
 use Rattle.sheet.specs.Sheet.{Sheet}
-use Rattle.sheet.specs.laws.Basics.{never}
+use Rattle.lists.specs.laws.TestLaw.{never}
 use Rattle.model.specs.Suite.{Passes, compareOf, complete, survivor, judgeOf}
 use Rattle.model.specs.laws.JudgeLaw.{judge-none, judge-first}
 use Rattle.cubes.specs.declared.goal.Goal.the-variants.{Nonconforming}

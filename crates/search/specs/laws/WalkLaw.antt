@@ -6,7 +6,7 @@ use mathlib.Core.List.{List}
 use Rattle.sheet.specs.Sheet.{Sheet}
 use Rattle.sheet.specs.WellFormed.{WellFormed}
 use Rattle.model.specs.Mutant.{step}
-use Rattle.model.specs.laws.Closed.{step-in}
+use Rattle.model.specs.laws.StaysLaw.{step-in}
 use Rattle.block.specs.Layout.{pair}
 use Rattle.logs.specs.laws.WalkedLaw.{Tabulates}
 use Rattle.machine.specs.Laid.{Moves}

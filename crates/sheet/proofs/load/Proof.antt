@@ -1,5 +1,5 @@
 use denote.Ref.{now}
-use Rattle.sheet.proofs.LoadLaws as laws
+use Rattle.sheet.proofs.LoadLaw as laws
 use borrow.Author.Needs.{needs}
 use Rattle.sheet.proofs.load.Statement.{statement}
 use Rattle.sheet.proofs.load.Tie as tie

@@ -1,6 +1,6 @@
 use native.Mathlib.Omega.{arith}
 use denote.Ref.{ptr, now}
-use Rattle.sheet.proofs.PartLaws as laws
+use Rattle.sheet.proofs.SpanLaw as laws
 use borrow.Author.Needs.{needs}
 use Rattle.sheet.proofs.test_part.Statement.{statement}
 use Rattle.sheet.proofs.test_part.Tie as tie

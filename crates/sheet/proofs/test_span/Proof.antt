@@ -2,8 +2,8 @@ use native.Mathlib.Omega.{arith}
 use mathlib.Core.Path.{_∙_, ap₂}
 use denote.Ref.{now}
 use Rattle.sheet.specs.declared.Parting.the-variants.{Refused}
-use Rattle.sheet.specs.laws.Refusals.{refusal-told}
-use Rattle.sheet.proofs.PartLaws as laws
+use Rattle.sheet.specs.laws.RefusalLaw.{refusal-told}
+use Rattle.sheet.proofs.SpanLaw as laws
 use borrow.Author.Needs.{needs}
 use Rattle.sheet.proofs.test_span.Statement.{statement}
 use Rattle.sheet.proofs.test_span.Tie as tie

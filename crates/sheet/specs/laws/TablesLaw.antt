@@ -9,12 +9,12 @@ use lib.Dec.{eqb}
 use lib.ListN.{length, getD, length-map}
 use borrow.Author.Tests.{eqb-true, eq-eqb, ne-eqb}
 use Rattle.sheet.specs.declared.Row.{Row}
-use Rattle.sheet.specs.Lists.{isNone, first, upTo, All, Ascending, Before}
+use Rattle.lists.specs.Lists.{isNone, first, upTo, All, Ascending, Before}
 use Rattle.sheet.specs.Sheet.{Sheet, rowOf, isAt, rowsAt}
 use Rattle.sheet.specs.WellFormed.{WellFormed}
 use Rattle.sheet.specs.Tables.{table, firstAt, firstFault, noRow}
-use Rattle.sheet.specs.laws.ListLaw.{getD-map-below, length-upTo, getD-upTo}
-use Rattle.sheet.specs.laws.Basics.{both, never}
+use Rattle.lists.specs.laws.ListLaw.{getD-map-below, length-upTo, getD-upTo}
+use Rattle.lists.specs.laws.TestLaw.{both, never}
 
 pub table-length : (f : ℕ → ℕ) → length (table f) ≡ 256
 table-length f = length-map (upTo 256) f ∙ length-upTo 256

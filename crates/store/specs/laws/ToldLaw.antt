@@ -3,7 +3,7 @@ use mathlib.Core.Path.{_≡_, sym, _∙_}
 use mathlib.Core.Bool.{true, false}
 use mathlib.Core.List.{List}
 use Prim.Native.Nat.{ℕ}
-use Rattle.sheet.specs.laws.Basics.{never}
+use Rattle.lists.specs.laws.TestLaw.{never}
 use Rattle.cubes.specs.declared.goal.Goal.{Goal}
 use Rattle.store.specs.Store.{ToldOk, Tells}
 use Rattle.store.specs.declared.entries.Told.{Told}

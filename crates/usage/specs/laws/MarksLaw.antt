@@ -8,15 +8,15 @@ use mathlib.Core.List.{List, [], _∷_, _++_}
 use borrow.Author.Tests.{lt-ltb}
 use lib.Dec.{ltb}
 use lib.ListN.{getD, take}
-use Rattle.sheet.specs.Lists.{maybe, All}
+use Rattle.lists.specs.Lists.{maybe, All}
 use Rattle.sheet.specs.Sheet.{Sheet}
 use Rattle.sheet.specs.WellFormed.{WellFormed}
 use Rattle.model.specs.Mutant.{rule, siteOf, acts, step, initial, startSlot, specified}
 use Rattle.model.specs.Machine.{specifiedFrom}
 use Rattle.model.specs.Used.{mark, markFrom, markAll, counted, usedOn}
 use Rattle.model.specs.Suite.{Place, triedOf}
-use Rattle.model.specs.laws.Basics.{all-imp, all-append, all-getD}
-use Rattle.model.specs.laws.Closed.{rule-in, start-below}
+use Rattle.lists.specs.laws.AllLaw.{all-imp, all-append, all-getD}
+use Rattle.model.specs.laws.StaysLaw.{rule-in, start-below}
 use Rattle.model.specs.laws.SuiteLaw.{specified-uncons, Specified, test-specified}
 use Rattle.model.specs.laws.SuspectLaw.{slot-count, site-is}
 use Rattle.block.specs.Layout.{pair}

@@ -1,4 +1,4 @@
-use Rattle.sheet.specs.laws.Basics.{never}
+use Rattle.lists.specs.laws.TestLaw.{never}
 use Rattle.walks.proofs.StandLaw.{stands-start}
 use Rattle.walks.proofs.SplitLaw.{none-extends}
 use borrow.Author.Needs.{needs}

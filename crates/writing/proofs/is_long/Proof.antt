@@ -3,7 +3,7 @@ use borrow.Author.Needs.{needs}
 use borrow.Author.Tests.{lt-ltb}
 use native.Mathlib.Omega.{arith}
 use mathlib.Core.Path.{sym}
-use Rattle.writing.specs.Spelled.{lengthOf}
+use Rattle.writing.specs.words.Spelled.{lengthOf}
 use Rattle.writing.proofs.is_long.Statement.{statement}
 use Rattle.writing.proofs.is_long.Tie as tie
 

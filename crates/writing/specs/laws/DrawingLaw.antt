@@ -8,9 +8,9 @@ use lib.ListN.{length, drop, length-append, take-append-drop, length-drop}
 use lib.Seq.{take-append-seam, drop-append-seam, length-take-le}
 use borrow.Author.Tests.{eqb-true, not-false, eq-eqb}
 use Rattle.sheet.specs.declared.Row.{Row}
-use Rattle.sheet.specs.Lists.{joined}
+use Rattle.lists.specs.Lists.{joined}
 use Rattle.sheet.specs.Sheet.{Sheet, rowOf}
-use Rattle.sheet.specs.laws.Basics.{both}
+use Rattle.lists.specs.laws.TestLaw.{both}
 use Rattle.writing.specs.Drawing.{Drawing, rowsOf, testsOf, total, isCut, sheetOf, drawingOf}
 
 -- ---- a sheet's tables

@@ -7,9 +7,9 @@ use lib.ListN.{length, take, drop, length-append, length-drop}
 use lib.Seq.{length-take-le}
 use Rattle.sheet.specs.Sheet.{Sheet}
 use Rattle.sheet.specs.Encode.{sizeBytes, rowBytes, pressBytes, testBytes, encode}
-use Rattle.sheet.specs.laws.Injective.{encode-parts}
+use Rattle.sheet.specs.laws.InjectiveLaw.{encode-parts}
 use Rattle.writing.specs.Drawing.{Drawing, rowsOf, testsOf, total, sheetOf}
-use Rattle.writing.specs.Spelled.{lengthOf}
+use Rattle.writing.specs.words.Spelled.{lengthOf}
 use Rattle.writing.specs.laws.DrawingLaw.{Whole}
 
 pub parts-length : (sh : Sheet) → length (encode sh) ≡ 5 + length (rowBytes 2 (sh .rules)) + length (rowBytes 3 (sh .faults)) + length (testBytes (sh .tests))

@@ -6,8 +6,8 @@ use mathlib.Core.Path.{_≡_, refl, sym, _∙_, ap, ap₂}
 use mathlib.Core.List.{List, [], _∷_, _++_, append-assoc, append-nil}
 use lib.ListN.{length, set, take, drop, length-append, length-set, take-append-drop}
 use lib.Seq.{take-suc-set, drop-set-lt, drop-drop}
-use Rattle.sheet.specs.Lists.{overlay}
-use Rattle.writing.specs.Spelled.{Spelled}
+use Rattle.lists.specs.Lists.{overlay}
+use Rattle.writing.specs.words.Spelled.{Spelled}
 
 pub spelled-none : {l : List ℕ} {at : ℕ} → Spelled l l at at []
 spelled-none {l} {at} = record { long = refl; many = omega arith; front = sym (append-nil (take at l)); back = refl }

@@ -9,9 +9,9 @@ use borrow.Author.Tests.{le-ltb}
 use Rattle.sheet.specs.Sheet.{Sheet}
 use Rattle.sheet.specs.Reading.{accepted, refused, Reading, reading}
 use Rattle.sheet.specs.Encode.{encode}
-use Rattle.sheet.specs.laws.Basics.{never}
-use Rattle.sheet.specs.laws.Encoded.{encoded}
-use Rattle.sheet.specs.laws.Injective.{encode-injective}
+use Rattle.lists.specs.laws.TestLaw.{never}
+use Rattle.sheet.specs.laws.EncodedLaw.{encoded}
+use Rattle.sheet.specs.laws.InjectiveLaw.{encode-injective}
 use Rattle.writing.specs.Drawing.{Drawing, isCut, sheetOf, drawingOf}
 use Rattle.writing.specs.Writing.{placed, writing, Spells}
 use Rattle.writing.specs.laws.DrawingLaw.{sheet-again, never-cut, whole, drawing-again}

@@ -2,7 +2,7 @@ use borrow.Author.Needs.{needs}
 use Prim.Native.Nat.{_-_, _≤_}
 use native.Mathlib.Omega.{arith}
 use mathlib.Core.Path.{refl}
-use Rattle.block.proofs.Packs.{fill-none, fill-more, fill-all}
+use Rattle.block.proofs.PackingLaw.{fill-none, fill-more, fill-all}
 use Rattle.block.specs.Packing.{Copied}
 use Rattle.block.proofs.packing.copy.Statement.{statement}
 use Rattle.block.proofs.packing.copy.Tie as tie

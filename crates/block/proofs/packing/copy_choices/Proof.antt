@@ -1,7 +1,7 @@
 use borrow.Author.Needs.{needs}
 use Prim.Native.Nat.{_-_}
 use native.Mathlib.Omega.{arith}
-use Rattle.block.proofs.Packs.{fill-none, fill-more, fill-all}
+use Rattle.block.proofs.PackingLaw.{fill-none, fill-more, fill-all}
 use Rattle.block.specs.Packing.{ChoicesCopied}
 use Rattle.block.proofs.packing.copy_choices.Statement.{statement}
 use Rattle.block.proofs.packing.copy_choices.Tie as tie

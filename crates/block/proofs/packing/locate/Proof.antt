@@ -1,7 +1,7 @@
 use borrow.Author.Needs.{needs}
 use Prim.Native.Nat.{_-_, _≤_}
 use native.Mathlib.Omega.{arith}
-use Rattle.block.proofs.Packs.{located-none, located-more}
+use Rattle.block.proofs.PackingLaw.{located-none, located-more}
 use Rattle.block.specs.Packing.{Located}
 use Rattle.block.proofs.packing.locate.Statement.{statement}
 use Rattle.block.proofs.packing.locate.Tie as tie

@@ -3,7 +3,7 @@ use borrow.Author.Needs.{needs}
 use native.Mathlib.Omega.{arith}
 use Prim.Native.Nat.{_≤_}
 use lib.ListN.{length-set}
-use Rattle.block.proofs.Tabulates.{few, tabled}
+use Rattle.block.proofs.TabulateLaw.{few, tabled}
 use Rattle.block.proofs.packing.tabulate.Statement.{statement}
 use Rattle.block.proofs.packing.tabulate.Tie as tie
 

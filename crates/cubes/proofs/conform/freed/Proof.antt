@@ -1,4 +1,4 @@
-use Rattle.sheet.specs.laws.Basics.{never}
+use Rattle.lists.specs.laws.TestLaw.{never}
 use borrow.Author.Tests.{not-false}
 use Rattle.cubes.specs.laws.LiteralLaw.{freed-all}
 use borrow.Author.Needs.{needs}

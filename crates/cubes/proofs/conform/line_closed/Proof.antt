@@ -1,5 +1,5 @@
 use borrow.Author.Needs.{needs}
-use Rattle.sheet.specs.laws.Basics.{never}
+use Rattle.lists.specs.laws.TestLaw.{never}
 use borrow.Author.Tests.{not-false}
 use Prim.Native.Nat.{_-_}
 use Rattle.cubes.specs.Cube.{In}

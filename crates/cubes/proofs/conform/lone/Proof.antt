@@ -1,4 +1,4 @@
-use Rattle.sheet.specs.laws.Basics.{never}
+use Rattle.lists.specs.laws.TestLaw.{never}
 use Rattle.cubes.specs.laws.ConformLaw.{lone-low, lone-ok}
 use borrow.Author.Needs.{needs}
 use Rattle.cubes.proofs.conform.lone.Statement.{statement}

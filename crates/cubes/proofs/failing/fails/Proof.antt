@@ -1,5 +1,5 @@
 use borrow.Author.Needs.{needs}
-use Rattle.sheet.specs.laws.Basics.{never}
+use Rattle.lists.specs.laws.TestLaw.{never}
 use native.Mathlib.Omega.{arith}
 use Prim.Native.Nat.{_-_}
 use lib.ListN.{length}

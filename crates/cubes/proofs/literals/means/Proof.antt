@@ -1,4 +1,4 @@
-use Rattle.sheet.specs.laws.Basics.{never}
+use Rattle.lists.specs.laws.TestLaw.{never}
 use mathlib.Core.Path.{sym, _∙_}
 use Rattle.cubes.specs.laws.LiteralLaw.{meaning, any-means}
 use Rattle.cubes.specs.Sets.{Has}

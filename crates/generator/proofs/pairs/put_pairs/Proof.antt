@@ -3,7 +3,7 @@ use Prim.Native.Nat.{_*_, _-_, _≤_}
 use native.Mathlib.Omega.{arith}
 use mathlib.Core.Path.{_≡_}
 use Rattle.generator.specs.Generating.{drafted}
-use Rattle.generator.specs.Standing.{Standing}
+use Rattle.generator.specs.words.Standing.{Standing}
 use Rattle.generator.specs.laws.GeneratedLaw.{few-pairs}
 use Rattle.generator.proofs.StandingLaw.{standing-start, standing-few, standing-ready, standing-more}
 use Rattle.generator.proofs.pairs.put_pairs.Statement.{statement}

@@ -7,12 +7,6 @@ use Rattle.block.specs.Logged.{observation}
 use Rattle.logs.proofs.suite.observed.Statement.{statement}
 use Rattle.logs.proofs.suite.observed.Tie as tie
 
-mul-result : tie.Need-mul-result
-mul-result c = search needs
-
-add-result : tie.Need-add-result
-add-result c = search needs
-
 returns : tie.Need-returns
 unfolding observation
 returns c = let x = c .args .x in
@@ -22,4 +16,5 @@ returns c = let x = c .args .x in
     rw (ne-eqb (x * 16 + o) 256 (λ z. omega arith), e, f) refl
 
 pub observed-spec : {M : Type 1} → statement M
-observed-spec = tie.close (tie.spec mul-result add-result returns)
+observed-spec =
+    tie.close (tie.spec (λ c. search needs) (λ c. search needs) returns)

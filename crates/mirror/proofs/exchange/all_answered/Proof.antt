@@ -1,9 +1,9 @@
 use Prim.Native.Nat.{_-_}
 use borrow.Author.Tests.{not-false}
-use Rattle.sheet.specs.laws.Basics.{never}
+use Rattle.lists.specs.laws.TestLaw.{never}
 use borrow.Author.Needs.{needs}
 use Rattle.mirror.specs.Mirror.{Below, Answered}
-use Rattle.mirror.proofs.Others.{none-below, more-below, all-below}
+use Rattle.mirror.proofs.OtherLaw.{none-below, more-below, all-below}
 use Rattle.mirror.proofs.exchange.all_answered.Statement.{statement}
 use Rattle.mirror.proofs.exchange.all_answered.Tie as tie
 

@@ -1,5 +1,5 @@
 use borrow.Author.Needs.{needs}
-use Rattle.mirror.proofs.Exchanges.{answers}
+use Rattle.mirror.proofs.ExchangeLaw.{answers}
 use Rattle.mirror.proofs.exchange.answered.Statement.{statement}
 use Rattle.mirror.proofs.exchange.answered.Tie as tie
 

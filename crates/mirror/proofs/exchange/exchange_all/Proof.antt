@@ -1,6 +1,6 @@
 use Prim.Native.Nat.{_+_, _-_}
 use borrow.Author.Needs.{needs}
-use Rattle.mirror.proofs.Exchanges.{SwapsTo, swaps-none, swaps-more, swaps-all}
+use Rattle.mirror.proofs.ExchangeLaw.{SwapsTo, swaps-none, swaps-more, swaps-all}
 use Rattle.mirror.proofs.exchange.exchange_all.Statement.{statement}
 use Rattle.mirror.proofs.exchange.exchange_all.Tie as tie
 

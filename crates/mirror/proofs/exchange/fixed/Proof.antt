@@ -1,4 +1,4 @@
-use Rattle.mirror.proofs.Exchanges.{fixed-all}
+use Rattle.mirror.proofs.ExchangeLaw.{fixed-all}
 use borrow.Author.Needs.{needs}
 use Rattle.mirror.proofs.exchange.fixed.Statement.{statement}
 use Rattle.mirror.proofs.exchange.fixed.Tie as tie

@@ -1,6 +1,6 @@
-use Rattle.sheet.specs.laws.Basics.{never}
+use Rattle.lists.specs.laws.TestLaw.{never}
 use borrow.Author.Tests.{eqb-true}
-use Rattle.mirror.proofs.Exchanges.{offers}
+use Rattle.mirror.proofs.ExchangeLaw.{offers}
 use borrow.Author.Needs.{needs}
 use Rattle.mirror.proofs.exchange.is_choice.Statement.{statement}
 use Rattle.mirror.proofs.exchange.is_choice.Tie as tie

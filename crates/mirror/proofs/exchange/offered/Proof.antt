@@ -1,6 +1,6 @@
 use Prim.Native.Nat.{_≤_, _<_}
 use native.Mathlib.Omega.{arith}
-use Rattle.sheet.specs.laws.Basics.{never}
+use Rattle.lists.specs.laws.TestLaw.{never}
 use borrow.Author.Needs.{needs}
 use Rattle.mirror.proofs.exchange.offered.Statement.{statement}
 use Rattle.mirror.proofs.exchange.offered.Tie as tie

@@ -1,5 +1,5 @@
 use mathlib.Core.Path.{sym}
-use Rattle.mirror.proofs.Others.{other-first, other-second, other-rest}
+use Rattle.mirror.proofs.OtherLaw.{other-first, other-second, other-rest}
 use Rattle.mirror.proofs.exchange.other.Statement.{statement}
 use Rattle.mirror.proofs.exchange.other.Tie as tie
 

@@ -1,6 +1,6 @@
-use Rattle.sheet.specs.laws.Basics.{never}
+use Rattle.lists.specs.laws.TestLaw.{never}
 use mathlib.Core.Path.{sym, _∙_}
-use Rattle.mirror.proofs.Exchanges.{unruled-exchange}
+use Rattle.mirror.proofs.ExchangeLaw.{unruled-exchange}
 use borrow.Author.Needs.{needs}
 use Rattle.mirror.proofs.exchange.pair_exchanges.Statement.{statement}
 use Rattle.mirror.proofs.exchange.pair_exchanges.Tie as tie

@@ -1,6 +1,6 @@
 use borrow.Author.Tests.{not-false}
-use Rattle.mirror.proofs.Others.{each-none, each-one}
-use Rattle.mirror.proofs.Exchanges.{movable}
+use Rattle.mirror.proofs.OtherLaw.{each-none, each-one}
+use Rattle.mirror.proofs.ExchangeLaw.{movable}
 use borrow.Author.Needs.{needs}
 use Rattle.mirror.proofs.exchange.partner.Statement.{statement}
 use Rattle.mirror.proofs.exchange.partner.Tie as tie

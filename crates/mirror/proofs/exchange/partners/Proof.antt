@@ -1,8 +1,8 @@
 use Prim.Native.Nat.{_-_}
 use borrow.Author.Needs.{needs}
 use Rattle.mirror.specs.Mirror.{Each, Exchangeable}
-use Rattle.mirror.proofs.Others.{each-none, each-more}
-use Rattle.mirror.proofs.Exchanges.{movable}
+use Rattle.mirror.proofs.OtherLaw.{each-none, each-more}
+use Rattle.mirror.proofs.ExchangeLaw.{movable}
 use Rattle.mirror.proofs.exchange.partners.Statement.{statement}
 use Rattle.mirror.proofs.exchange.partners.Tie as tie
 

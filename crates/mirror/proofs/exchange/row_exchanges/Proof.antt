@@ -1,11 +1,11 @@
 use Prim.Native.Nat.{_-_}
 use borrow.Author.Tests.{not-false}
-use Rattle.sheet.specs.laws.Basics.{never}
+use Rattle.lists.specs.laws.TestLaw.{never}
 use native.Mathlib.Omega.{arith}
 use borrow.Author.Needs.{needs}
 use Rattle.block.specs.Layout.{pair}
 use Rattle.mirror.specs.Mirror.{other, Below, Exchanges}
-use Rattle.mirror.proofs.Others.{other-low, none-below, more-below, all-below}
+use Rattle.mirror.proofs.OtherLaw.{other-low, none-below, more-below, all-below}
 use Rattle.mirror.proofs.exchange.row_exchanges.Statement.{statement}
 use Rattle.mirror.proofs.exchange.row_exchanges.Tie as tie
 

@@ -1,5 +1,5 @@
 use Prim.Native.Nat.{_%_}
-use Rattle.sheet.specs.laws.Basics.{never}
+use Rattle.lists.specs.laws.TestLaw.{never}
 use mathlib.Core.Path.{sym, _∙_}
 use borrow.Author.Tests.{eqb-true}
 use borrow.Author.Needs.{needs}

@@ -1,5 +1,5 @@
 use borrow.Author.Tests.{not-true}
-use Rattle.mirror.proofs.Reflections.{blind-any, blind-some}
+use Rattle.mirror.proofs.ReflectLaw.{blind-any, blind-some}
 use borrow.Author.Needs.{needs}
 use Rattle.mirror.proofs.reflection.blind.Statement.{statement}
 use Rattle.mirror.proofs.reflection.blind.Tie as tie

@@ -1,12 +1,12 @@
 use Prim.Native.Nat.{_-_}
 use borrow.Author.Tests.{not-false}
-use Rattle.sheet.specs.laws.Basics.{never}
+use Rattle.lists.specs.laws.TestLaw.{never}
 use borrow.Author.Needs.{needs}
 use mathlib.Core.Path.{_≡_}
 use lib.ListN.{getD}
 use Rattle.mirror.specs.Mirror.{Below}
 use Rattle.mirror.specs.Reflect.{Blind}
-use Rattle.mirror.proofs.Others.{none-below, more-below, all-below}
+use Rattle.mirror.proofs.OtherLaw.{none-below, more-below, all-below}
 use Rattle.mirror.proofs.reflection.blind_but.Statement.{statement}
 use Rattle.mirror.proofs.reflection.blind_but.Tie as tie
 

@@ -1,6 +1,6 @@
 use borrow.Author.Tests.{not-false}
 use borrow.Author.Needs.{needs}
-use Rattle.mirror.proofs.Others.{each-none, each-one}
+use Rattle.mirror.proofs.OtherLaw.{each-none, each-one}
 use Rattle.mirror.proofs.reflection.image.Statement.{statement}
 use Rattle.mirror.proofs.reflection.image.Tie as tie
 

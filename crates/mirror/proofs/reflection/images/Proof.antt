@@ -2,7 +2,7 @@ use Prim.Native.Nat.{_-_}
 use borrow.Author.Needs.{needs}
 use Rattle.mirror.specs.Mirror.{Each}
 use Rattle.mirror.specs.Reflect.{Mirrors}
-use Rattle.mirror.proofs.Others.{each-none, each-more}
+use Rattle.mirror.proofs.OtherLaw.{each-none, each-more}
 use Rattle.mirror.proofs.reflection.images.Statement.{statement}
 use Rattle.mirror.proofs.reflection.images.Tie as tie
 

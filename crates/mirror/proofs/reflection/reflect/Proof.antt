@@ -1,6 +1,6 @@
 use borrow.Author.Tests.{not-false}
 use native.Mathlib.Omega.{arith}
-use Rattle.mirror.proofs.Reflections.{reflect-some}
+use Rattle.mirror.proofs.ReflectLaw.{reflect-some}
 use borrow.Author.Needs.{needs}
 use Rattle.mirror.proofs.reflection.reflect.Statement.{statement}
 use Rattle.mirror.proofs.reflection.reflect.Tie as tie

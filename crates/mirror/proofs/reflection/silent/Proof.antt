@@ -1,12 +1,12 @@
 use Prim.Native.Nat.{_-_}
 use borrow.Author.Tests.{not-false}
-use Rattle.sheet.specs.laws.Basics.{never}
+use Rattle.lists.specs.laws.TestLaw.{never}
 use native.Mathlib.Omega.{arith}
 use borrow.Author.Needs.{needs}
 use Rattle.block.specs.Layout.{pair}
 use Rattle.mirror.specs.Mirror.{Below}
 use Rattle.mirror.specs.Reflect.{Quiet}
-use Rattle.mirror.proofs.Others.{none-below, more-below, all-below}
+use Rattle.mirror.proofs.OtherLaw.{none-below, more-below, all-below}
 use Rattle.mirror.proofs.reflection.silent.Statement.{statement}
 use Rattle.mirror.proofs.reflection.silent.Tie as tie
 

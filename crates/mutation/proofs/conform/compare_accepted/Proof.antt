@@ -1,25 +1,16 @@
 -- `compare_accepted`: each way out is a case of what comparing comes to.
 use mathlib.Core.Path.{_∙_}
 use Rattle.block.specs.laws.TabledLaw.{well-formed}
-use Rattle.mutation.proofs.Operating.{valid, low, compare-refused, compare-short, compare-done}
+use Rattle.mutation.proofs.OperateLaw.{valid, low, compare-refused, compare-short, compare-done}
 use native.Mathlib.Omega.{arith}
 use borrow.Author.Needs.{needs}
 use Rattle.mutation.proofs.conform.compare_accepted.Statement.{statement}
 use Rattle.mutation.proofs.conform.compare_accepted.Tie as tie
 
-fresh-requires : tie.Need-fresh-requires
-fresh-requires c κs = search needs
-
-tabulate-requires : tie.Need-tabulate-requires
-tabulate-requires c κs = search needs
-
 machine-of-requires : tie.Need-machine-of-requires
 machine-of-requires c κs =
     let entry = c .before .before .before .before .before .before in
     (entry .pre .0, c .before .tabulate .ensures .1 (entry .pre .0) (entry .pre .1))
-
-enum-known-fit : tie.Need-enum-known-fit
-enum-known-fit c = search needs
 
 returns : tie.Need-returns
 returns c =
@@ -27,24 +18,12 @@ returns c =
     let at-tabulate = at-machine-of .before .before in
     λ sh rd. compare-refused (at-tabulate .tabulate .ensures .1 sh rd) (at-machine-of .machine-of .ensures sh (at-tabulate .tabulate .ensures .1 sh rd)) (c .before .fit .given .1) _
 
-enum-told : tie.Need-enum-told
-enum-told c = search needs
-
-states-requires : tie.Need-states-requires
-states-requires c κs = search needs
-
-wide-requires : tie.Need-wide-requires
-wide-requires c κs = search needs
-
 bound-requires : tie.Need-bound-requires
 bound-requires c κs =
     let at-tabulate = c .before .before .before .before .before .before .before in
     let entry = at-tabulate .before .before .before .before .before in
     let w = well-formed (at-tabulate .tabulate .ensures .1 (entry .pre .0) (entry .pre .1)) in
     (omega (arith, c .wide .ensures, c .before .states .ensures, w .some-states), omega (arith, c .wide .ensures, c .before .states .ensures, w .few-states))
-
-cast-if1 : tie.Need-cast-if1
-cast-if1 c = search needs
 
 returns-2 : tie.Need-returns-2
 returns-2 c =
@@ -68,12 +47,6 @@ distinguish-requires c κs =
     let is = at-machine-of .machine-of .ensures (entry .pre .0) tb in
     (valid tb is (at-enum-told .enum-told .given .1), (low tb is (at-enum-told .enum-told .given .1), rw (at-bound .bound .ensures, at-wide .wide .ensures .0, at-states .states .ensures) at (at-if1 .if1 .left)))
 
-compared-requires : tie.Need-compared-requires
-compared-requires c κs = search needs
-
-same-length : tie.Need-same-length
-same-length c = search needs
-
 returns-3 : tie.Need-returns-3
 returns-3 c =
     let at-distinguish = c .before .before .before in
@@ -90,18 +63,6 @@ pub compare-accepted-spec : {M : Type 1} → statement M
 compare-accepted-spec =
     tie.close
     (tie.spec
-    fresh-requires
-    tabulate-requires
-    machine-of-requires
-    enum-known-fit
-    returns
-    enum-told
-    states-requires
-    wide-requires
-    bound-requires
-    cast-if1
-    returns-2
-    distinguish-requires
-    compared-requires
-    same-length
-    returns-3)
+    (λ c κs. search needs) (λ c κs. search needs) machine-of-requires (λ c. search needs) returns (λ c. search needs)
+    (λ c κs. search needs) (λ c κs. search needs) bound-requires (λ c. search needs) returns-2 distinguish-requires
+    (λ c κs. search needs) (λ c. search needs) returns-3)

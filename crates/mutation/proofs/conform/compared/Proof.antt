@@ -4,17 +4,9 @@ use borrow.Author.Needs.{needs}
 use Rattle.mutation.proofs.conform.compared.Statement.{statement}
 use Rattle.mutation.proofs.conform.compared.Tie as tie
 
-enum-told : tie.Need-enum-told
-enum-told c = search needs
-
-enum-known-found : tie.Need-enum-known-found
-enum-known-found c = search needs
-
-returns : tie.Need-returns
-returns c = search needs
-
-returns-2 : tie.Need-returns-2
-returns-2 c = sym (ap comparedBy (c .before .found .given .1))
-
 pub compared-spec : {M : Type 1} → statement M
-compared-spec = tie.close (tie.spec enum-told enum-known-found returns returns-2)
+compared-spec =
+    tie.close
+    (tie.spec
+    (λ c. search needs) (λ c. search needs) (λ c. search needs)
+    (λ c. sym (ap comparedBy (c .before .found .given .1))))

@@ -15,12 +15,6 @@ Inv-loop k inputs i₀ i =
 abbrev μ-loop : tie.MeasureT-loop
 μ-loop k inputs i₀ i = length inputs - i
 
-loop-holds : tie.Need-loop-holds Inv-loop μ-loop
-loop-holds c = (omega arith, λ j l. absurd (omega arith))
-
-shared-slice-read-if1 : tie.Need-shared-slice-read-if1 Inv-loop μ-loop
-shared-slice-read-if1 c = omega arith
-
 returns : tie.Need-returns Inv-loop μ-loop
 returns c =
     let at-loop = c .before .before .before in
@@ -31,27 +25,19 @@ add-i c =
     let entry = c .before .before .before .before in
     omega (arith, entry .good)
 
-loop-less : tie.Need-loop-less Inv-loop μ-loop
-loop-less c = omega arith
-
 loop-again : tie.Need-loop-again Inv-loop μ-loop
 loop-again c =
     let at-loop = c .before .before .before in
     (omega arith, below-more _ _ (at-loop .loop .inv .1) (c .if1 .left))
 
-returns-2 : tie.Need-returns-2 Inv-loop μ-loop
-returns-2 c = over-nowhere _ _ _ (c .before .loop .inv .1) (c .loop-test .left) (c .before .loop .inv .0)
-
 pub first-over-spec : {M : Type 1} → statement M
 first-over-spec =
     tie.close
     (tie.spec
-    Inv-loop
-    μ-loop
-    loop-holds
-    shared-slice-read-if1
-    returns
-    add-i
-    loop-less
+    Inv-loop μ-loop
+    (λ c. (omega arith, λ j l. absurd (omega arith)))
+    (λ c. omega arith)
+    returns add-i
+    (λ c. omega arith)
     loop-again
-    returns-2)
+    (λ c. over-nowhere _ _ _ (c .before .loop .inv .1) (c .loop-test .left) (c .before .loop .inv .0)))

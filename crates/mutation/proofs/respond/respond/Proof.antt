@@ -13,24 +13,12 @@ Inv-loop block outputs targets start inputs buffer₀ used₀ s₀ i₀ buffer u
 abbrev μ-loop : tie.MeasureT-loop
 μ-loop block outputs targets start inputs buffer₀ used₀ s₀ i₀ buffer used s i = length inputs - i
 
-start-set-requires : tie.Need-start-set-requires Inv-loop μ-loop
-start-set-requires c κs = search needs
-
-loop-holds : tie.Need-loop-holds Inv-loop μ-loop
-loop-holds c = respond-start (c .before .before .before .pre .0) _ (c .start-set .ensures)
-
-shared-slice-read-place : tie.Need-shared-slice-read-place Inv-loop μ-loop
-shared-slice-read-place c = omega arith
-
 place-requires : tie.Need-place-requires Inv-loop μ-loop
 place-requires c κs =
     let at-loop-test = c .before in
     let at-loop = at-loop-test .before in
     let entry = at-loop .before .before .before .before in
     place-low (entry .pre .0) _ (at-loop .loop .inv) (at-loop-test .loop-test .taken)
-
-element-copy-out-buffer : tie.Need-element-copy-out-buffer Inv-loop μ-loop
-element-copy-out-buffer c = search needs
 
 slice-write-buffer : tie.Need-slice-write-buffer Inv-loop μ-loop
 slice-write-buffer c =
@@ -39,20 +27,11 @@ slice-write-buffer c =
     let entry = at-loop .before .before .before .before in
     omega (arith, at-loop .loop .inv .long, at-loop-test .loop-test .taken, entry .pre .1)
 
-marked-requires : tie.Need-marked-requires Inv-loop μ-loop
-marked-requires c κs = search needs
-
-element-copy-out-s : tie.Need-element-copy-out-s Inv-loop μ-loop
-element-copy-out-s c = search needs
-
 add-i : tie.Need-add-i Inv-loop μ-loop
 add-i c =
     let at-loop-test = c .before .before .before .before .before in
     let entry = at-loop-test .before .before .before .before .before in
     omega (arith, at-loop-test .loop-test .taken, entry .good)
-
-loop-less : tie.Need-loop-less Inv-loop μ-loop
-loop-less c = omega arith
 
 loop-again : tie.Need-loop-again Inv-loop μ-loop
 loop-again c =
@@ -65,9 +44,6 @@ loop-again c =
     let taken = at-loop-test .loop-test .taken in
     respond-more (entry .pre .0) _ inv taken (omega (arith, inv .long, taken, entry .pre .1)) (at-place .place .ensures .0) (at-marked .marked .ensures)
 
-same-length : tie.Need-same-length Inv-loop μ-loop
-same-length c = c .before .loop .inv .long
-
 returns : tie.Need-returns Inv-loop μ-loop
 returns c =
     let at-loop = c .before in
@@ -78,18 +54,11 @@ pub respond-spec : {M : Type 1} → statement M
 respond-spec =
     tie.close
     (tie.spec
-    Inv-loop
-    μ-loop
-    start-set-requires
-    loop-holds
-    shared-slice-read-place
-    place-requires
-    element-copy-out-buffer
-    slice-write-buffer
-    marked-requires
-    element-copy-out-s
-    add-i
-    loop-less
+    Inv-loop μ-loop (λ c κs. search needs)
+    (λ c. respond-start (c .before .before .before .pre .0) _ (c .start-set .ensures))
+    (λ c. omega arith)
+    place-requires (λ c. search needs) slice-write-buffer (λ c κs. search needs) (λ c. search needs) add-i
+    (λ c. omega arith)
     loop-again
-    same-length
+    (λ c. c .before .loop .inv .long)
     returns)

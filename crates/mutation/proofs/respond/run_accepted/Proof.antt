@@ -1,37 +1,19 @@
 -- `run_accepted`: each way out is a case of what running comes to.
-use Rattle.mutation.proofs.Operating.{runnable, run-refused, run-over, run-short, run-done}
+use Rattle.mutation.proofs.OperateLaw.{runnable, run-refused, run-over, run-short, run-done}
 use borrow.Author.Needs.{needs}
 use Rattle.mutation.proofs.respond.run_accepted.Statement.{statement}
 use Rattle.mutation.proofs.respond.run_accepted.Tie as tie
-
-fresh-requires : tie.Need-fresh-requires
-fresh-requires c κs = search needs
-
-tabulate-requires : tie.Need-tabulate-requires
-tabulate-requires c κs = search needs
 
 machine-of-requires : tie.Need-machine-of-requires
 machine-of-requires c κs =
     let entry = c .before .before .before .before .before .before .before in
     (entry .pre .0, c .before .tabulate .ensures .1 (entry .pre .0) (entry .pre .1))
 
-enum-known-fit : tie.Need-enum-known-fit
-enum-known-fit c = search needs
-
 returns : tie.Need-returns
 returns c =
     let at-machine-of = c .before .before .before in
     let at-tabulate = at-machine-of .before .before in
     λ sh rd. run-refused (at-tabulate .tabulate .ensures .1 sh rd) (at-machine-of .machine-of .ensures sh (at-tabulate .tabulate .ensures .1 sh rd)) (c .before .fit .given .1) _ _
-
-enum-told : tie.Need-enum-told
-enum-told c = search needs
-
-inputs-requires : tie.Need-inputs-requires
-inputs-requires c κs = search needs
-
-first-over-requires : tie.Need-first-over-requires
-first-over-requires c κs = search needs
 
 returns-2 : tie.Need-returns-2
 returns-2 c =
@@ -61,12 +43,6 @@ respond-requires c κs =
     let tb = at-tabulate .tabulate .ensures .1 (entry .pre .0) (entry .pre .1) in
     (runnable tb (at-machine-of .machine-of .ensures (entry .pre .0) tb) (at-enum-told .enum-told .given .1) _ (at-inputs .inputs .ensures) (at-first-over .first-over .ensures) (at-if1 .if1 .left), at-if2 .if2 .left)
 
-counted-requires : tie.Need-counted-requires
-counted-requires c κs = search needs
-
-same-length : tie.Need-same-length
-same-length c = search needs
-
 returns-4 : tie.Need-returns-4
 returns-4 c =
     let at-respond = c .before .before .before in
@@ -86,17 +62,6 @@ pub run-accepted-spec : {M : Type 1} → statement M
 run-accepted-spec =
     tie.close
     (tie.spec
-    fresh-requires
-    tabulate-requires
-    machine-of-requires
-    enum-known-fit
-    returns
-    enum-told
-    inputs-requires
-    first-over-requires
-    returns-2
-    returns-3
-    respond-requires
-    counted-requires
-    same-length
+    (λ c κs. search needs) (λ c κs. search needs) machine-of-requires (λ c. search needs) returns (λ c. search needs)
+    (λ c κs. search needs) (λ c κs. search needs) returns-2 returns-3 respond-requires (λ c κs. search needs) (λ c. search needs)
     returns-4)

@@ -3,17 +3,10 @@ use borrow.Author.Needs.{needs}
 use Rattle.mutation.proofs.suite.failure.Statement.{statement}
 use Rattle.mutation.proofs.suite.failure.Tie as tie
 
-enum-told : tie.Need-enum-told
-enum-told c = search needs
-
-enum-known-found : tie.Need-enum-known-found
-enum-known-found c = search needs
-
-returns : tie.Need-returns
-returns c = rw (c .enum-told .given .1) refl
-
-returns-2 : tie.Need-returns-2
-returns-2 c = rw (c .before .found .given .1) refl
-
 pub failure-spec : {M : Type 1} → statement M
-failure-spec = tie.close (tie.spec enum-told enum-known-found returns returns-2)
+failure-spec =
+    tie.close
+    (tie.spec
+    (λ c. search needs) (λ c. search needs)
+    (λ c. rw (c .enum-told .given .1) refl)
+    (λ c. rw (c .before .found .given .1) refl))

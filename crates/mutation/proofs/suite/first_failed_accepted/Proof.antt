@@ -5,25 +5,16 @@ use native.Mathlib.Omega.{arith}
 use Rattle.sheet.specs.Reading.{accepted}
 use Rattle.model.specs.Suite.{findingOf}
 use Rattle.mutation.specs.Answers.{failedAnswer}
-use Rattle.mutation.proofs.Operating.{mutant-refused, plays, failed-on}
+use Rattle.mutation.proofs.OperateLaw.{mutant-refused, plays, failed-on}
 use Rattle.mutation.proofs.SuiteLaw.{suite-short, suite-long}
 use Rattle.mutation.proofs.suite.first_failed_accepted.Statement.{statement}
 use Rattle.mutation.proofs.suite.first_failed_accepted.Tie as tie
-
-fresh-requires : tie.Need-fresh-requires
-fresh-requires c κs = search needs
-
-tabulate-requires : tie.Need-tabulate-requires
-tabulate-requires c κs = search needs
 
 machine-of-requires : tie.Need-machine-of-requires
 machine-of-requires c κs =
     let at-tabulate = c .before in
     let entry = at-tabulate .before .before .before .before .before in
     (entry .pre .0, at-tabulate .tabulate .ensures .1 (entry .pre .0) (entry .pre .1 .read))
-
-enum-known-fit : tie.Need-enum-known-fit
-enum-known-fit c = search needs
 
 returns : tie.Need-returns
 returns c =
@@ -34,12 +25,6 @@ returns c =
     λ sh rd.
     let tb = at-tabulate .tabulate .ensures .1 sh (rd .read) in
     sym (ap failedAnswer (mutant-refused tb (at-machine-of .machine-of .ensures sh tb) (at-fit .fit .given .1) (accepted (findingOf sh (entry .args .mutant .now)))))
-
-enum-told : tie.Need-enum-told
-enum-told c = search needs
-
-slice-aggregate-first-failure : tie.Need-slice-aggregate-first-failure
-slice-aggregate-first-failure c = search needs
 
 first-failure-requires : tie.Need-first-failure-requires
 first-failure-requires c κs =
@@ -65,9 +50,6 @@ returns-2 c =
     let is = at-machine-of .machine-of .ensures sh tb in
     let e = at-enum-told .enum-told .given .1 in
     at-first-failure .first-failure .ensures sh _ (suite-short rd tb (omega (arith, at-if1 .if1 .taken))) (plays tb is e) ∙ sym (ap failedAnswer (failed-on tb is e))
-
-slice-aggregate-first-failure-2 : tie.Need-slice-aggregate-first-failure-2
-slice-aggregate-first-failure-2 c = search needs
 
 first-failure-requires-2 : tie.Need-first-failure-requires-2
 first-failure-requires-2 c κs =
@@ -96,15 +78,5 @@ pub first-failed-accepted-spec : {M : Type 1} → statement M
 first-failed-accepted-spec =
     tie.close
     (tie.spec
-    fresh-requires
-    tabulate-requires
-    machine-of-requires
-    enum-known-fit
-    returns
-    enum-told
-    slice-aggregate-first-failure
-    first-failure-requires
-    returns-2
-    slice-aggregate-first-failure-2
-    first-failure-requires-2
-    returns-3)
+    (λ c κs. search needs) (λ c κs. search needs) machine-of-requires (λ c. search needs) returns (λ c. search needs)
+    (λ c. search needs) first-failure-requires returns-2 (λ c. search needs) first-failure-requires-2 returns-3)

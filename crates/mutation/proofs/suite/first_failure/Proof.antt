@@ -6,11 +6,11 @@ use Rattle.mutation.proofs.SuiteLaw.{inside, found-reached, first-found
 use Rattle.mutation.proofs.suite.first_failure.Statement.{statement}
 use Rattle.mutation.proofs.suite.first_failure.Tie as tie
 
-log-suite-requires : tie.Need-log-suite-requires
-log-suite-requires c κs = search needs
-
 slice-reshare-prefix-first-wrong : tie.Need-slice-reshare-prefix-first-wrong
-slice-reshare-prefix-first-wrong c = let pre = c .before .before .before .before .before .before .pre in c .before .before .log-suite .ensures (pre .0) (pre .2) .inside
+slice-reshare-prefix-first-wrong c =
+    let earlier = c .before .before .before .before .before in
+    let at-entry = earlier .before in
+    let pre = at-entry .pre in c .before .before .log-suite .ensures (pre .0) (pre .2) .inside
 
 slice-aggregate-first-wrong : tie.Need-slice-aggregate-first-wrong
 slice-aggregate-first-wrong c =
@@ -18,24 +18,12 @@ slice-aggregate-first-wrong c =
     let entry = at-log-suite .before .before .before .before in
     let pre = entry .pre in sym (length-take-le _ _ (at-log-suite .log-suite .ensures (pre .0) (pre .2) .inside))
 
-first-wrong-requires : tie.Need-first-wrong-requires
-first-wrong-requires c κs = search needs
-
 use-tried-requires : tie.Need-use-tried-requires
 use-tried-requires c κs =
     let at-log-suite = c .before .before .before .before in
     let entry = at-log-suite .before .before .before .before in
     let pre = entry .pre in
     (inside (pre .2), found-reached (pre .2) (pre .3) (at-log-suite .log-suite .ensures (pre .0) (pre .2)) (c .first-wrong .ensures))
-
-counted-requires : tie.Need-counted-requires
-counted-requires c κs = search needs
-
-failure-requires : tie.Need-failure-requires
-failure-requires c κs = search needs
-
-same-length : tie.Need-same-length
-same-length c = search needs
 
 returns : tie.Need-returns
 returns c =
@@ -50,12 +38,5 @@ pub first-failure-spec : {M : Type 1} → statement M
 first-failure-spec =
     tie.close
     (tie.spec
-    log-suite-requires
-    slice-reshare-prefix-first-wrong
-    slice-aggregate-first-wrong
-    first-wrong-requires
-    use-tried-requires
-    counted-requires
-    failure-requires
-    same-length
-    returns)
+    (λ c κs. search needs) slice-reshare-prefix-first-wrong slice-aggregate-first-wrong (λ c κs. search needs) use-tried-requires
+    (λ c κs. search needs) (λ c κs. search needs) (λ c. search needs) returns)

@@ -1,24 +1,12 @@
 -- `judge_counting`: refused as reading refuses, or the judgement of the sheet that was read.
 use mathlib.Core.Path.{refl, ap₂}
-use Rattle.sheet.specs.laws.Refusals.{refusal-told}
+use Rattle.sheet.specs.laws.RefusalLaw.{refusal-told}
 use borrow.Author.Needs.{needs}
 use Rattle.mutation.specs.declared.verdict.Judged.the-variants.{Refused}
-use Rattle.mutation.proofs.Opened.{opened}
+use Rattle.mutation.proofs.OpenLaw.{opened}
 use Rattle.mutation.proofs.JudgingLaw.{judge-refused, judge-accepted}
 use Rattle.mutation.proofs.verdict.judge_counting.Statement.{statement}
 use Rattle.mutation.proofs.verdict.judge_counting.Tie as tie
-
-load-requires : tie.Need-load-requires
-load-requires c κs = search needs
-
-enum-known-reading : tie.Need-enum-known-reading
-enum-known-reading c = search needs
-
-enum-told : tie.Need-enum-told
-enum-told c = search needs
-
-refusal-of-requires : tie.Need-refusal-of-requires
-refusal-of-requires c κs = search needs
 
 returns : tie.Need-returns
 returns c =
@@ -38,12 +26,6 @@ judge-read-requires c κs =
     let x = opened (entry .args .sheet .now) (at-load .load .result) _ (at-load .load .ensures) (at-reading .reading .given .1) in
     (x .sheet, x .holds)
 
-same-length : tie.Need-same-length
-same-length c = search needs
-
-same-length-2 : tie.Need-same-length-2
-same-length-2 c = search needs
-
 returns-2 : tie.Need-returns-2
 returns-2 c =
     let at-judge-read = c .before .before .before .before in
@@ -59,12 +41,5 @@ pub judge-counting-spec : {M : Type 1} → statement M
 judge-counting-spec =
     tie.close
     (tie.spec
-    load-requires
-    enum-known-reading
-    enum-told
-    refusal-of-requires
-    returns
-    judge-read-requires
-    same-length
-    same-length-2
-    returns-2)
+    (λ c κs. search needs) (λ c. search needs) (λ c. search needs) (λ c κs. search needs) returns judge-read-requires
+    (λ c. search needs) (λ c. search needs) returns-2)

@@ -1,6 +1,6 @@
 use borrow.Author.Needs.{needs}
 use native.Mathlib.Omega.{arith}
-use Rattle.sheet.specs.laws.Basics.{never}
+use Rattle.lists.specs.laws.TestLaw.{never}
 use Rattle.search.specs.declared.settle.Found.the-variants.{GaveUp}
 use Rattle.search.proofs.SearchLaw.{start, other}
 use Rattle.search.proofs.attempts.find.Statement.{statement}

@@ -1,5 +1,5 @@
 use borrow.Author.Tests.{not-false}
-use Rattle.sheet.specs.laws.Basics.{never}
+use Rattle.lists.specs.laws.TestLaw.{never}
 use borrow.Author.Needs.{needs}
 use Rattle.search.proofs.settle.refuted.Statement.{statement}
 use Rattle.search.proofs.settle.refuted.Tie as tie

@@ -42,7 +42,7 @@ use denote.Triple.Table.{entered, cited}
 use denote.Triple.Walked.{says, Stays, stay-none, walkOf, goes-none, Walks, ends-at, walked, walk-meets}
 use denote.Exit.{yes}
 use denote.Triple.Clauses.{ensured, lasts}
-use Rattle.sheet.specs.Fetch.{fetchAt}
+use Rattle.sheet.specs.words.Fetch.{fetchAt}
 use Rattle.sheet.specs.declared.fetch.Reader.{Reader}
 use Rattle.sheet.specs.declared.fetch.Fetched.{Fetched}
 use Rattle.sheet.proofs.fetch.Reader as T

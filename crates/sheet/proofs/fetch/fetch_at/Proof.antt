@@ -1,5 +1,5 @@
 use denote.Ref.{now}
-use Rattle.sheet.proofs.FetchLaws as laws
+use Rattle.sheet.proofs.FetchLaw as laws
 use borrow.Author.Needs.{needs}
 use Rattle.sheet.proofs.fetch.fetch_at.Statement.{statement}
 use Rattle.sheet.proofs.fetch.fetch_at.Tie as tie

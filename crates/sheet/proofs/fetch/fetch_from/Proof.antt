@@ -39,7 +39,7 @@ use denote.Triple.Table.{entered, cited}
 use denote.Triple.Walked.{says, Stays, stay-none, stay-none-slice, walkOf, goes-none, goes-none-slice, Walks, ends-at, walked, walk-meets}
 use denote.Exit.{yes}
 use denote.Triple.Clauses.{ensured, lasts}
-use Rattle.sheet.specs.Fetch.{fetchAt}
+use Rattle.sheet.specs.words.Fetch.{fetchAt}
 use Rattle.sheet.specs.declared.fetch.Reader.{Reader}
 use Rattle.sheet.specs.declared.fetch.Fetched.{Fetched}
 use Rattle.sheet.proofs.fetch.Reader as T

@@ -3,9 +3,9 @@ use mathlib.Core.Path.{_≡_, refl}
 use native.Mathlib.Omega.{arith}
 use Rattle.sheet.specs.declared.Size.{Size}
 use Rattle.sheet.specs.Sheet.{Sheet}
-use Rattle.sheet.specs.Places.{Table, Countable}
-use Rattle.sheet.proofs.EndLaws.{few-pairs}
-use Rattle.sheet.proofs.FillLaws as laws
+use Rattle.sheet.specs.words.Places.{Table, Countable}
+use Rattle.sheet.proofs.EndLaw.{few-pairs}
+use Rattle.sheet.proofs.FillLaw as laws
 use borrow.Author.Needs.{needs}
 use Rattle.sheet.proofs.filling.count_choices.Statement.{statement}
 use Rattle.sheet.proofs.filling.count_choices.Tie as tie

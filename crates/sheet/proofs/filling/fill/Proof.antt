@@ -1,7 +1,7 @@
 use native.Mathlib.Omega.{arith}
 use denote.Ref.{now}
-use Rattle.sheet.proofs.FillLaws.{faults-none, tests-none}
-use Rattle.sheet.proofs.LoadLaws as laws
+use Rattle.sheet.proofs.FillLaw.{faults-none, tests-none}
+use Rattle.sheet.proofs.LoadLaw as laws
 use Rattle.sheet.proofs.filling.fill.Statement.{statement}
 use Rattle.sheet.proofs.filling.fill.Tie as tie
 

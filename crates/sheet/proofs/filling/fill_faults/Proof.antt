@@ -5,8 +5,8 @@ use native.Mathlib.Omega.{arith}
 use lib.ListN.{length}
 use denote.Ref.{now}
 use Rattle.sheet.specs.declared.Row.{Row}
-use Rattle.sheet.specs.Places.{FaultsFrom, FaultTables}
-use Rattle.sheet.proofs.FillLaws as laws
+use Rattle.sheet.specs.words.Places.{FaultsFrom, FaultTables}
+use Rattle.sheet.proofs.FillLaw as laws
 use borrow.Author.Needs.{needs}
 use Rattle.sheet.proofs.filling.fill_faults.Statement.{statement}
 use Rattle.sheet.proofs.filling.fill_faults.Tie as tie

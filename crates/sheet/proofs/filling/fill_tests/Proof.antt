@@ -3,8 +3,8 @@ use mathlib.Core.Path.{_≡_}
 use mathlib.Core.List.{List}
 use native.Mathlib.Omega.{arith}
 use lib.ListN.{length}
-use Rattle.sheet.specs.Places.{TestsFrom, TestTables}
-use Rattle.sheet.proofs.FillLaws as laws
+use Rattle.sheet.specs.words.Places.{TestsFrom, TestTables}
+use Rattle.sheet.proofs.FillLaw as laws
 use Rattle.sheet.proofs.filling.fill_tests.Statement.{statement}
 use Rattle.sheet.proofs.filling.fill_tests.Tie as tie
 

@@ -1,5 +1,5 @@
 use native.Mathlib.Omega.{arith}
-use Rattle.sheet.proofs.FillLaws as laws
+use Rattle.sheet.proofs.FillLaw as laws
 use borrow.Author.Needs.{needs}
 use Rattle.sheet.proofs.filling.note_fault.Statement.{statement}
 use Rattle.sheet.proofs.filling.note_fault.Tie as tie

@@ -1,8 +1,8 @@
 use mathlib.Core.Bool.{Bool, true}
-use Rattle.sheet.specs.Lists.{all}
-use Rattle.sheet.specs.Held.{Marks}
+use Rattle.lists.specs.Lists.{all}
+use Rattle.sheet.specs.words.Held.{Marks}
 use Prim.Native.Nat.{ℕ, _-_, _≤_}
-use Rattle.sheet.proofs.EndLaws as laws
+use Rattle.sheet.proofs.EndLaw as laws
 use mathlib.Core.Path.{_∙_, sym, _≡_, refl}
 use native.Mathlib.Omega.{arith}
 use Rattle.sheet.proofs.finish.all_marked.Statement.{statement}

@@ -1,7 +1,7 @@
 use Rattle.sheet.specs.Sheet.{Sheet, reachedWithin}
-use Rattle.sheet.specs.Held.{Leads}
+use Rattle.sheet.specs.words.Held.{Leads}
 use Prim.Native.Nat.{_-_, _≤_}
-use Rattle.sheet.proofs.EndLaws as laws
+use Rattle.sheet.proofs.EndLaw as laws
 use mathlib.Core.Path.{_∙_, _≡_, sym}
 use borrow.Author.Needs.{needs}
 use native.Mathlib.Omega.{arith}

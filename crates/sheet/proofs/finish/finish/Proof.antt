@@ -1,6 +1,6 @@
 use Rattle.sheet.specs.declared.finish.End.the-variants.{Accepted}
 use denote.Ref.{now}
-use Rattle.sheet.proofs.EndLaws as laws
+use Rattle.sheet.proofs.EndLaw as laws
 use mathlib.Core.Path.{_∙_, sym, ap}
 use native.Mathlib.Omega.{arith}
 use borrow.Author.Needs.{needs}

@@ -1,5 +1,5 @@
 use denote.Ref.{now}
-use Rattle.sheet.proofs.EndLaws as laws
+use Rattle.sheet.proofs.EndLaw as laws
 use native.Mathlib.Omega.{arith}
 use borrow.Author.Needs.{needs}
 use Rattle.sheet.proofs.finish.is_open.Statement.{statement}

@@ -2,10 +2,10 @@ use Rattle.sheet.specs.declared.Size.{Size}
 use mathlib.Core.Path.{ap, _∙_, sym, _≡_, refl}
 use mathlib.Core.Logic.{⊎-elim}
 use Rattle.sheet.specs.Sheet.{Sheet, isOpen}
-use Rattle.sheet.specs.Lists.{count}
-use Rattle.sheet.specs.Held.{Linked}
+use Rattle.lists.specs.Lists.{count}
+use Rattle.sheet.specs.words.Held.{Linked}
 use Prim.Native.Nat.{_-_, _≤_}
-use Rattle.sheet.proofs.EndLaws as laws
+use Rattle.sheet.proofs.EndLaw as laws
 use borrow.Author.Needs.{needs}
 use native.Mathlib.Omega.{arith}
 use Rattle.sheet.proofs.finish.open_at.Statement.{statement}

@@ -1,9 +1,9 @@
 use Rattle.sheet.specs.declared.Size.{Size}
 use mathlib.Core.Path.{ap, _∙_, _≡_, refl}
 use Rattle.sheet.specs.Sheet.{Sheet, openBelow}
-use Rattle.sheet.specs.Held.{Linked}
+use Rattle.sheet.specs.words.Held.{Linked}
 use Prim.Native.Nat.{_-_, _*_, _≤_}
-use Rattle.sheet.proofs.EndLaws as laws
+use Rattle.sheet.proofs.EndLaw as laws
 use borrow.Author.Needs.{needs}
 use native.Mathlib.Omega.{arith}
 use Rattle.sheet.proofs.finish.open_pairs.Statement.{statement}

@@ -2,9 +2,9 @@ use Rattle.sheet.specs.declared.Row.{Row}
 use mathlib.Core.List.{List}
 use mathlib.Core.Bool.{Bool}
 use mathlib.Core.Logic.{⊎-elim}
-use Rattle.sheet.specs.Held.{Leads, Marks}
+use Rattle.sheet.specs.words.Held.{Leads, Marks}
 use Prim.Native.Nat.{ℕ, _-_, _≤_}
-use Rattle.sheet.proofs.EndLaws as laws
+use Rattle.sheet.proofs.EndLaw as laws
 use mathlib.Core.Path.{_≡_}
 use borrow.Author.Needs.{needs}
 use native.Mathlib.Omega.{arith}

@@ -6,8 +6,8 @@ use lib.ListN.{length, drop}
 use denote.Ref.{now}
 use Rattle.sheet.specs.Reading.{width}
 use Rattle.sheet.specs.Encode.{pressBytes}
-use Rattle.sheet.specs.Places.{Calm}
-use Rattle.sheet.proofs.PlaceLaws as laws
+use Rattle.sheet.specs.words.Places.{Calm}
+use Rattle.sheet.proofs.PlaceLaw as laws
 use borrow.Author.Needs.{needs}
 use Rattle.sheet.proofs.part.presses_from.Statement.{statement}
 use Rattle.sheet.proofs.part.presses_from.Tie as tie

@@ -1,6 +1,6 @@
 use native.Mathlib.Omega.{arith}
 use denote.Ref.{now}
-use Rattle.sheet.proofs.PlaceLaws as laws
+use Rattle.sheet.proofs.PlaceLaw as laws
 use borrow.Author.Needs.{needs}
 use Rattle.sheet.proofs.part.test_at.Statement.{statement}
 use Rattle.sheet.proofs.part.test_at.Tie as tie

@@ -5,8 +5,8 @@ use native.Mathlib.Omega.{arith}
 use lib.ListN.{length, drop}
 use denote.Ref.{now}
 use Rattle.sheet.specs.Encode.{testBytes}
-use Rattle.sheet.specs.Places.{spanFrom}
-use Rattle.sheet.proofs.PlaceLaws as laws
+use Rattle.sheet.specs.words.Places.{spanFrom}
+use Rattle.sheet.proofs.PlaceLaw as laws
 use Rattle.sheet.proofs.part.test_from.Statement.{statement}
 use Rattle.sheet.proofs.part.test_from.Tie as tie
 

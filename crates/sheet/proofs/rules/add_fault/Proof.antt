@@ -1,5 +1,5 @@
-use Rattle.sheet.proofs.FaultLaws.{fault-taken, fault-many, fault-same, fault-unordered, fault-outside}
-use Rattle.sheet.specs.laws.Right.{row-in}
+use Rattle.sheet.proofs.FaultLaw.{fault-taken, fault-many, fault-same, fault-unordered, fault-outside}
+use Rattle.sheet.specs.laws.CommandLaw.{row-in}
 use mathlib.Core.Path.{_∙_, sym}
 use native.Mathlib.Omega.{arith}
 use borrow.Author.Needs.{needs}

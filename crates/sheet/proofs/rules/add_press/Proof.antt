@@ -1,5 +1,5 @@
-use Rattle.sheet.proofs.Laws.{rule-digits}
-use Rattle.sheet.proofs.PressLaws.{press-taken, press-none, press-many, press-outside}
+use Rattle.sheet.proofs.RowTableLaw.{rule-digits}
+use Rattle.sheet.proofs.PressLaw.{press-taken, press-none, press-many, press-outside}
 use native.Mathlib.Omega.{arith}
 use borrow.Author.Needs.{needs}
 use Rattle.sheet.proofs.rules.add_press.Statement.{statement}

@@ -1,6 +1,6 @@
 use mathlib.Core.Path.{_≡_}
 use native.Mathlib.Omega.{arith}
-use Rattle.sheet.proofs.StateLaws as laws
+use Rattle.sheet.proofs.StateLaw as laws
 use borrow.Author.Needs.{needs}
 use Rattle.sheet.proofs.rules.apply.Statement.{statement}
 use Rattle.sheet.proofs.rules.apply.Tie as tie

@@ -1,4 +1,4 @@
-use Rattle.sheet.proofs.StateLaws as laws
+use Rattle.sheet.proofs.StateLaw as laws
 use borrow.Author.Needs.{needs}
 use Rattle.sheet.proofs.rules.do_rule.Statement.{statement}
 use Rattle.sheet.proofs.rules.do_rule.Tie as tie

@@ -1,5 +1,5 @@
 use mathlib.Core.Path.{_∙_, sym}
-use Rattle.sheet.proofs.StateLaws as laws
+use Rattle.sheet.proofs.StateLaw as laws
 use borrow.Author.Needs.{needs}
 use Rattle.sheet.proofs.rules.do_size.Statement.{statement}
 use Rattle.sheet.proofs.rules.do_size.Tie as tie

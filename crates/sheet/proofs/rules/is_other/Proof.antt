@@ -1,6 +1,6 @@
-use Rattle.sheet.proofs.Laws.{rule-digits}
+use Rattle.sheet.proofs.RowTableLaw.{rule-digits}
 use Rattle.sheet.specs.Sheet.{ruleAt}
-use Rattle.sheet.proofs.FaultLaws.{other-none, other-output, other-target}
+use Rattle.sheet.proofs.FaultLaw.{other-none, other-output, other-target}
 use native.Mathlib.Omega.{arith}
 use borrow.Author.Needs.{needs}
 use Rattle.sheet.proofs.rules.is_other.Statement.{statement}

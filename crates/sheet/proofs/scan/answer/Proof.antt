@@ -1,4 +1,4 @@
-use Rattle.sheet.proofs.ScanLaws as laws
+use Rattle.sheet.proofs.ScanLaw as laws
 use borrow.Author.Needs.{needs}
 use Rattle.sheet.proofs.scan.answer.Statement.{statement}
 use Rattle.sheet.proofs.scan.answer.Tie as tie

@@ -2,8 +2,8 @@ use mathlib.Core.Path.{_∙_, sym, _≡_}
 use mathlib.Core.Bool.{true, false}
 use denote.Ref.{now}
 use Rattle.sheet.specs.Reading.{allowed}
-use Rattle.sheet.proofs.StepLaws.{step-past}
-use Rattle.sheet.proofs.FetchLaws as fetch
+use Rattle.sheet.proofs.ObeyLaw.{step-past}
+use Rattle.sheet.proofs.FetchLaw as fetch
 use borrow.Author.Needs.{needs}
 use Rattle.sheet.proofs.scan.command.Statement.{statement}
 use Rattle.sheet.proofs.scan.command.Tie as tie

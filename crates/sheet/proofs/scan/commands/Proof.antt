@@ -1,7 +1,7 @@
 use lib.ListN.{length}
 use denote.Ref.{now}
 use Prim.Native.Nat.{_-_, _≤_}
-use Rattle.sheet.proofs.ScanLaws as laws
+use Rattle.sheet.proofs.ScanLaw as laws
 use borrow.Author.Needs.{needs}
 use native.Mathlib.Omega.{arith}
 use Rattle.sheet.proofs.scan.commands.Statement.{statement}

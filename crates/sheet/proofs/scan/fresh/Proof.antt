@@ -1,4 +1,4 @@
-use Rattle.sheet.proofs.ScanLaws as laws
+use Rattle.sheet.proofs.ScanLaw as laws
 use Rattle.sheet.proofs.scan.fresh.Statement.{statement}
 use Rattle.sheet.proofs.scan.fresh.Tie as tie
 

@@ -5,10 +5,10 @@ use lib.ListN.{getD}
 use denote.Ref.{now}
 use Rattle.sheet.specs.declared.scan.Verdict.the-variants.{Stop}
 use Rattle.sheet.specs.Reading.{allowed}
-use Rattle.sheet.proofs.StateLaws.{known}
-use Rattle.sheet.proofs.StepLaws.{wide}
-use Rattle.sheet.proofs.FetchLaws as fetch
-use Rattle.sheet.proofs.ScanLaws as laws
+use Rattle.sheet.proofs.StateLaw.{known}
+use Rattle.sheet.proofs.ObeyLaw.{wide}
+use Rattle.sheet.proofs.FetchLaw as fetch
+use Rattle.sheet.proofs.ScanLaw as laws
 use borrow.Author.Needs.{needs}
 use Rattle.sheet.proofs.scan.obey.Statement.{statement}
 use Rattle.sheet.proofs.scan.obey.Tie as tie

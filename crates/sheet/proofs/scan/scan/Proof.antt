@@ -1,5 +1,5 @@
 use denote.Ref.{now}
-use Rattle.sheet.proofs.ScanLaws as laws
+use Rattle.sheet.proofs.ScanLaw as laws
 use borrow.Author.Needs.{needs}
 use Rattle.sheet.proofs.scan.scan.Statement.{statement}
 use Rattle.sheet.proofs.scan.scan.Tie as tie

@@ -8,4 +8,5 @@ unfolding startSlotOf
 returns c = refl
 
 pub start-set-spec : {M : Type 1} → statement M
-start-set-spec = tie.close (tie.spec returns)
+start-set-spec =
+    tie.close (tie.spec returns)

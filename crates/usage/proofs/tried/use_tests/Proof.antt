@@ -16,29 +16,17 @@ Inv-loop sheet starts lengths tests block targets initial used₀ t₀ used t =
 abbrev μ-loop : tie.MeasureT-loop
 μ-loop sheet starts lengths tests block targets initial used₀ t₀ used t = tests - t
 
-start-set-requires : tie.Need-start-set-requires Inv-loop μ-loop
-start-set-requires c κs = search needs
-
-loop-holds : tie.Need-loop-holds Inv-loop μ-loop
-loop-holds c = tests-start (c .start-set .ensures)
-
-mul-wide16 : tie.Need-mul-wide16 Inv-loop μ-loop
-mul-wide16 c = omega (arith, c .before .before .before .before .pre .few)
-
-element-copy-out-wide16 : tie.Need-element-copy-out-wide16 Inv-loop μ-loop
-element-copy-out-wide16 c = omega (arith, c .before .before .before .before .pre .few)
-
-wide16-requires : tie.Need-wide16-requires Inv-loop μ-loop
-wide16-requires c κs = search needs
-
 mul-wide16-2 : tie.Need-mul-wide16-2 Inv-loop μ-loop
-mul-wide16-2 c = omega (arith, c .before .before .before .before .before .before .pre .few)
+mul-wide16-2 c =
+    let earlier = c .before .before .before .before .before in
+    let at-entry = earlier .before in
+    omega (arith, at-entry .pre .few)
 
 element-copy-out-wide16-2 : tie.Need-element-copy-out-wide16-2 Inv-loop μ-loop
-element-copy-out-wide16-2 c = omega (arith, c .before .before .before .before .before .before .pre .few)
-
-wide16-requires-2 : tie.Need-wide16-requires-2 Inv-loop μ-loop
-wide16-requires-2 c κs = search needs
+element-copy-out-wide16-2 c =
+    let earlier = c .before .before .before .before .before in
+    let at-entry = earlier .before in
+    omega (arith, at-entry .pre .few)
 
 mark-test-requires : tie.Need-mark-test-requires Inv-loop μ-loop
 mark-test-requires c κs =
@@ -53,9 +41,6 @@ add-t c =
     let entry = c .before .before .before .before .before .before .before .before .before in
     omega (arith, entry .pre .few)
 
-loop-less : tie.Need-loop-less Inv-loop μ-loop
-loop-less c = search needs
-
 loop-again : tie.Need-loop-again Inv-loop μ-loop
 loop-again c =
     let at-wide162 = c .before in
@@ -64,25 +49,14 @@ loop-again c =
     let at-loop = at-loop-test .before in
     tests-next (at-loop .loop .inv) (at-loop-test .loop-test .taken) (at-wide16 .wide16 .ensures .0) (at-wide162 .wide162 .ensures .0) (c .mark-test .ensures)
 
-returns : tie.Need-returns Inv-loop μ-loop
-returns c = tests-end (c .before .loop .inv) (c .loop-test .left)
-
 pub use-tests-spec : {M : Type 1} → statement M
 use-tests-spec =
     tie.close
     (tie.spec
-    Inv-loop
-    μ-loop
-    start-set-requires
-    loop-holds
-    mul-wide16
-    element-copy-out-wide16
-    wide16-requires
-    mul-wide16-2
-    element-copy-out-wide16-2
-    wide16-requires-2
-    mark-test-requires
-    add-t
-    loop-less
-    loop-again
-    returns)
+    Inv-loop μ-loop (λ c κs. search needs)
+    (λ c. tests-start (c .start-set .ensures))
+    (λ c. omega (arith, c .before .before .before .before .pre .few))
+    (λ c. omega (arith, c .before .before .before .before .pre .few))
+    (λ c κs. search needs) mul-wide16-2 element-copy-out-wide16-2 (λ c κs. search needs) mark-test-requires add-t
+    (λ c. search needs) loop-again
+    (λ c. tests-end (c .before .loop .inv) (c .loop-test .left)))

@@ -5,15 +5,6 @@ use borrow.Author.Needs.{needs}
 use Rattle.usage.proofs.tried.use_tried.Statement.{statement}
 use Rattle.usage.proofs.tried.use_tried.Tie as tie
 
-enum-told : tie.Need-enum-told
-enum-told c = search needs
-
-use-tests-requires : tie.Need-use-tests-requires
-use-tests-requires c κs = search needs
-
-enum-known-wrong : tie.Need-enum-known-wrong
-enum-known-wrong c = search needs
-
 use-tests-requires-2 : tie.Need-use-tests-requires-2
 use-tests-requires-2 c κs =
     let at-wrong = c .before in
@@ -35,9 +26,6 @@ element-copy-out-wide16 c =
     let reached = rw (at-wrong .wrong .given .1) at (entry .pre .1) in
     omega (arith, entry .pre .0 .few, reached .0)
 
-wide16-requires : tie.Need-wide16-requires
-wide16-requires c κs = search needs
-
 add-mark-test : tie.Need-add-mark-test
 add-mark-test c =
     let at-wrong = c .before .before .before .before in
@@ -52,9 +40,6 @@ mark-test-requires c κs =
     let reached = rw (at-wrong .wrong .given .1) at (entry .pre .1) in
     omega (arith, entry .pre .0 .each _ (reached .0), reached .1, c .wide16 .ensures .0)
 
-returns : tie.Need-returns
-returns c = rw (c .before .enum-told .given .1) (c .use-tests .ensures)
-
 returns-2 : tie.Need-returns-2
 returns-2 c =
     let at-wide16 = c .before in
@@ -68,14 +53,7 @@ pub use-tried-spec : {M : Type 1} → statement M
 use-tried-spec =
     tie.close
     (tie.spec
-    enum-told
-    use-tests-requires
-    enum-known-wrong
-    use-tests-requires-2
-    mul-wide16
-    element-copy-out-wide16
-    wide16-requires
-    add-mark-test
-    mark-test-requires
-    returns
+    (λ c. search needs) (λ c κs. search needs) (λ c. search needs) use-tests-requires-2 mul-wide16 element-copy-out-wide16
+    (λ c κs. search needs) add-mark-test mark-test-requires
+    (λ c. rw (c .before .enum-told .given .1) (c .use-tests .ensures))
     returns-2)

@@ -1,7 +1,7 @@
 use borrow.Author.Needs.{needs}
 use native.Mathlib.Omega.{arith}
 use borrow.Author.Tests.{not-false}
-use Rattle.sheet.specs.laws.Basics.{never}
+use Rattle.lists.specs.laws.TestLaw.{never}
 use Prim.Native.Nat.{_-_}
 use Rattle.walks.proofs.ReachLaw.{WithinTo, within-none, within-more, within-all}
 use Rattle.walks.proofs.reach.all_within.Statement.{statement}

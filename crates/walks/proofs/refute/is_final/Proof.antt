@@ -3,7 +3,7 @@ use Rattle.cubes.specs.Sets.{Has}
 use native.Mathlib.Omega.{arith}
 use mathlib.Core.Path.{subst}
 use borrow.Author.Tests.{not-true, not-false}
-use Rattle.sheet.specs.laws.Basics.{never}
+use Rattle.lists.specs.laws.TestLaw.{never}
 use borrow.Author.Needs.{needs}
 use Rattle.walks.proofs.refute.is_final.Statement.{statement}
 use Rattle.walks.proofs.refute.is_final.Tie as tie

@@ -1,4 +1,4 @@
-use Rattle.sheet.specs.laws.Basics.{never}
+use Rattle.lists.specs.laws.TestLaw.{never}
 use borrow.Author.Needs.{needs}
 use Rattle.walks.proofs.refute.told_of.Statement.{statement}
 use Rattle.walks.proofs.refute.told_of.Tie as tie

@@ -5,9 +5,9 @@ use native.Mathlib.Omega.{arith}
 use mathlib.Core.Path.{sym, subst}
 use mathlib.Core.List.{List}
 use Rattle.sheet.specs.Encode.{sizeBytes}
-use Rattle.sheet.specs.laws.Injective.{encode-parts}
+use Rattle.sheet.specs.laws.InjectiveLaw.{encode-parts}
 use Rattle.writing.specs.Drawing.{drawing, sheetOf}
-use Rattle.writing.specs.Spelled.{Spelled}
+use Rattle.writing.specs.words.Spelled.{Spelled}
 use Rattle.writing.specs.laws.SpelledLaw.{spelled-both}
 use Rattle.writing.specs.laws.LengthLaw.{parts-length}
 use Rattle.writing.proofs.spell.spell.Statement.{statement}

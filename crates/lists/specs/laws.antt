@@ -1,0 +1,4 @@
+pub mod TestLaw
+pub mod AllLaw
+pub mod MemberLaw
+pub mod ListLaw

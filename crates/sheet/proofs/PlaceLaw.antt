@@ -1,0 +1,170 @@
+-- Places: where the tests of an accepted sheet stand.
+use Prim.Native.Nat.{ℕ, suc, _+_, _*_, _-_, _<_, _≤_}
+use mathlib.Core.Path.{_≡_, refl, ap, sym, _∙_}
+use mathlib.Core.Bool.{Bool, true, false}
+use mathlib.Core.List.{List, [], _∷_, _++_, append-assoc}
+use native.Mathlib.Nat.{add-zero}
+use native.Mathlib.Numerals.{add-one}
+use native.Mathlib.Omega.{arith}
+use lib.Dec.{leb, ltb}
+use lib.ListN.{length, getD, take, drop, length-append, length-drop}
+use lib.Seq.{getD-drop, drop-drop, drop-at, drop-cons, take-suc}
+use borrow.Author.Tests.{lt-ltb, le-leb, leb-true}
+use Rattle.sheet.specs.declared.Row.{Row}
+use Rattle.sheet.specs.declared.Size.{Size}
+use Rattle.sheet.specs.declared.Span.{Span}
+use Rattle.sheet.specs.declared.fetch.Item.{Item}
+use Rattle.sheet.specs.declared.fetch.Taken.{Taken}
+use Rattle.sheet.specs.declared.fetch.Taken.the-variants.{Whole, Short, Nothing}
+use Rattle.sheet.specs.declared.fetch.Fetched.{Fetched}
+use Rattle.sheet.specs.Sheet.{Sheet}
+use Rattle.sheet.specs.Reading.{width}
+use Rattle.sheet.specs.Encode.{sizeBytes, rowBytes, pressBytes, testBytes, machineBytes, body, encode}
+use Rattle.sheet.specs.laws.PartLaw.{presses-length}
+use Rattle.sheet.specs.words.Fetch.{itemAt, fetchBy, fetchAt, itemIn}
+use Rattle.sheet.specs.words.Places.{Calm, PressesFrom, TestAt, spanFrom}
+use Rattle.sheet.proofs.FetchLaw.{WholeAt, fetched-whole}
+
+-- what is fetched where a command stands
+byte-at : (s : List ℕ) (at : ℕ) (l : List ℕ) → drop at s ≡ l → getD s at 0 ≡ getD l 0 0
+byte-at s at l e = sym (getD-drop at s 0 0 ∙ ap (λ (n : ℕ). getD s n 0) (add-zero at)) ∙ ap (λ (t : List ℕ). getD t 0 0) e
+
+room-at : (s : List ℕ) (at : ℕ) (l : List ℕ) → drop at s ≡ l → length s - at ≡ length l
+room-at s at l e = sym (length-drop at s) ∙ ap length e
+
+pub fetch-there : (s : List ℕ) (at b : ℕ) (l : List ℕ) → drop at s ≡ b ∷ l → width b ≤ suc (length l)
+    → fetchAt s at ≡ record { taken = Whole (itemAt s at b); next = at + width b }
+fetch-there s at b l e w =
+    let k = room-at s at (b ∷ l) e in
+    let q : getD s at 0 ≡ b = byte-at s at (b ∷ l) e in
+    rw (q, lt-ltb at (length s) (omega arith), le-leb (at + width b) (length s) (omega arith))
+
+-- a command byte that is not 0 was fetched whole
+whole-of : (t : Taken) → 1 ≤ itemIn t .byte → t ≡ Whole (itemIn t)
+whole-of (Whole k) h = refl
+whole-of (Short b) h = absurd (omega arith)
+whole-of Nothing h = absurd (omega arith)
+
+pub taken-whole : (s : List ℕ) (at : ℕ) (f : Fetched) (i : Item) → f ≡ fetchAt s at → i ≡ itemIn (f .taken) → 1 ≤ i .byte → WholeAt s at i (f .next)
+taken-whole s at f i e k h =
+    fetched-whole s at f e i (whole-of (f .taken) (omega (arith, ap (λ (x : Item). x .byte) k)) ∙ ap (λ (x : Item). Whole x) (sym k))
+
+-- the place of the next command lies in the sheet
+next-by : (s : List ℕ) (at : ℕ) → at ≤ length s → (p q : Bool) → leb (at + width (getD s at 0)) (length s) ≡ q → fetchBy s at p q .next ≤ length s
+next-by s at h true true e = leb-true (at + width (getD s at 0)) (length s) e
+next-by s at h true false e = h
+next-by s at h false q e = h
+
+pub next-in : (s : List ℕ) (at : ℕ) (f : Fetched) → f ≡ fetchAt s at → at ≤ length s → f .next ≤ length s
+next-in s at f e h = rw e (next-by s at h (ltb at (length s)) (leb (at + width (getD s at 0)) (length s)) refl)
+
+-- what is left to count
+pub record Left (s xs rest : List ℕ) (n at : ℕ) : Type 0 where
+  pub more : List ℕ
+  pub sum : n + length more ≡ length xs
+  pub bytes : drop at s ≡ pressBytes more ++ rest
+
+pub left-start : {s xs rest : List ℕ} (at : ℕ) → drop at s ≡ pressBytes xs ++ rest → Left s xs rest 0 at
+left-start {s} {xs} at e = record { more = xs; sum = omega arith; bytes = e }
+
+module _ (s xs rest : List ℕ) (calm : Calm rest) (n at : ℕ) where
+  onward : (ys : List ℕ) → n + length ys ≡ length xs → drop at s ≡ pressBytes ys ++ rest → getD s at 0 ≡ 5 → Left s xs rest (n + 1) (at + 2)
+  unfolding pressBytes
+  onward [] p b e = absurd (calm (sym (byte-at s at rest b) ∙ e))
+  onward (y ∷ ys) p b e = record { more = ys; sum = omega arith; bytes = sym (drop-drop 2 at s) ∙ ap (λ (l : List ℕ). drop 2 l) b }
+
+  pub left-more : (i : Item) (next : ℕ) → WholeAt s at i next → i .byte ≡ 5 → Left s xs rest n at → Left s xs rest (n + 1) next
+  left-more i next w e h =
+      let b : getD s at 0 ≡ 5 = sym (w .byte) ∙ e in
+      rw (w .next ∙ ap (λ (b : ℕ). at + width b) b) (onward (h .more) (h .sum) (h .bytes) b)
+
+  stopped : (ys : List ℕ) → n + length ys ≡ length xs → drop at s ≡ pressBytes ys ++ rest → (itemIn (fetchAt s at .taken) .byte ≡ 5 → ⊥) → n ≡ length xs
+  unfolding pressBytes
+  stopped [] p b other = omega arith
+  stopped (y ∷ ys) p b other = absurd (other (ap (λ (f : Fetched). itemIn (f .taken) .byte) (fetch-there s at 5 (y ∷ (pressBytes ys ++ rest)) b (omega arith))))
+
+  pub left-stop : (f : Fetched) (i : Item) → f ≡ fetchAt s at → i ≡ itemIn (f .taken) → (i .byte ≡ 5 → ⊥) → Left s xs rest n at → n ≡ length xs
+  left-stop f i e k other h = stopped (h .more) (h .sum) (h .bytes) (λ q. other (ap (λ (x : Item). x .byte) (k ∙ ap (λ (f : Fetched). itemIn (f .taken)) e) ∙ q))
+
+-- a test: its TEST, then its PRESS commands
+after-test : (s : List ℕ) (at : ℕ) (l : List ℕ) → drop at s ≡ 4 ∷ l → drop (at + 1) s ≡ l
+after-test s at l e = sym (drop-drop 1 at s) ∙ ap (λ (t : List ℕ). drop 1 t) e
+
+test-next : (s : List ℕ) (at : ℕ) (l : List ℕ) (f : Fetched) → f ≡ fetchAt s at → drop at s ≡ 4 ∷ l → f .next ≡ at + 1
+test-next s at l f e d = ap (λ (f : Fetched). f .next) (e ∙ fetch-there s at 4 l d (omega arith))
+
+pub test-is : (s : List ℕ) (at n : ℕ) (f : Fetched) → f ≡ fetchAt s at → PressesFrom s (f .next) n → TestAt s at (record { start = f .next; length = 2 * n })
+test-is s at n f e p = record {
+  within = p .within;
+  found = λ xs rest d calm.
+      let a = test-next s at (pressBytes xs ++ rest) f e d in
+      let b : drop (f .next) s ≡ pressBytes xs ++ rest = rw a (after-test s at (pressBytes xs ++ rest) d) in
+      rw (p .counted xs rest b calm, a);
+}
+
+pub calm-tests : (l : List (List ℕ)) → Calm (testBytes l ++ 6 ∷ [])
+unfolding testBytes
+calm-tests [] e = omega arith
+calm-tests (xs ∷ l) e = omega arith
+
+-- the tests from the jth on
+split-test : (l : List (List ℕ)) (j : ℕ) → j < length l
+    → testBytes (drop j l) ++ 6 ∷ [] ≡ 4 ∷ (pressBytes (getD l j []) ++ (testBytes (drop (j + 1) l) ++ 6 ∷ []))
+unfolding testBytes
+split-test l j h = rw (drop-cons l j [] h, add-one j) (ap (λ (t : List ℕ). 4 ∷ t) (append-assoc (pressBytes (getD l j [])) (testBytes (drop (suc j) l)) (6 ∷ [])))
+
+tests-more : (l : List (List ℕ)) (xs : List ℕ) → length (testBytes (l ++ xs ∷ [])) ≡ length (testBytes l) + (1 + 2 * length xs)
+unfolding testBytes
+tests-more [] xs = let w = presses-length xs in simp length-append (omega arith)
+tests-more (ys ∷ l) xs = let w = tests-more l xs in simp length-append (omega arith)
+
+pub tests-suc : (l : List (List ℕ)) (j : ℕ) → j < length l → length (testBytes (take (j + 1) l)) ≡ length (testBytes (take j l)) + (1 + 2 * length (getD l j []))
+tests-suc l j h = rw (add-one j, take-suc l j [] h) (tests-more (take j l) (getD l j []))
+
+-- the place of the test j
+pub record TestPlace (s : List ℕ) (place : ℕ) (l : List (List ℕ)) (j at : ℕ) : Type 0 where
+  pub is : at ≡ place + length (testBytes (take j l))
+  pub bytes : drop at s ≡ testBytes (drop j l) ++ 6 ∷ []
+
+pub place-start : (s : List ℕ) (place : ℕ) (l : List (List ℕ)) → drop place s ≡ testBytes l ++ 6 ∷ [] → TestPlace s place l 0 place
+unfolding testBytes
+place-start s place l e = record { is = omega arith; bytes = e }
+
+module _ (s : List ℕ) (place : ℕ) (l : List (List ℕ)) (j at : ℕ) (h : j < length l) (p : TestPlace s place l j at) where
+  pub here : drop at s ≡ 4 ∷ (pressBytes (getD l j []) ++ (testBytes (drop (j + 1) l) ++ 6 ∷ []))
+  here = p .bytes ∙ split-test l j h
+
+  pub place-found : (r : Span) → TestAt s at r → r ≡ spanFrom place l j
+  place-found r t =
+      t .found (getD l j []) (testBytes (drop (j + 1) l) ++ 6 ∷ []) here (calm-tests (drop (j + 1) l))
+      ∙ ap (λ (n : ℕ). record { start = n + 1; length = 2 * length (getD l j []) }) (p .is)
+
+  pub place-next : (r : Span) → TestAt s at r → TestPlace s place l (j + 1) (r .start + r .length)
+  place-next r t =
+      let e = t .found (getD l j []) (testBytes (drop (j + 1) l) ++ 6 ∷ []) here (calm-tests (drop (j + 1) l)) in
+      let a : r .start + r .length ≡ at + (1 + 2 * length (getD l j [])) = ap (λ (r : Span). r .start + r .length) e ∙ omega arith in
+      record {
+        is = omega (arith, a, p .is, tests-suc l j h);
+        bytes = rw a (sym (drop-drop (1 + 2 * length (getD l j [])) at s) ∙ ap (drop (1 + 2 * length (getD l j []))) here
+            ∙ drop-at (4 ∷ pressBytes (getD l j [])) (testBytes (drop (j + 1) l) ++ 6 ∷ []) (1 + 2 * length (getD l j [])) (omega (arith, presses-length (getD l j []))));
+      }
+
+-- where the tests start
+pub row-length : (b : ℕ) (l : List Row) → length (rowBytes b l) ≡ 5 * length l
+unfolding rowBytes
+row-length b [] = refl
+row-length b (r ∷ l) = let w = row-length b l in omega arith
+
+pub size-length : (z : Size) → length (sizeBytes z) ≡ 4
+unfolding sizeBytes
+size-length z = refl
+
+pub machine-length : (sh : Sheet) → length (machineBytes sh) ≡ 4 + 5 * length (sh .rules) + 5 * length (sh .faults)
+unfolding machineBytes
+machine-length sh = simp length-append (omega (arith, size-length (sh .size), row-length 2 (sh .rules), row-length 3 (sh .faults)))
+
+pub tests-from : (sh : Sheet) → drop (length (machineBytes sh)) (encode sh) ≡ testBytes (sh .tests) ++ 6 ∷ []
+unfolding encode body
+tests-from sh =
+    ap (drop (length (machineBytes sh))) (append-assoc (machineBytes sh) (testBytes (sh .tests)) (6 ∷ []))
+    ∙ drop-at (machineBytes sh) (testBytes (sh .tests) ++ 6 ∷ []) (length (machineBytes sh)) refl

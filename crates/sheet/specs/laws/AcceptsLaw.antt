@@ -1,0 +1,257 @@
+-- Every well-formed sheet of at most 16,384 bytes is accepted.
+use mathlib.Core.Path.{_≡_, refl, ap, sym, _∙_, subst}
+use mathlib.Core.Option.{Option, none, some}
+use mathlib.Core.List.{List, [], _∷_, _++_, append-assoc, append-nil}
+use Prim.Native.Nat.{ℕ, _+_, _<_, _≤_}
+use native.Mathlib.Nat.{add-zero}
+use native.Mathlib.Omega.{arith}
+use lib.ListN.{length, getD, drop, length-append, length-drop}
+use lib.Seq.{append-snoc, getD-drop, drop-drop}
+use Rattle.sheet.specs.declared.Row.{Row}
+use Rattle.sheet.specs.declared.Size.{Size}
+use Rattle.lists.specs.Lists.{maybe, Before}
+use Rattle.sheet.specs.Sheet.{Sheet, pairOf, rowOf, ruleAt, after}
+use Rattle.sheet.specs.Reading.{accepted, size, rule, fault, test, press, rowAt, sizeAt, lastTest, addPress, refusal, advance, blank, reading}
+use Rattle.sheet.specs.Encode.{sizeBytes, rowBytes, pressBytes, testBytes, machineBytes, body, encode}
+use Rattle.sheet.specs.WellFormed.{RowIn, Mutates, TestIn, WellFormed}
+use Rattle.lists.specs.laws.TestLaw.{never}
+use Rattle.lists.specs.laws.AllLaw.{all-at}
+use Rattle.sheet.specs.laws.ReadingLaw.{by-size, by-rule, by-fault, by-test, by-press, refusal-end}
+use Rattle.sheet.specs.laws.RowLaw.{last-snoc, ascending-last}
+use Rattle.sheet.specs.laws.ReachedLaw.{each-reached}
+use Rattle.sheet.specs.laws.CommandLaw.{Follows, FaultRight, right-size, right-rule, right-fault, right-test, right-press}
+use Rattle.sheet.specs.laws.ProgressLaw.{Going, going-start, going-on, going-end, finishes}
+
+-- the bytes from a place on are l
+record Left (s : List ℕ) (at : ℕ) (l : List ℕ) : Type 0 where
+  bytes : drop at s ≡ l
+
+module _ {s : List ℕ} {at : ℕ} {l : List ℕ} (left : Left s at l) where
+  byte-at : (i : ℕ) → getD s (at + i) 0 ≡ getD l i 0
+  byte-at i = sym (getD-drop at s i 0) ∙ ap (λ (b : List ℕ). getD b i 0) (left .bytes)
+
+  first-byte : getD s at 0 ≡ getD l 0 0
+  first-byte = rw (add-zero at) at (byte-at 0)
+
+  left-after : (n : ℕ) → Left s (at + n) (drop n l)
+  left-after n = record { bytes = sym (drop-drop n at s) ∙ ap (λ (b : List ℕ). drop n b) (left .bytes) }
+
+  left-length : length l ≡ length (drop at s)
+  left-length = ap length (sym (left .bytes))
+
+  room-for : (n : ℕ) → 1 ≤ n → n ≤ length l → at + n ≤ length s
+  room-for n k h = omega (arith, length-drop at s, left-length)
+
+row-is : {s : List ℕ} {at b : ℕ} {r : Row} {rest : List ℕ} → Left s at (b ∷ r .source ∷ r .input ∷ r .output ∷ r .target ∷ rest) → rowAt s at ≡ r
+row-is left = rw (byte-at left 1, byte-at left 2, byte-at left 3, byte-at left 4)
+
+size-is : {s : List ℕ} {at b : ℕ} {z : Size} {rest : List ℕ} → Left s at (b ∷ z .states ∷ z .inputs ∷ z .outputs ∷ rest) → sizeAt s at ≡ z
+size-is left = rw (byte-at left 1, byte-at left 2, byte-at left 3)
+
+-- a reading that has come to a sheet, in one of some phases, with the bytes l left
+record Read (s : List ℕ) (earliest latest : ℕ) (sh : Sheet) (l : List ℕ) : Type 0 where
+  phase : ℕ
+  at : ℕ
+  early : earliest ≤ phase
+  late : phase ≤ latest
+  going : Going s (record { phase = phase; sheet = sh }) at
+  left : Left s at l
+
+abbrev part : Size → List Row → List Row → List (List ℕ) → Sheet
+part z rules faults tests = record { size = z; rules = rules; faults = faults; tests = tests }
+
+module _ {s : List ℕ} {sh : Sheet} {l : List ℕ} where
+  -- later phases may come
+  widen : (a b c d : ℕ) → c ≤ a → b ≤ d → Read s a b sh l → Read s c d sh l
+  widen a b c d h k r = record { phase = r .phase; at = r .at; early = omega (arith, r .early); late = omega (arith, r .late); going = r .going; left = r .left }
+
+  read-rule : (r : Row) → Follows pairOf (sh .size) (sh .rules) r → Read s 1 2 sh (2 ∷ r .source ∷ r .input ∷ r .output ∷ r .target ∷ l) → Read s 1 2 (advance sh (rule r)) l
+  read-rule r f h =
+      let same = row-is {r = r} (h .left) in
+      record {
+        phase = 2;
+        at = h .at + 5;
+        early = omega arith;
+        late = omega arith;
+        left = left-after (h .left) 5;
+        going = subst (λ (q : Row). Going s (record { phase = 2; sheet = advance sh (rule q) }) (h .at + 5)) same
+            (going-on (h .going) (by-rule (record {
+              byte = first-byte (h .left);
+              early = h .early;
+              late = h .late;
+              room = room-for (h .left) 5 (omega arith) (omega arith);
+              right = rw same (right-rule sh r f);
+            })));
+      }
+
+  read-fault : (r : Row) → FaultRight sh r → Read s 1 3 sh (3 ∷ r .source ∷ r .input ∷ r .output ∷ r .target ∷ l) → Read s 1 3 (advance sh (fault r)) l
+  read-fault r f h =
+      let same = row-is {r = r} (h .left) in
+      record {
+        phase = 3;
+        at = h .at + 5;
+        early = omega arith;
+        late = omega arith;
+        left = left-after (h .left) 5;
+        going = subst (λ (q : Row). Going s (record { phase = 3; sheet = advance sh (fault q) }) (h .at + 5)) same
+            (going-on (h .going) (by-fault (record {
+              byte = first-byte (h .left);
+              early = h .early;
+              late = h .late;
+              room = room-for (h .left) 5 (omega arith) (omega arith);
+              right = rw same (right-fault sh r f);
+            })));
+      }
+
+  read-test : length (sh .tests) < 256 → Read s 1 4 sh (4 ∷ l) → Read s 4 4 (advance sh test) l
+  read-test f h =
+      record {
+        phase = 4;
+        at = h .at + 1;
+        early = omega arith;
+        late = omega arith;
+        left = left-after (h .left) 1;
+        going = going-on (h .going) (by-test (record {
+          byte = first-byte (h .left);
+          early = h .early;
+          late = h .late;
+          room = room-for (h .left) 1 (omega arith) (omega arith);
+          right = right-test sh f;
+        }));
+      }
+
+  read-press : (x : ℕ) → refusal sh (press x) ≡ 0 → Read s 4 4 sh (5 ∷ x ∷ l) → Read s 4 4 (advance sh (press x)) l
+  read-press x f h =
+      let same : getD s (h .at + 1) 0 ≡ x = byte-at (h .left) 1 in
+      record {
+        phase = 4;
+        at = h .at + 2;
+        early = omega arith;
+        late = omega arith;
+        left = left-after (h .left) 2;
+        going = subst (λ (y : ℕ). Going s (record { phase = 4; sheet = advance sh (press y) }) (h .at + 2)) same
+            (going-on (h .going) (by-press (record {
+              byte = first-byte (h .left);
+              early = h .early;
+              late = h .late;
+              room = room-for (h .left) 2 (omega arith) (omega arith);
+              right = rw same f;
+            })));
+      }
+
+short-of : {A : Type 0} (l : List A) (a : A) (rest : List A) (n : ℕ) → length (l ++ a ∷ rest) ≤ n → length l < n
+short-of l a rest n h = let k = simp length-append at h in omega arith
+
+after-front : (rules : List Row) (s t : ℕ) (xs ys : List ℕ) → after rules s (xs ++ ys) ≡ some t → (u : ℕ) × (after rules s xs ≡ some u)
+unfolding after
+after-front rules s t [] ys e = (s, refl)
+after-front rules s t (x ∷ xs) ys e = one (ruleAt rules s x) e (λ u. after-front rules u t xs ys)
+  where
+    one : (o : Option Row) → maybe o none (λ r. after rules (r .target) (xs ++ ys)) ≡ some t
+        → ((u : ℕ) → after rules u (xs ++ ys) ≡ some t → (v : ℕ) × (after rules u xs ≡ some v)) → (v : ℕ) × (maybe o none (λ r. after rules (r .target) xs) ≡ some v)
+    one none q ih = never (cc)
+    one (some r) q ih = ih (r .target) q
+
+-- the front of a test is one too
+test-front : (rules : List Row) (xs ys : List ℕ) → TestIn rules (xs ++ ys) → TestIn rules xs
+test-front rules xs ys h =
+    let a = after-front rules 0 (h .reached) xs ys (h .defined) in
+    let k = simp length-append at (h .short) in
+    record { reached = a .0; defined = a .1; short = omega arith }
+
+last-test : (l : List (List ℕ)) (xs : List ℕ) → lastTest (l ++ xs ∷ []) ≡ xs
+unfolding lastTest
+last-test l xs = rw (last-snoc l xs)
+
+press-last : (l : List (List ℕ)) (xs : List ℕ) (x : ℕ) → addPress (l ++ xs ∷ []) x ≡ l ++ (xs ++ x ∷ []) ∷ []
+unfolding addPress
+press-last [] xs x = refl
+press-last (y ∷ []) xs x = refl
+press-last (y ∷ z ∷ l) xs x = rw (press-last (z ∷ l) xs x)
+
+module _ (sh : Sheet) (w : WellFormed sh) (s : List ℕ) where
+  read-rules : (done rest : List Row) (l : List ℕ) → done ++ rest ≡ sh .rules
+      → Read s 1 2 (part (sh .size) done [] []) (rowBytes 2 rest ++ l) → Read s 1 2 (part (sh .size) (sh .rules) [] []) l
+  unfolding rowBytes advance
+  read-rules done [] l e h = rw (← e, append-nil done) h
+  read-rules done (r ∷ rest) l e h =
+      read-rules (done ++ r ∷ []) rest l (append-snoc done r rest ∙ e)
+      (read-rule r (record {
+        inside = all-at (RowIn (sh .size)) done r rest (rw e (w .rules));
+        later = ascending-last (λ q r. Before (pairOf q) (pairOf r)) done r rest (rw e (w .rules-ascend));
+      }) h)
+
+  read-faults : (done rest : List Row) (l : List ℕ) → done ++ rest ≡ sh .faults
+      → Read s 1 3 (part (sh .size) (sh .rules) done []) (rowBytes 3 rest ++ l) → Read s 1 3 (part (sh .size) (sh .rules) (sh .faults) []) l
+  unfolding rowBytes advance
+  read-faults done [] l e h = rw (← e, append-nil done) h
+  read-faults done (r ∷ rest) l e h =
+      read-faults (done ++ r ∷ []) rest l (append-snoc done r rest ∙ e)
+      (read-fault r (record {
+        follows = record {
+          inside = all-at (RowIn (sh .size)) done r rest (rw e (w .faults));
+          later = ascending-last (λ q r. Before (rowOf q) (rowOf r)) done r rest (rw e (w .faults-ascend));
+        };
+        mutating = all-at (Mutates (sh .rules)) done r rest (rw e (w .faults-mutate));
+        few = short-of done r rest 256 (rw e (w .few-faults));
+      }) h)
+
+  -- the sheet with these tests
+  abbrev upto : List (List ℕ) → Sheet
+  upto tests = part (sh .size) (sh .rules) (sh .faults) tests
+
+  read-presses : (before : List (List ℕ)) (done rest : List ℕ) (l : List ℕ) → TestIn (sh .rules) (done ++ rest)
+      → Read s 4 4 (upto (before ++ done ∷ [])) (pressBytes rest ++ l) → Read s 4 4 (upto (before ++ (done ++ rest) ∷ [])) l
+  unfolding pressBytes advance
+  read-presses before done [] l t h = rw (append-nil done) h
+  read-presses before done (x ∷ rest) l t h =
+      let t' : TestIn (sh .rules) ((done ++ x ∷ []) ++ rest) = rw append-snoc t in
+      let right : refusal (upto (before ++ done ∷ [])) (press x) ≡ 0 =
+      right-press (upto (before ++ done ∷ [])) x (w .rules) (rw (last-test before done) (test-front (sh .rules) (done ++ x ∷ []) rest t')) in
+      let h' : Read s 4 4 (upto (before ++ (done ++ x ∷ []) ∷ [])) (pressBytes rest ++ l) = rw (press-last before done x) at (read-press x right h) in
+      rw (append-snoc done x rest) at (read-presses before (done ++ x ∷ []) rest l t' h')
+
+  read-tests : (done rest : List (List ℕ)) (l : List ℕ) → done ++ rest ≡ sh .tests → Read s 1 4 (upto done) (testBytes rest ++ l) → Read s 1 4 sh l
+  unfolding testBytes advance
+  read-tests done [] l e h = subst (λ (tests : List (List ℕ)). Read s 1 4 (upto tests) l) (sym (append-nil done) ∙ e) h
+  read-tests done (xs ∷ rest) l e h =
+      let begun : Read s 4 4 (upto (done ++ [] ∷ [])) (pressBytes xs ++ (testBytes rest ++ l)) =
+      read-test (short-of done xs rest 256 (rw e (w .few-tests))) (rw append-assoc at h) in
+      read-tests (done ++ xs ∷ []) rest l (append-snoc done xs rest ∙ e)
+      (widen 4 4 1 4 (omega arith) (omega arith) (read-presses done [] xs (testBytes rest ++ l) (all-at (TestIn (sh .rules)) done xs rest (rw e (w .tests))) begun))
+
+  read-end : Read s 1 4 sh (6 ∷ []) → reading s ≡ accepted sh
+  read-end h =
+      going-end (h .going) (record { byte = first-byte (h .left); early = h .early; late = h .late; room = room-for (h .left) 1 (omega arith) (omega arith); right = refusal-end sh })
+      ∙ finishes sh s (h .at) (omega (arith, length-drop (h .at) s, left-length (h .left))) (each-reached sh (omega (arith, w .size .states .some)) (w .rules) (w .reached)) (w .few-open)
+
+  read-size : (l : List ℕ) → length s ≤ 16384 → s ≡ sizeBytes (sh .size) ++ l → Read s 1 2 (part (sh .size) [] [] []) l
+  unfolding sizeBytes advance blank
+  read-size l k e =
+      let whole : Left s 0 (sizeBytes (sh .size) ++ l) = record { bytes = e } in
+      let same = size-is {z = sh .size} whole in
+      record {
+        phase = 1;
+        at = 4;
+        early = omega arith;
+        late = omega arith;
+        left = left-after whole 4;
+        going = subst (λ (z : Size). Going s (record { phase = 1; sheet = part z [] [] [] }) 4) same
+            (going-on (going-start s k) (by-size (record {
+              byte = first-byte whole;
+              early = omega arith;
+              late = omega arith;
+              room = room-for whole 4 (omega arith) (omega arith);
+              right = rw same (right-size (blank .sheet) (sh .size) (w .size));
+            })));
+      }
+
+-- a well-formed sheet of at most 16,384 bytes is accepted, from its encoding
+pub accepts : (sh : Sheet) → WellFormed sh → length (encode sh) ≤ 16384 → reading (encode sh) ≡ accepted sh
+unfolding encode body machineBytes
+accepts sh w k =
+    let s = encode sh in
+    let z = read-size sh w s (rowBytes 2 (sh .rules) ++ (rowBytes 3 (sh .faults) ++ (testBytes (sh .tests) ++ 6 ∷ []))) k (simp append-assoc) in
+    let r = read-rules sh w s [] (sh .rules) (rowBytes 3 (sh .faults) ++ (testBytes (sh .tests) ++ 6 ∷ [])) refl z in
+    let f = read-faults sh w s [] (sh .faults) (testBytes (sh .tests) ++ 6 ∷ []) refl (widen 1 2 1 3 (omega arith) (omega arith) r) in
+    read-end sh w s (read-tests sh w s [] (sh .tests) (6 ∷ []) refl (widen 1 3 1 4 (omega arith) (omega arith) f))

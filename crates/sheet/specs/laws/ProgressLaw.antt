@@ -1,0 +1,66 @@
+-- A reading on its way: from here on it ends as the whole reading does.
+use mathlib.Core.Path.{_≡_, refl, sym}
+use mathlib.Core.Bool.{true}
+use mathlib.Core.List.{List}
+use Prim.Native.Nat.{ℕ, zero, suc, _+_, _<_, _≤_}
+use native.Mathlib.Omega.{arith}
+use lib.ListN.{length}
+use borrow.Author.Tests.{lt-leb, le-leb, le-ltb}
+use Rattle.sheet.specs.Sheet.{Sheet, allReached, openPairs}
+use Rattle.sheet.specs.Reading.{accepted, Progress, go, stop, finishing, doing, oneCommand, from, blank, reading}
+use Rattle.sheet.specs.laws.BrokenLaw.{unbroken-all}
+use Rattle.sheet.specs.laws.ReadingLaw.{Moves, by-size, by-rule, by-fault, by-test, by-press, moves-on, Ends, checks}
+
+-- enough fuel is left
+pub record Going (s : List ℕ) (p : Progress) (at : ℕ) : Type 0 where
+  pub fuel : ℕ
+  pub enough : length s < fuel + at
+  pub rest : from fuel p s at ≡ reading s
+
+-- at the start
+pub going-start : (s : List ℕ) → length s ≤ 16384 → Going s blank 0
+unfolding reading
+going-start s k = record { fuel = length s + 1; enough = omega arith; rest = rw (le-ltb 16384 (length s) k) }
+
+module _ {p : Progress} {s : List ℕ} {at : ℕ} where
+  -- a command that may stand here leads on
+  pub stepped : {q : Progress} {e : ℕ} → Moves p s at q e → oneCommand p s at ≡ go q e
+  unfolding oneCommand doing
+  stepped (by-size m) =
+      rw (lt-leb (length s) at (omega arith), m .byte, le-leb 0 (p .phase) (m .early), le-leb (p .phase) 0 (m .late), le-ltb (length s) (at + 4) (m .room), m .right)
+  stepped (by-rule m) =
+      rw (lt-leb (length s) at (omega arith), m .byte, le-leb 1 (p .phase) (m .early), le-leb (p .phase) 2 (m .late), le-ltb (length s) (at + 5) (m .room), m .right)
+  stepped (by-fault m) =
+      rw (lt-leb (length s) at (omega arith), m .byte, le-leb 1 (p .phase) (m .early), le-leb (p .phase) 3 (m .late), le-ltb (length s) (at + 5) (m .room), m .right)
+  stepped (by-test m) =
+      rw (lt-leb (length s) at (omega arith), m .byte, le-leb 1 (p .phase) (m .early), le-leb (p .phase) 4 (m .late), le-ltb (length s) (at + 1) (m .room), m .right)
+  stepped (by-press m) =
+      rw (lt-leb (length s) at (omega arith), m .byte, le-leb 4 (p .phase) (m .early), le-leb (p .phase) 4 (m .late), le-ltb (length s) (at + 2) (m .room), m .right)
+
+  -- END stops it
+  pub stopped : Ends p s at → oneCommand p s at ≡ stop (finishing (p .sheet) s at)
+  unfolding oneCommand doing
+  stopped m = rw (lt-leb (length s) at (omega arith), m .byte, le-leb 1 (p .phase) (m .early), le-leb (p .phase) 4 (m .late), le-ltb (length s) (at + 1) (m .room))
+
+  -- with one command more
+  pub going-on : {q : Progress} {e : ℕ} → Going s p at → Moves p s at q e → Going s q e
+  unfolding from
+  going-on {q} {e} g m = one (g .fuel) (g .enough) (g .rest)
+    where
+      one : (f : ℕ) → length s < f + at → from f p s at ≡ reading s → Going s q e
+      one zero k r = let far = moves-on m in absurd (omega arith)
+      one (suc f) k r = let far = moves-on m in record { fuel = f; enough = omega arith; rest = rw (stepped m) at r }
+
+  -- at END
+  pub going-end : Going s p at → Ends p s at → reading s ≡ finishing (p .sheet) s at
+  unfolding from
+  going-end g m = one (g .fuel) (g .enough) (g .rest)
+    where
+      one : (f : ℕ) → length s < f + at → from f p s at ≡ reading s → reading s ≡ finishing (p .sheet) s at
+      one zero k r = let room = m .room in absurd (omega arith)
+      one (suc f) k r = sym (rw (stopped m) at r)
+
+-- END accepts
+pub finishes : (sh : Sheet) (s : List ℕ) (at : ℕ) → length s ≤ at + 1 → allReached sh ≡ true → openPairs sh ≤ 32 → finishing sh s at ≡ accepted sh
+unfolding finishing
+finishes sh s at k r o = rw (le-ltb (at + 1) (length s) k, unbroken-all (checks sh) (rw r refl, (le-ltb 32 (openPairs sh) o, tt)))

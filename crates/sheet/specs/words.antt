@@ -1,0 +1,4 @@
+-- What the crate's own functions say to one another: no promise to a user rests on it.
+pub mod Fetch
+pub mod Held
+pub mod Places

@@ -1,0 +1,83 @@
+-- Where commands stand in an accepted sheet: words for the contracts of the passes after acceptance.
+use Prim.Native.Nat.{ℕ, _+_, _*_, _<_, _≤_}
+use mathlib.Core.Path.{_≡_}
+use mathlib.Core.Bool.{cond}
+use mathlib.Core.List.{List, [], _∷_, _++_}
+use lib.Dec.{ltb}
+use lib.ListN.{length, getD, take, drop}
+use Rattle.sheet.specs.declared.Span.{Span}
+use Rattle.sheet.specs.declared.Row.{Row}
+use Rattle.sheet.specs.declared.Size.{Size}
+use Rattle.sheet.specs.declared.Summary.{Summary}
+use Rattle.lists.specs.Lists.{All}
+use Rattle.sheet.specs.Sheet.{Sheet, rowsAt, ruleAt}
+use Rattle.sheet.specs.Reading.{accepted, reading, summaryOf}
+use Rattle.sheet.specs.Encode.{rowBytes, pressBytes, testBytes}
+use Rattle.sheet.specs.Tables.{firstFault, noRow}
+use Rattle.sheet.specs.words.Held.{Digits, ByPair, ruleOutput, Leads}
+
+-- the next byte is no PRESS
+abbrev pub Calm : List ℕ → Type 0
+Calm rest = getD rest 0 0 ≡ 5 → ⊥
+
+-- n PRESS commands stand from a place on
+pub record PressesFrom (s : List ℕ) (place n : ℕ) : Type 0 where
+  pub within : place + 2 * n ≤ length s
+  pub counted : (xs rest : List ℕ) → drop place s ≡ pressBytes xs ++ rest → Calm rest → n ≡ length xs
+
+-- the PRESS commands of the test that stands at a place
+pub record TestAt (s : List ℕ) (at : ℕ) (r : Span) : Type 0 where
+  pub within : r .start + r .length ≤ length s
+  pub found : (xs rest : List ℕ) → drop at s ≡ 4 ∷ (pressBytes xs ++ rest) → Calm rest → r ≡ record { start = at + 1; length = 2 * length xs }
+
+-- the PRESS commands of the test i, of tests that stand from a place on
+abbrev pub spanFrom : ℕ → List (List ℕ) → ℕ → Span
+spanFrom place l i = record { start = place + length (testBytes (take i l)) + 1; length = 2 * length (getD l i []) }
+
+pub record TestFrom (s : List ℕ) (place i : ℕ) (r : Span) : Type 0 where
+  pub within : r .start + r .length ≤ length s
+  pub found : (l : List (List ℕ)) → drop place s ≡ testBytes l ++ 6 ∷ [] → i < length l → r ≡ spanFrom place l i
+
+-- rows stand from a place on as FAULTs
+pub record FaultsFrom (s : List ℕ) (place : ℕ) (l : List Row) : Type 0 where
+  pub rest : List ℕ
+  pub bytes : drop place s ≡ rowBytes 3 l ++ rest
+  pub digits : All Digits l
+  pub few : length l ≤ 256
+
+-- the tests stand from a place on, and then END, in a sheet that is not too long
+pub record TestsFrom (s : List ℕ) (place : ℕ) (l : List (List ℕ)) : Type 0 where
+  pub bytes : drop place s ≡ testBytes l ++ 6 ∷ []
+  pub few : length l ≤ 256
+  pub short : length s ≤ 16384
+
+-- a table of 256 numbers that holds f at each index
+pub record Table (t : List ℕ) (f : ℕ → ℕ) : Type 0 where
+  pub size : length t ≡ 256
+  pub at : (i : ℕ) → i < 256 → getD t i 0 ≡ f i
+
+-- the tables of rows as faults: by pair how many there are and the first one's index, by index output and next state
+pub record FaultTables (counts firsts mutated diverted : List ℕ) (l : List Row) : Type 0 where
+  pub counts-are : ByPair counts (λ s x. length (rowsAt l s x))
+  pub firsts-are : ByPair firsts (firstFault l)
+  pub mutated-are : Table mutated (λ i. getD l i noRow .output)
+  pub diverted-are : Table diverted (λ i. getD l i noRow .target)
+
+-- the tables of the first n tests
+pub record TestTables (starts lengths : List ℕ) (place : ℕ) (l : List (List ℕ)) (n : ℕ) : Type 0 where
+  pub starts-are : Table starts (λ i. cond (ltb i n) (spanFrom place l i .start) 0)
+  pub lengths-are : Table lengths (λ i. cond (ltb i n) (length (getD l i [])) 0)
+
+-- what counting choices starts from: the rules, and how many faults each pair has
+pub record Countable (z : Size) (targets counts : List ℕ) (sh : Sheet) : Type 0 where
+  pub size : z ≡ sh .size
+  pub leads : Leads targets (sh .rules)
+  pub counts-are : ByPair counts (λ s x. length (rowsAt (sh .faults) s x))
+  pub few : length (sh .faults) ≤ 256
+
+-- what filling the tables starts from
+pub record Fillable (s : List ℕ) (summary : Summary) (outputs targets : List ℕ) (sh : Sheet) : Type 0 where
+  pub is : reading s ≡ accepted sh
+  pub same : summary ≡ summaryOf sh
+  pub outputs-are : ByPair outputs (λ s x. ruleOutput (ruleAt (sh .rules) s x))
+  pub leads : Leads targets (sh .rules)
