@@ -1,5 +1,5 @@
 pub mod Sets
 pub mod Cube
 pub mod Walk
-pub mod Tables
+pub mod Facts
 pub mod laws

@@ -1,2 +1,2 @@
-pub mod Kept
+pub mod FactsKept
 pub mod laws

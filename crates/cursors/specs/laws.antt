@@ -1,1 +1,1 @@
-pub mod KeptLaw
+pub mod FactsKeptLaw

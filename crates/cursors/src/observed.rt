@@ -6,12 +6,12 @@ use cubes::tables::TESTS;
 ghost use mathlib.Core.Path.{_≡_};
 ghost use Prim.Native.Nat.{_<_, _≤_};
 ghost use lib.ListN.{length};
-ghost use Rattle.cursors.specs.Kept.{Kept};
+ghost use Rattle.cursors.specs.FactsKept.{FactsKept};
 
 // Notes an observation where it is a reset: the next test begins there. How many tests there are.
 fn enter_test(facts: &mut [u16; FACTS], tests: usize, v: u16, at: usize) -> usize
     requires { ⌜ (length (now facts) ≡ 832) × (tests ≤ 256) ⌝ }
-    ensures { λ r. ⌜ Kept (now (facts .entry)) (now (facts .exit)) × (r ≤ 256) ⌝ }
+    ensures { λ r. ⌜ FactsKept (now (facts .entry)) (now (facts .exit)) × (r ≤ 256) ⌝ }
 {
     if v != 256 {
         return tests;
@@ -26,7 +26,7 @@ fn enter_test(facts: &mut [u16; FACTS], tests: usize, v: u16, at: usize) -> usiz
 // Notes where the tests of a log begin, and how many there are (the first 256 of them).
 pub fn find_tests(log: &[u16], facts: &mut [u16; FACTS])
     requires { ⌜ length (now facts) ≡ 832 ⌝ }
-    ensures { λ r. ⌜ Kept (now (facts .entry)) (now (facts .exit)) ⌝ }
+    ensures { λ r. ⌜ FactsKept (now (facts .entry)) (now (facts .exit)) ⌝ }
 {
     let mut tests: usize = 0;
     let mut at: usize = 0;

@@ -2,3 +2,4 @@ pub mod TestLaw
 pub mod AllLaw
 pub mod MemberLaw
 pub mod ListLaw
+pub mod BitLaw

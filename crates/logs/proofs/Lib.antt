@@ -1,2 +1,2 @@
-pub mod WalkLaw
+pub mod WrongLaw
 pub mod RecordLaw

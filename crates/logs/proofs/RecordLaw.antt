@@ -14,7 +14,7 @@ use Rattle.block.specs.Tabulated.{ruleOf}
 use Rattle.block.specs.laws.ChoiceLaw.{RuleAt, rule-at}
 use Rattle.block.specs.Logged.{observation, observations}
 use Rattle.logs.specs.Tests.{inputsAt, testsFrom, testsAt, Low, Defined, TestAt}
-use Rattle.logs.specs.Written.{Written, Recorded}
+use Rattle.logs.specs.Recorded.{Written, Recorded}
 use Rattle.logs.specs.laws.TestsLaw.{inputs-more, tests-more}
 
 -- nothing yet

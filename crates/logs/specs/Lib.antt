@@ -1,4 +1,4 @@
 pub mod Tests
-pub mod Written
+pub mod Recorded
 pub mod Walked
 pub mod laws

@@ -12,7 +12,7 @@ ghost use Rattle.model.specs.Log.{reset, seen, testLog, testsLog};
 ghost use Rattle.block.specs.Tabulated.{ruleOf};
 ghost use Rattle.block.specs.Logged.{observation};
 ghost use Rattle.logs.specs.Tests.{inputsAt, testsAt, TestAt, TestsAt};
-ghost use Rattle.logs.specs.Written.{Written, Recorded};
+ghost use Rattle.logs.specs.Recorded.{Written, Recorded};
 
 fn observed(x: u8, o: u8) -> u16
     requires { ⌜ (x < 16) × (o < 16) ⌝ }

@@ -20,7 +20,7 @@ use Rattle.model.specs.laws.CompareLaw.{Shown, shows-shown, best-shows, best-be
 use Rattle.lists.specs.Lists.{overlay}
 use Rattle.machine.specs.declared.distance.Difference.{Difference}
 use Rattle.machine.specs.declared.distance.Difference.the-variants as difference
-use Rattle.machine.specs.Tables.{Exact, Marks, near, cellOf}
+use Rattle.machine.specs.Rounds.{Exact, Marks, near, cellOf}
 use Rattle.machine.specs.Differences.{differenceOf}
 use Rattle.machine.proofs.MarksLaw.{marks-next, stable-round}
 

@@ -1,6 +1,6 @@
 -- What the proofs of the functions share.
-mod TablesLaw
+mod RoundsLaw
 mod MarksLaw
 mod FollowLaw
 mod LayLaw
-mod FitsLaw
+mod MisfitLaw

@@ -15,7 +15,7 @@ use Rattle.model.specs.Machine.{Pair}
 use Rattle.model.specs.Compare.{least, shows, within, best}
 use Rattle.model.specs.laws.StaysLaw.{Closed}
 use Rattle.model.specs.laws.CompareLaw.{within-mono, best-agrees, Stable}
-use Rattle.machine.specs.Tables.{near, cellWith, cellOf, Marks}
+use Rattle.machine.specs.Rounds.{near, cellWith, cellOf, Marks}
 
 -- the cases of a cell
 module _ (m : Pair) (w : ℕ → ℕ → Bool) (j i d : ℕ) where

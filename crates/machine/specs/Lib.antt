@@ -1,5 +1,5 @@
 pub mod Laid
-pub mod Tables
+pub mod Rounds
 pub mod Differences
 pub mod Fits
 pub mod laws

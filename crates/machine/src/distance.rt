@@ -6,7 +6,7 @@ ghost use lib.ListN.{length, getD, replicate};
 ghost use Rattle.model.specs.Compare.{least, shortest, comparePair, shows as showsOf, found};
 ghost use Rattle.lists.specs.Lists.{overlay};
 ghost use Rattle.block.specs.Layout.{statesOf, inputsOf};
-ghost use Rattle.machine.specs.Tables.{tables, Valid, Marks, Exact, near, cellOf};
+ghost use Rattle.machine.specs.Rounds.{tables, Valid, Marks, Exact, near, cellOf};
 ghost use Rattle.machine.specs.Differences.{differenceOf};
 use block::BLOCK;
 use block::inputs;

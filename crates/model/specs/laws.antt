@@ -10,7 +10,7 @@ pub mod TransitionLaw
 pub mod OperationLaw
 pub mod StepLaw
 pub mod SuiteLaw
-pub mod BitLaw
+pub mod UsedBitLaw
 pub mod UsedLaw
 pub mod LogLaw
 pub mod PublishedLaw

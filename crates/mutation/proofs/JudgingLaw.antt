@@ -25,7 +25,7 @@ use Rattle.block.specs.Tabled.{Tabled}
 use Rattle.cubes.specs.declared.goal.Goal.the-variants.{Nonconforming}
 use Rattle.machine.specs.declared.distance.Difference.{Difference}
 use Rattle.search.specs.Search.{NoneFrom, unsettled}
-use Rattle.search.specs.Shown.{Room, Kept, Shown}
+use Rattle.search.specs.Shown.{Room, Untouched, Shown}
 use Rattle.search.specs.laws.JudgementLaw.{none-judged, first-judged}
 use Rattle.mutation.specs.declared.verdict.Judged.{Judged}
 use Rattle.mutation.specs.declared.verdict.Judged.the-variants as judged
@@ -68,7 +68,7 @@ module _ {sh : Sheet} {m : List ℕ} (tb : Tabled sh m) (board sequence : List �
 
 module _ {sh : Sheet} {board board′ sequence sequence′ : List ℕ} where
   -- no survivor
-  pub judges-complete : NoneFrom Nonconforming sh unsettled 0 × Kept board board′ sequence sequence′ → Judges (accepted (judgeOf sh)) judged.Complete board board′ sequence sequence′
+  pub judges-complete : NoneFrom Nonconforming sh unsettled 0 × Untouched board board′ sequence sequence′ → Judges (accepted (judgeOf sh)) judged.Complete board board′ sequence sequence′
   judges-complete f = let h = none-judged (f .0) in record { answer = rw h refl; board = rw h (f .1 .board); sequence = rw h (f .1 .sequence) }
 
   -- the first survivor, with what compare shows

@@ -1,6 +1,6 @@
 -- What the proofs of the functions share.
 mod RespondLaw
 mod OperateLaw
-mod SuiteLaw
+mod FailureLaw
 mod OpenLaw
 mod JudgingLaw

@@ -24,12 +24,12 @@ use Rattle.block.specs.Tabled.{Tabled}
 use Rattle.machine.specs.declared.fitting.Fit.the-variants as fit
 use Rattle.machine.specs.declared.laying.Machine.{Machine}
 use Rattle.machine.specs.declared.distance.Difference.{Difference}
-use Rattle.machine.specs.Tables.{tables, movesIn, Valid}
+use Rattle.machine.specs.Rounds.{tables, movesIn, Valid}
 use Rattle.machine.specs.Differences.{differenceOf}
 use Rattle.machine.specs.Fits.{Machined}
 use Rattle.machine.specs.laws.LaidLaw.{moves-step, tables-against, tables-valid}
 use Rattle.machine.specs.laws.FitsLaw.{fit-refused, fit-mutant}
-use Rattle.search.specs.laws.WalkLaw.{tabulates}
+use Rattle.search.specs.laws.TabulatesLaw.{tabulates}
 use Rattle.mutation.specs.declared.Used.{Used}
 use Rattle.usage.specs.Marks.{startSlotOf, actsIn}
 use Rattle.usage.specs.laws.MarksLaw.{InputsOf, used-run}

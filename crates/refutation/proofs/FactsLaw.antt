@@ -6,13 +6,13 @@ use native.Mathlib.Omega.{arith}
 use Rattle.block.specs.Tabulated.{Wf}
 use Rattle.cubes.specs.Cube.{FreeOk}
 use Rattle.cubes.specs.laws.FreeLaw.{free-kept}
-use Rattle.cursors.specs.Kept.{Kept}
+use Rattle.cursors.specs.FactsKept.{FactsKept}
 use Rattle.mirror.specs.Mirror.{Exchanged}
 use Rattle.mirror.specs.laws.MirrorLaw.{swaps-kept}
 use Rattle.refutation.specs.Refuting.{Ready}
 
 -- what suspects can do, which states can be exchanged, where the tests begin: each leaves what was there
-pub prepared : {m entered swapped facts : List ℕ} → Wf m → FreeOk m entered → Exchanged m entered swapped → Kept swapped facts → Ready m facts
+pub prepared : {m entered swapped facts : List ℕ} → Wf m → FreeOk m entered → Exchanged m entered swapped → FactsKept swapped facts → Ready m facts
 prepared {m} {entered} {swapped} {facts} wf free ex kept =
     let after : FreeOk m swapped = free-kept wf (λ j l. ex .others j (inl l)) free in
     record { wf = wf; free = free-kept wf (λ j l. kept .same j (omega arith)) after; swaps = swaps-kept (kept .same) (ex .swaps) }

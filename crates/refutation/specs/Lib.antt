@@ -1,3 +1,3 @@
-pub mod Store
+pub mod Lent
 pub mod Refuting
 pub mod Branching

@@ -25,7 +25,7 @@ ghost use mathlib.Core.Bool.{true};
 ghost use lib.ListN.{length};
 ghost use Rattle.block.specs.Tabulated.{Wf};
 ghost use Rattle.cubes.specs.Cube.{NoneIf};
-ghost use Rattle.refutation.specs.Store.{StoreOk};
+ghost use Rattle.refutation.specs.Lent.{StoreOk};
 ghost use Rattle.refutation.specs.Refuting.{Ready};
 
 // Fills the facts of a block and a log; false where it has none.

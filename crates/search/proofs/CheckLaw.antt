@@ -32,14 +32,14 @@ use Rattle.machine.specs.declared.distance.Difference.the-variants as differenc
 use Rattle.machine.specs.declared.laying.Machine.{Machine}
 use Rattle.machine.specs.Differences.{differenceOf}
 use Rattle.machine.specs.Laid.{Chosen, Settles, Moves}
-use Rattle.machine.specs.Tables.{tables, Valid}
+use Rattle.machine.specs.Rounds.{tables, Valid}
 use Rattle.machine.specs.Fits.{Machined}
 use Rattle.machine.specs.laws.LaidLaw.{settled-chosen, settled-start, settled-moves, tables-against, tables-valid}
 use Rattle.cubes.specs.declared.goal.Goal.{Goal}
 use Rattle.cubes.specs.declared.goal.Goal.the-variants.{Any, Nonconforming}
 use Rattle.search.specs.Search.{Meets, Wanted, mutantIn, Searching, Decides}
 use Rattle.search.specs.Shown.{Showing, Written}
-use Rattle.search.specs.laws.WalkLaw.{tabulates}
+use Rattle.search.specs.laws.TabulatesLaw.{tabulates}
 use Rattle.search.proofs.SearchLaw.{full-mutant}
 
 -- ---- writing the choices

@@ -29,7 +29,7 @@ pub record Showing (sh : Sheet) (m p : List ℕ) : Type 0 where
   pub long : length p ≡ 32
 
 -- both buffers are as they were
-pub record Kept (oldBoard newBoard oldSequence newSequence : List ℕ) : Type 0 where
+pub record Untouched (oldBoard newBoard oldSequence newSequence : List ℕ) : Type 0 where
   pub board : newBoard ≡ oldBoard
   pub sequence : newSequence ≡ oldSequence
 
@@ -46,5 +46,5 @@ pub record Shown (goal : Goal) (sh : Sheet) (d : Difference) (oldBoard newBoard 
   pub written : Written sh mutant d oldBoard newBoard oldSequence newSequence
 
 abbrev pub Leaves : Goal → Sheet → Searched → List ℕ → List ℕ → List ℕ → List ℕ → Type 0
-Leaves goal sh Nothing oldBoard newBoard oldSequence newSequence = NoneFrom goal sh unsettled 0 × Kept oldBoard newBoard oldSequence newSequence
+Leaves goal sh Nothing oldBoard newBoard oldSequence newSequence = NoneFrom goal sh unsettled 0 × Untouched oldBoard newBoard oldSequence newSequence
 Leaves goal sh (First d) oldBoard newBoard oldSequence newSequence = Shown goal sh d oldBoard newBoard oldSequence newSequence

@@ -1,2 +1,2 @@
 pub mod JudgementLaw
-pub mod WalkLaw
+pub mod TabulatesLaw

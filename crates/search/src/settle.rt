@@ -12,7 +12,7 @@ ghost use mathlib.Core.Path.{_≡_};
 ghost use mathlib.Core.Bool.{true};
 ghost use lib.ListN.{length};
 ghost use Rattle.sheet.specs.Sheet.{Sheet};
-ghost use Rattle.refutation.specs.Store.{StoreOk};
+ghost use Rattle.refutation.specs.Lent.{StoreOk};
 ghost use Rattle.cubes.specs.Cube.{NoneIf};
 ghost use Rattle.block.specs.Tabulated.{Wf};
 ghost use Rattle.refutation.specs.Refuting.{Ready};

@@ -1,5 +1,5 @@
 pub mod Sheets
 pub mod Rows
 pub mod Refusals
-pub mod Written
-pub mod Generated
+pub mod WrittenRows
+pub mod GeneratedRows

@@ -21,7 +21,7 @@ use Rattle.model.specs.Used.{has, markFrom, markAll, Usage, usedOn}
 use Rattle.model.specs.Compare.{least, shows, within, best, shortest, distance, compareFrom, comparePair}
 use Rattle.model.specs.Suite.{Judgement, complete, survivor, wrongFrom, wrongIn, firstFailedIn, firstFailedOf, Finding, findingOf, compareOf, survivorAmong, judgeOf}
 use Rattle.model.specs.Operations.{reads, firstHigh, firstOver, withMutant, Response, responseOf, running, failing, comparing, judging, runOn, compareOn, judgeOn}
-use Rattle.model.specs.laws.BitLaw.{ones-count}
+use Rattle.model.specs.laws.UsedBitLaw.{ones-count}
 use Rattle.model.specs.laws.QuickJudgeLaw.{tabulate, cellAt, rounds, compareQuick, firstQuick, judgeQuick, quick}
 use Rattle.worked.specs.Sheets.{p1machine, p1, p2, p3, emptyTest, p4machine, p4, p5, p6, p9machine, bababa, p9, p10, stuck, chain, open32, open33, manyTests}
 

@@ -14,7 +14,7 @@ use Rattle.block.specs.Tabulated.{StepIs}
 use Rattle.block.specs.declared.layout.Step.{Step}
 use Rattle.block.specs.laws.ChoiceLaw.{choice-at, choice-low}
 use Rattle.cubes.specs.Cube.{FreeOk}
-use Rattle.cubes.specs.Tables.{ChoiceIn, PairIn, Entered, PairEntered, AllEntered}
+use Rattle.cubes.specs.Facts.{ChoiceIn, PairIn, Entered, PairEntered, AllEntered}
 use Rattle.cubes.specs.laws.SetLaw.{grows-none, grows-more}
 
 choice-more : {m old new : List ℕ} {k c : ℕ} → Grows old new → ChoiceIn m old k c → ChoiceIn m new k c

@@ -10,26 +10,16 @@ use lib.Bits.{bitOr, bitAnd, or-step, and-step, or-shr, and-shr}
 use lib.ListN.{length, getD, set, length-set}
 use lib.Seq.{getD-set-same, getD-set-other}
 use lib.Pow.{pow-lt, pow-pos, shl-exact}
+use Rattle.lists.specs.laws.BitLaw.{or-bit, one-other}
+use Rattle.lists.specs.laws.BitLaw as bit
 use Rattle.cubes.specs.Sets.{Has, HasAll, Joined, Grows, Put}
 use Rattle.cubes.specs.Cube.{Shared}
-
-or-odd : (a b : ℕ) → bitOr a b % 2 ≡ max (a % 2) (b % 2)
-or-odd a b = omega (arith, or-step a b)
-
-or-bit : (a b j : ℕ) → bitOr a b / 2 ^ j % 2 ≡ max (a / 2 ^ j % 2) (b / 2 ^ j % 2)
-or-bit a b j = rw (or-shr a b j) (or-odd (a / 2 ^ j) (b / 2 ^ j))
 
 and-odd : (a b : ℕ) → bitAnd a b % 2 ≡ min (a % 2) (b % 2)
 and-odd a b = omega (arith, and-step a b)
 
 and-bit : (a b j : ℕ) → bitAnd a b / 2 ^ j % 2 ≡ min (a / 2 ^ j % 2) (b / 2 ^ j % 2)
 and-bit a b j = rw (and-shr a b j) (and-odd (a / 2 ^ j) (b / 2 ^ j))
-
-one-other : (i j : ℕ) → (j ≡ i → ⊥) → 2 ^ i / 2 ^ j % 2 ≡ 0
-one-other zero zero h = absurd (h refl)
-one-other zero (suc j) h = ap (λ (n : ℕ). n % 2) (div-eq-of-lt (pow-lt (zero-lt-suc j)))
-one-other (suc i) zero h = rw (pow-suc 2 i, div-one) (omega arith)
-one-other (suc i) (suc j) h = rw (pow-suc 2 i, pow-suc 2 j, mul-div-mul-right (2 ^ i) (2 ^ j) (zero-lt-suc 1)) (one-other i j (λ e. h (ap suc e)))
 
 -- the code's `1 << i` in w bits
 pub one-shl : (w i : ℕ) → i < w → (1 * 2 ^ i) % 2 ^ w ≡ 2 ^ i
@@ -76,8 +66,7 @@ union-or a b = record {
 -- a set of one has it
 pub one-same : (i : ℕ) → Has (2 ^ i) i
 unfolding Has
-one-same zero = refl
-one-same (suc i) = rw (pow-suc 2 i, mul-div-mul-right (2 ^ i) (2 ^ i) (zero-lt-suc 1)) (one-same i)
+one-same i = bit.one-same i
 
 -- ---- tables of sets
 pub put-one : {old : List ℕ} (at s e u : ℕ) → at < length old → e ≡ 2 ^ s → Joined (getD old at 0) e u → Put old (set old at u) at s

@@ -14,7 +14,7 @@ use Rattle.model.specs.Machine.{Action}
 use Rattle.model.specs.Mutant.{slots, siteOf, acts, initial, startSlot}
 use Rattle.model.specs.Used.{has, mark, markFrom, markAll, usedOn, UsesFrom, UsesIn, Uses}
 use Rattle.model.specs.Verdict.{UsedMeans}
-use Rattle.model.specs.laws.BitLaw.{has-nothing, mark-keeps, mark-has, has-mark, mark-low, ones-count}
+use Rattle.model.specs.laws.UsedBitLaw.{has-nothing, mark-keeps, mark-has, has-mark, mark-low, ones-count}
 use Rattle.model.specs.laws.SuspectLaw.{site-is}
 
 module _ (act : ℕ → ℕ → Action) where

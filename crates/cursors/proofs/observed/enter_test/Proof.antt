@@ -1,6 +1,6 @@
 use native.Mathlib.Omega.{arith}
 use borrow.Author.Needs.{needs}
-use Rattle.cursors.specs.laws.KeptLaw.{kept-none, kept-set}
+use Rattle.cursors.specs.laws.FactsKeptLaw.{kept-none, kept-set}
 use Rattle.cursors.proofs.observed.enter_test.Statement.{statement}
 use Rattle.cursors.proofs.observed.enter_test.Tie as tie
 

@@ -2,13 +2,13 @@ use native.Mathlib.Omega.{arith}
 use borrow.Author.Needs.{needs}
 use Prim.Native.Nat.{_≤_, _-_}
 use lib.ListN.{length}
-use Rattle.cursors.specs.Kept.{Kept}
-use Rattle.cursors.specs.laws.KeptLaw.{kept-none, kept-set, kept-more}
+use Rattle.cursors.specs.FactsKept.{FactsKept}
+use Rattle.cursors.specs.laws.FactsKeptLaw.{kept-none, kept-set, kept-more}
 use Rattle.cursors.proofs.observed.find_tests.Statement.{statement}
 use Rattle.cursors.proofs.observed.find_tests.Tie as tie
 
 abbrev Inv-loop : tie.InvT-loop
-Inv-loop log facts₀ tests₀ at₀ facts tests at = Kept facts₀ facts × (tests ≤ 256)
+Inv-loop log facts₀ tests₀ at₀ facts tests at = FactsKept facts₀ facts × (tests ≤ 256)
 
 abbrev μ-loop : tie.MeasureT-loop
 μ-loop log facts₀ tests₀ at₀ facts tests at = length log - at

@@ -2,7 +2,7 @@
 use borrow.Author.Needs.{needs}
 use Prim.Native.Nat.{_-_}
 use lib.ListN.{length}
-use Rattle.logs.proofs.WalkLaw.{Walking, walk-start, walk-reset, walk-right, walk-wrong, walk-end}
+use Rattle.logs.proofs.WrongLaw.{Walking, walk-start, walk-reset, walk-right, walk-wrong, walk-end}
 use Rattle.logs.proofs.walk.first_wrong.Statement.{statement}
 use Rattle.logs.proofs.walk.first_wrong.Tie as tie
 

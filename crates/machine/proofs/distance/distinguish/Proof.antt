@@ -6,8 +6,8 @@ use native.Mathlib.Omega.{arith}
 use borrow.Author.Tests.{not-true}
 use lib.ListN.{length}
 use Rattle.block.specs.Layout.{statesOf}
-use Rattle.machine.specs.Tables.{tables}
-use Rattle.machine.proofs.TablesLaw.{closed}
+use Rattle.machine.specs.Rounds.{tables}
+use Rattle.machine.proofs.RoundsLaw.{closed}
 use Rattle.machine.proofs.FollowLaw.{Searching, search-start, search-more, found-exact, tells-found, tells-stable, tells-last}
 use Rattle.machine.proofs.distance.distinguish.Statement.{statement}
 use Rattle.machine.proofs.distance.distinguish.Tie as tie

@@ -7,7 +7,7 @@ use borrow.Author.Count.{below-more}
 use Rattle.model.specs.Compare.{shows}
 use Rattle.model.specs.laws.LeastLaw.{least-unique}
 use Rattle.block.specs.Layout.{inputsOf}
-use Rattle.machine.specs.Tables.{tables, near}
+use Rattle.machine.specs.Rounds.{tables, near}
 use borrow.Author.Needs.{needs}
 use Rattle.machine.proofs.distance.first_showing.Statement.{statement}
 use Rattle.machine.proofs.distance.first_showing.Tie as tie

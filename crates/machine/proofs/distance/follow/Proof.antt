@@ -2,9 +2,9 @@
 use mathlib.Core.Path.{sym, _∙_, ap}
 use native.Mathlib.Omega.{arith}
 use Rattle.model.specs.Machine.{Move}
-use Rattle.machine.specs.Tables.{tables}
+use Rattle.machine.specs.Rounds.{tables}
 use Rattle.machine.specs.laws.LaidLaw.{move-at}
-use Rattle.machine.proofs.TablesLaw.{closed, rule-target}
+use Rattle.machine.proofs.RoundsLaw.{closed, rule-target}
 use Rattle.machine.proofs.FollowLaw.{Following, follow-start, Turn, turn, follow-more, follow-end}
 use Rattle.machine.proofs.distance.follow.Statement.{statement}
 use Rattle.machine.proofs.distance.follow.Tie as tie

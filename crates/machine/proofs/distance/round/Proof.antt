@@ -9,7 +9,7 @@ use lib.ListN.{length, length-set, getD}
 use Rattle.lists.specs.laws.TestLaw.{never}
 use Rattle.model.specs.Machine.{Pair}
 use Rattle.block.specs.Layout.{statesOf}
-use Rattle.machine.specs.Tables.{tables}
+use Rattle.machine.specs.Rounds.{tables}
 use Rattle.machine.proofs.MarksLaw.{Done, done-none, done-more, done-same, done-skip, done-all}
 use borrow.Author.Needs.{needs}
 use Rattle.machine.proofs.distance.round.Statement.{statement}

@@ -1,5 +1,5 @@
 -- `shows`: each answer is a law of `shows` on tables; the two next states are states.
-use Rattle.machine.proofs.TablesLaw.{shows-none, shows-differ, shows-same, next-low}
+use Rattle.machine.proofs.RoundsLaw.{shows-none, shows-differ, shows-same, next-low}
 use borrow.Author.Needs.{needs}
 use Rattle.machine.proofs.distance.shows.Statement.{statement}
 use Rattle.machine.proofs.distance.shows.Tie as tie

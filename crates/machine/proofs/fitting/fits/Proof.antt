@@ -1,5 +1,5 @@
 -- `fits`: each way out is a case of the two refusals.
-use Rattle.machine.proofs.FitsLaw.{few-slots, fit-length, fit-high, fit-low}
+use Rattle.machine.proofs.MisfitLaw.{few-slots, fit-length, fit-high, fit-low}
 use native.Mathlib.Omega.{arith}
 use borrow.Author.Needs.{needs}
 use Rattle.machine.proofs.fitting.fits.Statement.{statement}

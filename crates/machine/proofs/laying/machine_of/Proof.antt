@@ -5,7 +5,7 @@ use lib.ListN.{length, length-replicate}
 use Rattle.block.specs.laws.TabledLaw.{well-formed}
 use Rattle.machine.specs.laws.LaidLaw.{settled-chosen}
 use Rattle.machine.specs.laws.FitsLaw.{fit-mutant, not-mutant}
-use Rattle.machine.proofs.FitsLaw.{settles, machined}
+use Rattle.machine.proofs.MisfitLaw.{settles, machined}
 use borrow.Author.Needs.{needs}
 use Rattle.machine.proofs.laying.machine_of.Statement.{statement}
 use Rattle.machine.proofs.laying.machine_of.Tie as tie

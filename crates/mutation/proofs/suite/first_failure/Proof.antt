@@ -2,7 +2,7 @@
 use mathlib.Core.Path.{sym}
 use lib.Seq.{length-take-le}
 use borrow.Author.Needs.{needs}
-use Rattle.mutation.proofs.SuiteLaw.{inside, found-reached, first-found}
+use Rattle.mutation.proofs.FailureLaw.{inside, found-reached, first-found}
 use Rattle.mutation.proofs.suite.first_failure.Statement.{statement}
 use Rattle.mutation.proofs.suite.first_failure.Tie as tie
 

@@ -1,5 +1,5 @@
 use borrow.Author.Needs.{needs}
-use Rattle.mutation.proofs.SuiteLaw.{located, roomy, logged}
+use Rattle.mutation.proofs.FailureLaw.{located, roomy, logged}
 use Rattle.mutation.proofs.suite.log_suite.Statement.{statement}
 use Rattle.mutation.proofs.suite.log_suite.Tie as tie
 

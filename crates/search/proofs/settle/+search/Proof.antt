@@ -8,7 +8,7 @@ use lib.ListN.{length}
 use Rattle.sheet.specs.Sheet.{Sheet}
 use Rattle.lists.specs.laws.TestLaw.{never}
 use Rattle.cubes.specs.declared.goal.Goal.{Goal}
-use Rattle.refutation.specs.Store.{StoreOk}
+use Rattle.refutation.specs.Lent.{StoreOk}
 use Rattle.search.specs.declared.settle.Found.the-variants.{Nothing}
 use Rattle.search.specs.Search.{Searching, Tried}
 use Rattle.block.specs.laws.TabledLaw.{well-formed}

@@ -14,7 +14,7 @@ use Rattle.model.specs.laws.StaysLaw.{Closed}
 use Rattle.block.specs.Layout.{pair, ruleOutput, ruleTarget, statesOf, inputsOf}
 use Rattle.block.specs.Tabulated.{ruleOf}
 use Rattle.block.specs.laws.ChoiceLaw.{rule-at}
-use Rattle.machine.specs.Tables.{movesIn, tables, Valid, near}
+use Rattle.machine.specs.Rounds.{movesIn, tables, Valid, near}
 use Rattle.machine.specs.laws.LaidLaw.{move-at}
 
 module _ {m targets : List ℕ} (v : Valid m targets) where

@@ -13,21 +13,9 @@ use lib.Count.{ones, ones-step}
 use lib.Dec.{eqb}
 use lib.Pow.{pow-lt, pow-pos, shr-lt, shr-shr}
 use Rattle.lists.specs.Lists.{count}
+use Rattle.lists.specs.laws.BitLaw.{or-bit, one-same, one-other}
 use Rattle.lists.specs.laws.TestLaw.{never}
 use Rattle.model.specs.Used.{has, mark}
-
-or-bit : (a b i : ℕ) → bitOr a b / 2 ^ i % 2 ≡ max (a / 2 ^ i % 2) (b / 2 ^ i % 2)
-or-bit a b i = rw (or-shr a b i) (omega (arith, or-step (a / 2 ^ i) (b / 2 ^ i)))
-
-one-same : (i : ℕ) → 2 ^ i / 2 ^ i % 2 ≡ 1
-one-same zero = refl
-one-same (suc i) = rw (pow-suc 2 i, mul-div-mul-right (2 ^ i) (2 ^ i) (zero-lt-suc 1)) (one-same i)
-
-one-other : (i j : ℕ) → (j ≡ i → ⊥) → 2 ^ i / 2 ^ j % 2 ≡ 0
-one-other zero zero h = absurd (h refl)
-one-other zero (suc j) h = ap (λ (n : ℕ). n % 2) (div-eq-of-lt (pow-lt (zero-lt-suc j)))
-one-other (suc i) zero h = rw (pow-suc 2 i, div-one) (omega arith)
-one-other (suc i) (suc j) h = rw (pow-suc 2 i, pow-suc 2 j, mul-div-mul-right (2 ^ i) (2 ^ j) (zero-lt-suc 1)) (one-other i j (λ e. h (ap suc e)))
 
 -- the empty set has nothing
 pub has-nothing : (i : ℕ) → has 0 i ≡ true → ⊥

@@ -25,11 +25,11 @@ use Rattle.block.specs.laws.TabledLaw.{rule-same}
 use Rattle.logs.specs.declared.walk.Wrong.{Wrong}
 use Rattle.logs.specs.declared.walk.Wrong.the-variants as wrong
 use Rattle.logs.specs.Tests.{testsAt, TestsAt}
-use Rattle.logs.specs.Written.{Recorded}
+use Rattle.logs.specs.Recorded.{Recorded}
 use Rattle.logs.specs.Walked.{movesIn, wrongOf}
 use Rattle.logs.specs.laws.TestsLaw.{length-at, tests-are, tests-at, tests-log}
 use Rattle.logs.specs.laws.WalkedLaw.{walked-failed}
-use Rattle.search.specs.laws.WalkLaw.{tabulates}
+use Rattle.search.specs.laws.TabulatesLaw.{tabulates}
 use Rattle.mutation.specs.declared.Used.{Used}
 use Rattle.usage.specs.Marks.{startSlotOf, actsIn}
 use Rattle.usage.specs.Tried.{Inside, placeOf, Reached}
