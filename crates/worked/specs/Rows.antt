@@ -153,6 +153,7 @@ touching =
     ∷ failed p10 (0 ∷ 0 ∷ 0 ∷ 0 ∷ []) (passed 3 14)
     ∷ failed p10 (0 ∷ 1 ∷ 0 ∷ 0 ∷ []) (place 1 2 3 14)
     ∷ failed p10 (0 ∷ 0 ∷ 1 ∷ 0 ∷ []) (place 0 3 2 6)
+    ∷ failed p10 (6 ∷ 0 ∷ 0 ∷ 1 ∷ []) (place 0 4 3 13)
     ∷ []
 
 unfoldable pub rows : List Row
@@ -192,4 +193,4 @@ a & b = (a, b)
 
 pub rows-hold : AllHold rows
 unfolding computing ones rows listed further touching Holds AllHold
-rows-hold = refl & refl & refl & refl & refl & refl & refl & refl & refl & refl & refl & refl & refl & refl & refl & refl & refl & refl & refl & refl & refl & refl & refl & p10-holds & refl & refl & refl & refl & refl & refl & refl & refl & refl & refl & refl & refl & refl & refl & refl & refl & refl & refl & refl & refl & refl & refl & refl & refl & refl & refl & refl & refl & refl & refl & refl & refl & refl & refl & refl & refl & refl & open32-holds & refl & refl & refl & tt
+rows-hold = refl & refl & refl & refl & refl & refl & refl & refl & refl & refl & refl & refl & refl & refl & refl & refl & refl & refl & refl & refl & refl & refl & refl & p10-holds & refl & refl & refl & refl & refl & refl & refl & refl & refl & refl & refl & refl & refl & refl & refl & refl & refl & refl & refl & refl & refl & refl & refl & refl & refl & refl & refl & refl & refl & refl & refl & refl & refl & refl & refl & refl & refl & open32-holds & refl & refl & refl & refl & tt

@@ -1,6 +1,6 @@
 // Sheets written from tables (02's Point 1).
 // Promises the sheet's bytes and length, or the refusal, and that a written sheet reads as the very tables it was made from.
-// Called by users, and by `capi`.
+// Called by users, by `generator` and by `capi`.
 ghost use mathlib.Core.Path.{_≡_};
 ghost use lib.Dec.{eqb, ltb};
 ghost use lib.ListN.{length};
