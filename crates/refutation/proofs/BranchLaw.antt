@@ -1,5 +1,5 @@
 -- The choices of a suspect in turn, each refuted by a cube; and what a cube has.
-use mathlib.Core.Path.{_≡_, refl, sym, ap, ap₂, _∙_, subst}
+use mathlib.Core.Path.{_≡_, sym, ap, ap₂, _∙_, subst}
 use mathlib.Core.Bool.{true}
 use mathlib.Core.List.{List}
 use Prim.Native.Nat.{ℕ, _+_, _-_, _<_, _≤_}
@@ -13,7 +13,7 @@ use Rattle.block.specs.Tabulated.{Wf, Ranged, choicesAt, choiceOf, chosen, Step
 use Rattle.block.specs.declared.layout.Step.{Step}
 use Rattle.block.specs.laws.ChoiceLaw.{chosen-some, choice-at}
 use Rattle.cubes.specs.Sets.{Has}
-use Rattle.cubes.specs.Cube.{Means, MeansStep, In, NoneIn, Joining, Adds, MeetsAll, AddsOk, Extends}
+use Rattle.cubes.specs.Cube.{Means, MeansStep, NoneIn, Joining, Adds, MeetsAll, AddsOk, Extends}
 use Rattle.cubes.specs.declared.goal.Goal.{Goal}
 use Rattle.cubes.specs.laws.LiteralLaw.{any-means}
 use Rattle.cubes.specs.laws.JoinLaw.{DoneTo, join-none, join-more, join-all, done-skip, done-all}

@@ -14,7 +14,7 @@ use Rattle.block.specs.Layout.{siteAt, choicesOf}
 use Rattle.block.specs.Tabulated.{Wf, Ranged, choiceOf, chosen}
 use Rattle.cubes.specs.declared.goal.Goal.{Goal}
 use Rattle.block.specs.laws.ChoiceLaw.{chosen-some}
-use Rattle.cubes.specs.Cube.{Means, In, NoneIn, BothOk, InBut, Joining, Covers, Adds, Sought, MeetsAll, AddsOk}
+use Rattle.cubes.specs.Cube.{Means, In, NoneIn, BothOk, InBut, Joining, Covers, Adds, MeetsAll, AddsOk}
 use Rattle.cubes.specs.laws.SetLaw.{nothing}
 use Rattle.cubes.specs.laws.LiteralLaw.{meant, meaning}
 

@@ -2,14 +2,14 @@
 use mathlib.Core.Logic.{_⊎_, inl, inr}
 use mathlib.Core.Path.{_≡_, refl, sym, ap, _∙_, subst}
 use mathlib.Core.List.{List}
-use Prim.Native.Nat.{ℕ, zero, suc, _*_, _/_, _%_, _^_, _<_, max, min}
-use native.Mathlib.Nat.{div-eq-of-lt, mul-div-mul-right, pow-suc, div-one, zero-lt-suc}
+use Prim.Native.Nat.{ℕ, _*_, _/_, _%_, _^_, _<_, min}
+use native.Mathlib.Nat.{div-eq-of-lt}
 use native.Mathlib.Omega.{arith}
 use native.Mathlib.Decide.{ℕ-discrete}
-use lib.Bits.{bitOr, bitAnd, or-step, and-step, or-shr, and-shr}
+use lib.Bits.{bitOr, bitAnd, and-step, and-shr}
 use lib.ListN.{length, getD, set, length-set}
 use lib.Seq.{getD-set-same, getD-set-other}
-use lib.Pow.{pow-lt, pow-pos, shl-exact}
+use lib.Pow.{pow-pos, shl-exact}
 use Rattle.lists.specs.laws.BitLaw.{or-bit, one-other}
 use Rattle.lists.specs.laws.BitLaw as bit
 use Rattle.cubes.specs.Sets.{Has, HasAll, Joined, Grows, Put}

@@ -1,5 +1,5 @@
 -- A cube along a log.
-use mathlib.Core.Path.{_≡_, refl, sym, ap, _∙_, subst}
+use mathlib.Core.Path.{_≡_, sym, _∙_, subst}
 use borrow.Author.Tests.{ne-eqb}
 use mathlib.Core.List.{List, [], _∷_}
 use Prim.Native.Nat.{ℕ, zero, suc, _+_, _*_, _/_, _%_, _<_, _≤_, _^_}
@@ -11,8 +11,8 @@ use lib.Seq.{drop-cons}
 use Rattle.model.specs.Log.{Observation, reset, seen, GivesFrom}
 use Rattle.model.specs.Machine.{Move}
 use Rattle.cubes.specs.Sets.{Has, Joined}
-use Rattle.block.specs.Layout.{pair, siteAt, ruleOutput, ruleTarget, statesOf, inputsOf}
-use Rattle.block.specs.Tabulated.{Wf, Ranged, choiceOf, stepOf, startOf}
+use Rattle.block.specs.Layout.{pair, siteAt, statesOf, inputsOf}
+use Rattle.block.specs.Tabulated.{Wf, Ranged, stepOf, startOf}
 use Rattle.block.specs.Tabulated.{StepIs}
 use Rattle.block.specs.declared.layout.Step.{Step}
 use Rattle.block.specs.laws.ChoiceLaw.{choice-lone, step-closed, start-low}
@@ -21,7 +21,7 @@ use Rattle.cubes.specs.declared.goal.Goal.{Goal}
 use Rattle.block.specs.Logged.{observation, observations, GivesOf}
 use Rattle.cubes.specs.Walk.{LoneLead, LeadOk, OnwardOk}
 use Rattle.cubes.specs.laws.SetLaw.{nothing, one-same}
-use Rattle.cubes.specs.laws.SuspectedLaw.{Suspected, suspected}
+use Rattle.cubes.specs.laws.SuspectedLaw.{suspected}
 use Rattle.cubes.specs.laws.ConformLaw.{step-low}
 
 -- ---- one state

@@ -24,7 +24,6 @@ use Rattle.model.specs.Mutant.{rule, specified}
 use Rattle.model.specs.Log.{testsLog, suiteLog}
 use Rattle.model.specs.laws.StaysLaw.{rule-in}
 use Rattle.model.specs.laws.SuiteLaw.{Specified, test-specified}
-use Rattle.model.specs.laws.LogLaw.{log-below, log-most}
 use Rattle.logs.specs.Tests.{inputsAt, testsFrom, testsAt, Low, TestsAt}
 
 -- the first input, and the first test, and those after it
@@ -118,10 +117,3 @@ module _ (sh : Sheet) (wf : WellFormed sh) where
     pub tests-log : testsLog r (testsAt s (tables .starts) (tables .lengths) n) ≡ suiteLog sh
     unfolding suiteLog
     tests-log = rw (same, tests-are bytes tabled many) refl
-
-    -- a log of 8448 numbers has room, and so has one as long as the sheet
-    pub room-below : length (testsLog r (testsAt s (tables .starts) (tables .lengths) n)) ≤ length s
-    room-below = rw (tests-log, ← bytes) (log-below sh)
-
-    pub room-most : length s ≤ 16384 → length (testsLog r (testsAt s (tables .starts) (tables .lengths) n)) ≤ 8448
-    room-most l = rw tests-log (log-most sh wf (rw bytes l))

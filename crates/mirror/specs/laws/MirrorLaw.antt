@@ -4,11 +4,9 @@ use mathlib.Core.List.{List}
 use Prim.Native.Nat.{ℕ, _+_, _<_}
 use native.Mathlib.Omega.{arith}
 use lib.ListN.{getD}
-use Rattle.block.specs.Tabulated.{choiceOf}
 use Rattle.cubes.specs.Cube.{MeetsAll}
-use Rattle.cubes.specs.laws.JoinLaw.{DoneTo}
 use Rattle.mirror.specs.Mirror.{SwapsOk}
-use Rattle.mirror.specs.Reflect.{Under, ReflectedOk}
+use Rattle.mirror.specs.Reflect.{Under}
 
 -- what is done to other facts leaves them
 pub swaps-kept : {m old new : List ℕ} → ((j : ℕ) → j < 560 → getD new j 0 ≡ getD old j 0) → SwapsOk m old → SwapsOk m new
@@ -16,6 +14,3 @@ swaps-kept same s = record { at = λ a l. rw (same (544 + a) (omega arith)) (s .
 
 pub under-meets : {all cube more : List ℕ} {i : ℕ} → MeetsAll all cube more → Under more cube i
 under-meets me = record { at = λ j l d v h. me .at j l .right v h }
-
-pub done-stays : {m cube done wider : List ℕ} {k c : ℕ} → DoneTo m done k c → ReflectedOk m cube done wider k → DoneTo m wider k c
-done-stays {m} {k = k} t re = record { at = λ d l. re .keeps (choiceOf m k d) (t .at d l) }

@@ -18,9 +18,8 @@ use Rattle.sheet.specs.Tables.{noRow}
 use Rattle.sheet.specs.WellFormed.{Mutates, WellFormed}
 use Rattle.model.specs.Machine.{Move}
 use Rattle.model.specs.Mutant.{moveOf, unruled, transitions, idle}
-use Rattle.lists.specs.laws.AllLaw.{all-getD}
 use Rattle.lists.specs.laws.ListLaw.{all-both, ascending-of, getD-map-below, joined-split, length-upTo, getD-upTo, length-joined-even}
-use Rattle.model.specs.laws.StaysLaw.{MoveIn, RowAt, rows-at, rule-row, transitions-in}
+use Rattle.model.specs.laws.StaysLaw.{RowAt, rows-at, rule-row}
 
 -- without a rule every output goes with every next state
 pub unruled-count : (sh : Sheet) → length (unruled sh) ≡ sh .size .outputs * sh .size .states
@@ -227,9 +226,3 @@ module _ (sh : Sheet) (wf : WellFormed sh) where
           maybe o (sh .size .outputs * sh .size .states) (λ r. suc (length (rowsAt (sh .faults) s x))) ≤ 256
       go none e = moves-few
       go (some r) e = omega (arith, faults-few s x r e, moves-few)
-
-  -- the transition that a choice names is in range
-  pub transition-in : (s x c : ℕ) → MoveIn (sh .size) (getD (transitions sh s x) c idle)
-  transition-in s x c =
-      all-getD (MoveIn (sh .size)) (transitions sh s x) c idle (transitions-in sh wf s x)
-      (record { output = wf .size .outputs .some; target = wf .size .states .some })

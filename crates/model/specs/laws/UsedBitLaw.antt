@@ -1,6 +1,6 @@
 -- One bit of a number, and so sets as numbers: a bit more, and how many bits are set.
-use Prim.Native.Nat.{ℕ, zero, suc, _+_, _*_, _/_, _%_, _^_, _<_, max}
-use native.Mathlib.Nat.{div-eq-of-lt, mul-div-mul-right, pow-suc, div-one, zero-lt-suc}
+use Prim.Native.Nat.{ℕ, zero, suc, _+_, _/_, _%_, _^_, _<_}
+use native.Mathlib.Nat.{div-eq-of-lt, div-one}
 use native.Mathlib.Decide.{ℕ-discrete}
 use native.Mathlib.Omega.{arith}
 use mathlib.Core.Path.{_≡_, refl, sym, _∙_, ap}
@@ -8,13 +8,12 @@ use mathlib.Core.Bool.{Bool, true, false, cond}
 use mathlib.Core.Logic.{_⊎_, inl, inr}
 use mathlib.Core.Option.{Option, none, some}
 use borrow.Author.Tests.{eqb-true, eq-eqb}
-use lib.Bits.{bitOr, or-step, or-shr, or-lt}
+use lib.Bits.{bitOr, or-lt}
 use lib.Count.{ones, ones-step}
 use lib.Dec.{eqb}
 use lib.Pow.{pow-lt, pow-pos, shr-lt, shr-shr}
 use Rattle.lists.specs.Lists.{count}
 use Rattle.lists.specs.laws.BitLaw.{or-bit, one-same, one-other}
-use Rattle.lists.specs.laws.TestLaw.{never}
 use Rattle.model.specs.Used.{has, mark}
 
 -- the empty set has nothing

@@ -1,7 +1,6 @@
 use Rattle.lists.specs.laws.TestLaw.{never}
 use mathlib.Core.Path.{sym, _∙_}
 use Rattle.cubes.specs.laws.LiteralLaw.{meaning, any-means}
-use Rattle.cubes.specs.Sets.{Has}
 use borrow.Author.Needs.{needs}
 use Rattle.cubes.proofs.literals.means.Statement.{statement}
 use Rattle.cubes.proofs.literals.means.Tie as tie

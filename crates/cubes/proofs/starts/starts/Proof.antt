@@ -2,9 +2,6 @@ use borrow.Author.Needs.{needs}
 use Rattle.cubes.specs.laws.ConformLaw.{starts-zero}
 use Rattle.cubes.proofs.starts.starts.Statement.{statement}
 use Rattle.cubes.proofs.starts.starts.Tie as tie
-use Rattle.cubes.proofs.starts.starts.Reads as reads
-use Rattle.cubes.proofs.starts.starts.Lts as lts
-use Rattle.cubes.proofs.words.one.Reads as one-reads
 
 pub starts-spec : {M : Type 1} → statement M
 starts-spec =

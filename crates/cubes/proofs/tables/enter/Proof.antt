@@ -4,11 +4,6 @@ use native.Mathlib.Omega.{arith}
 use Rattle.cubes.specs.laws.FreeLaw.{entered-not, step-few, entered}
 use Rattle.cubes.proofs.tables.enter.Statement.{statement}
 use Rattle.cubes.proofs.tables.enter.Tie as tie
-use Rattle.cubes.proofs.tables.enter.Reads as reads
-use Rattle.cubes.proofs.tables.enter.Lts as lts
-use Rattle.block.proofs.transition.Reads as transition-reads
-use Rattle.block.proofs.wide.Reads as wide-reads
-use Rattle.cubes.proofs.tables.put.Reads as put-reads
 
 put-requires : tie.Need-put-requires
 put-requires c κs =

@@ -3,10 +3,6 @@ use native.Mathlib.Omega.{arith}
 use Rattle.cubes.specs.laws.SetLaw.{put-one}
 use Rattle.cubes.proofs.tables.put.Statement.{statement}
 use Rattle.cubes.proofs.tables.put.Tie as tie
-use Rattle.cubes.proofs.tables.put.Reads as reads
-use Rattle.cubes.proofs.tables.put.Lts as lts
-use Rattle.cubes.proofs.words.one.Reads as one-reads
-use Rattle.cubes.proofs.words.union.Reads as union-reads
 
 returns : tie.Need-returns
 returns c = put-one (c .before .before .before .args .at) (c .before .before .before .args .s) (c .before .one .result) (c .union .result) (omega (arith, c .before .before .before .pre .0, c .before .before .before .pre .1)) (c .before .one .ensures) (c .union .ensures)

@@ -1,5 +1,5 @@
 use borrow.Author.Needs.{needs}
-use Prim.Native.Nat.{_-_, _≤_}
+use Prim.Native.Nat.{_-_}
 use Rattle.refutation.proofs.BranchLaw.{PrefixTo, prefix-none, prefix-more, prefix-all}
 use Rattle.store.specs.laws.ToldLaw.{void}
 use borrow.Author.Tests.{not-false}

@@ -1,4 +1,3 @@
-use borrow.Author.Needs.{needs}
 use Rattle.store.proofs.StoreLaw.{fresh}
 use Rattle.store.proofs.entries.fresh_store.Statement.{statement}
 use Rattle.store.proofs.entries.fresh_store.Tie as tie
