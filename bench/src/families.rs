@@ -85,6 +85,12 @@ pub fn sheet(family: &Family, seed: u64) -> Sheet {
     sheet
 }
 
+/// The sheet with its highest states as STARTs, so many.
+pub fn waking(mut sheet: Sheet, starts: u8) -> Sheet {
+    sheet.starts = (sheet.states - starts..sheet.states).collect();
+    sheet
+}
+
 fn output(family: &Family, random: &mut Random) -> u8 {
     if random.chance(family.zeros) {
         return 0;

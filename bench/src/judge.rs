@@ -23,6 +23,7 @@ pub fn measure(table: &mut Table) {
     family(table, "partial machine", &families::PARTIAL, 2..5);
     family(table, "partial, 10 faults", &families::TEN_FAULTS, 1..4);
     made_complete(table);
+    waking(table);
     formulas(table);
     for (name, sheet) in families::KEPT {
         one(table, &format!("{name}, kept"), sheet);
@@ -51,6 +52,25 @@ fn made_complete(table: &mut Table) {
         let sheet = families::combination(states, inputs, faults, 1);
         let case = format!("combination, {states} × {inputs}, {faults} faults");
         completed(table, &case, sheet);
+    }
+}
+
+/// Machines whose boards may wake in one other state, and in every state.
+fn waking(table: &mut Table) {
+    let few = Family {
+        unspecified: 6,
+        ..families::PARTIAL
+    };
+    let largest = Family {
+        states: 16,
+        faulty: 28,
+        ..families::COMPLETE
+    };
+    for (name, family) in [("complete", largest), ("partial", few)] {
+        for starts in [1, family.states - 1] {
+            let sheet = families::waking(families::sheet(&family, 1), starts);
+            completed(table, &format!("{name}, {starts} STARTs"), sheet);
+        }
     }
 }
 

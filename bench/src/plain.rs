@@ -3,7 +3,7 @@
 use ranthelo_tests::enumeration::{Failed, Failure, Used};
 use ranthelo_tests::reference::{
     Refusal, Summary, END, FAULT, MOST_BYTES, MOST_FAULTS, MOST_OPEN_PAIRS, MOST_PRESSES,
-    MOST_TESTS, PRESS, RULE, SIZE, TEST,
+    MOST_TESTS, PRESS, RULE, SIZE, START, TEST,
 };
 
 /// No rule at a pair.
@@ -27,6 +27,9 @@ pub struct Tables<'a> {
     /// All faults in order, and where those of a pair begin and end.
     pub faults: [Move; 256],
     pub faults_at: [(u16, u16); 256],
+    /// The states in which a mutant may wake, and how many they are.
+    pub wakings: [u8; 16],
+    pub waking: usize,
     /// The commands of the tests.
     pub suite: &'a [u8],
     pub summary: Summary,
@@ -38,9 +41,10 @@ fn refuse<T>(number: usize, place: usize) -> Result<T, Refusal> {
 
 #[derive(Clone, Copy, PartialEq, PartialOrd)]
 enum Phase {
-    Start,
+    Size,
     Rules,
     Faults,
+    Starts,
     Tests,
 }
 
@@ -56,13 +60,14 @@ pub fn load(sheet: &[u8]) -> Result<Tables<'_>, Refusal> {
     let (mut rule_count, mut fault_count, mut tests, mut presses) = (0, 0, 0, 0);
     let (mut last_rule, mut last_fault) = (None, None);
     let (mut suite_start, mut state) = (None, 0);
-    let mut phase = Phase::Start;
+    let (mut wakings, mut waking) = ([0; 16], 1);
+    let mut phase = Phase::Size;
     let mut at = 0;
     loop {
         let rest = &sheet[at..];
         match *rest {
             [] => return refuse(2, at),
-            [SIZE, ..] if phase == Phase::Start => {
+            [SIZE, ..] if phase == Phase::Size => {
                 let [_, states, inputs, outputs, ..] = *rest else {
                     return refuse(2, at);
                 };
@@ -116,6 +121,24 @@ pub fn load(sheet: &[u8]) -> Result<Tables<'_>, Refusal> {
                 phase = Phase::Faults;
                 at += 5;
             }
+            [START, ..] if phase >= Phase::Rules && phase <= Phase::Starts => {
+                let [_, t, ..] = *rest else {
+                    return refuse(2, at);
+                };
+                if t >= n {
+                    return refuse(5, at);
+                }
+                if waking > 1 && t <= wakings[waking - 1] {
+                    return refuse(6, at);
+                }
+                if t == 0 {
+                    return refuse(7, at);
+                }
+                wakings[waking] = t;
+                waking += 1;
+                phase = Phase::Starts;
+                at += 2;
+            }
             [TEST, ..] if phase >= Phase::Rules => {
                 if tests == MOST_TESTS {
                     return refuse(8, at);
@@ -155,7 +178,7 @@ pub fn load(sheet: &[u8]) -> Result<Tables<'_>, Refusal> {
     if !reaches_every_state(&rules, n, k) {
         return refuse(11, at);
     }
-    let open_pairs = count_open_pairs(&rules, &faults_at, n, k, m);
+    let open_pairs = usize::from(waking > 1) + count_open_pairs(&rules, &faults_at, n, k, m);
     if open_pairs > MOST_OPEN_PAIRS {
         return refuse(12, at);
     }
@@ -166,6 +189,8 @@ pub fn load(sheet: &[u8]) -> Result<Tables<'_>, Refusal> {
         rules,
         faults,
         faults_at,
+        wakings,
+        waking,
         suite: &sheet[suite_start.unwrap_or(at)..at],
         summary: Summary {
             states: n.into(),
@@ -243,12 +268,19 @@ impl Tables<'_> {
     }
 
     /// The mutant that a board describes: refusals 13 and 14.
-    pub fn mutant(&self, board: &[u8]) -> Result<[Move; 256], Refusal> {
+    pub fn mutant(&self, board: &[u8]) -> Result<Mutant, Refusal> {
         if board.len() != self.summary.open_pairs {
             return refuse(13, 0);
         }
         let mut moves = [(0, 0); 256];
-        let mut next = 0;
+        let (mut start, mut next) = (0, 0);
+        if self.waking > 1 {
+            if usize::from(board[0]) >= self.waking {
+                return refuse(14, 0);
+            }
+            start = self.wakings[usize::from(board[0])];
+            next = 1;
+        }
         for s in 0..self.states {
             for x in 0..self.inputs {
                 let p = pair(s, x);
@@ -264,13 +296,18 @@ impl Tables<'_> {
                 moves[p] = self.choice(p, taken);
             }
         }
-        Ok(moves)
+        Ok(Mutant { start, moves })
+    }
+
+    /// The bit of the waking state, if there is a choice.
+    fn waking_bit(&self) -> u32 {
+        u32::from(self.waking > 1)
     }
 
     /// A bit for each open pair, none for the others.
     fn bits(&self) -> [u32; 256] {
         let mut bits = [0; 256];
-        let mut next = 0;
+        let mut next = self.waking_bit();
         for s in 0..self.states {
             for x in 0..self.inputs {
                 if self.choices(pair(s, x)) > 1 {
@@ -283,6 +320,12 @@ impl Tables<'_> {
     }
 }
 
+/// A start, and a move at each pair.
+pub struct Mutant {
+    start: u8,
+    moves: [Move; 256],
+}
+
 fn used(set: u32) -> Used {
     Used {
         number: set.count_ones() as usize,
@@ -293,7 +336,7 @@ fn used(set: u32) -> Used {
 /// Run: one output for each press at the buffer's front, and the open pairs used.
 pub fn run(sheet: &[u8], board: &[u8], presses: &[u8], buffer: &mut [u8]) -> Result<Used, Refusal> {
     let tables = load(sheet)?;
-    let moves = tables.mutant(board)?;
+    let mutant = tables.mutant(board)?;
     if let Some(index) = presses.iter().position(|&x| x >= tables.inputs) {
         return refuse(15, index);
     }
@@ -301,10 +344,10 @@ pub fn run(sheet: &[u8], board: &[u8], presses: &[u8], buffer: &mut [u8]) -> Res
         return refuse(16, 0);
     }
     let bits = tables.bits();
-    let (mut state, mut set) = (0, 0);
+    let (mut state, mut set) = (mutant.start, tables.waking_bit());
     for (output, &x) in buffer.iter_mut().zip(presses) {
         let p = pair(state, x);
-        (*output, state) = moves[p];
+        (*output, state) = mutant.moves[p];
         set |= bits[p];
     }
     Ok(used(set))
@@ -313,21 +356,21 @@ pub fn run(sheet: &[u8], board: &[u8], presses: &[u8], buffer: &mut [u8]) -> Res
 /// First failed test.
 pub fn first_failed(sheet: &[u8], board: &[u8]) -> Result<Failed, Refusal> {
     let tables = load(sheet)?;
-    let moves = tables.mutant(board)?;
+    let mutant = tables.mutant(board)?;
     let bits = tables.bits();
-    let mut set = 0;
-    let failure = walk(&tables, &moves, |p| set |= bits[p]);
+    let mut set = tables.waking_bit();
+    let failure = walk(&tables, &mutant, |p| set |= bits[p]);
     let used = used(set);
     Ok(Failed { failure, used })
 }
 
 /// The first test that a mutant fails.
-pub fn failure(tables: &Tables<'_>, moves: &[Move; 256]) -> Option<Failure> {
-    walk(tables, moves, |_| ())
+pub fn failure(tables: &Tables<'_>, mutant: &Mutant) -> Option<Failure> {
+    walk(tables, mutant, |_| ())
 }
 
 /// A mutant along the tests, up to its first wrong output; each pair is met.
-fn walk(tables: &Tables<'_>, moves: &[Move; 256], mut meet: impl FnMut(usize)) -> Option<Failure> {
+fn walk(tables: &Tables<'_>, mutant: &Mutant, mut meet: impl FnMut(usize)) -> Option<Failure> {
     let (mut begun, mut position) = (0, 0);
     let (mut specified, mut given) = (0, 0);
     let mut rest = tables.suite;
@@ -335,12 +378,12 @@ fn walk(tables: &Tables<'_>, moves: &[Move; 256], mut meet: impl FnMut(usize)) -
         match *rest {
             [TEST, ..] => {
                 begun += 1;
-                (position, specified, given) = (0, 0, 0);
+                (position, specified, given) = (0, 0, mutant.start);
                 rest = &rest[1..];
             }
             [_, x, ..] => {
                 let (wanted, next) = tables.rules[pair(specified, x)];
-                let (output, other) = moves[pair(given, x)];
+                let (output, other) = mutant.moves[pair(given, x)];
                 meet(pair(given, x));
                 if output != wanted {
                     let test = begun - 1;
@@ -358,20 +401,21 @@ fn walk(tables: &Tables<'_>, moves: &[Move; 256], mut meet: impl FnMut(usize)) -
 /// Compare: the length of the shortest distinguishing sequence, written to the buffer's front.
 pub fn compare(sheet: &[u8], board: &[u8], buffer: &mut [u8]) -> Result<Option<usize>, Refusal> {
     let tables = load(sheet)?;
-    let moves = tables.mutant(board)?;
+    let mutant = tables.mutant(board)?;
     if buffer.len() < usize::from(tables.states).pow(2) {
         return refuse(16, 0);
     }
-    Ok(distinguish(&tables, &moves, buffer))
+    Ok(distinguish(&tables, &mutant, buffer))
 }
 
 /// Breadth first over the pairs of states that are met in step.
-pub fn distinguish(tables: &Tables<'_>, moves: &[Move; 256], sequence: &mut [u8]) -> Option<usize> {
+pub fn distinguish(tables: &Tables<'_>, mutant: &Mutant, sequence: &mut [u8]) -> Option<usize> {
     let mut seen = [false; 256];
     let mut queue = [0u8; 256];
     // How each pair in the queue was met: from which place in the queue, by which input.
     let mut came = [(0u8, 0u8); 256];
-    seen[0] = true;
+    queue[0] = mutant.start;
+    seen[usize::from(mutant.start)] = true;
     let (mut head, mut tail) = (0, 1);
     while head < tail {
         let (specified, given) = (queue[head] / 16, queue[head] % 16);
@@ -380,7 +424,7 @@ pub fn distinguish(tables: &Tables<'_>, moves: &[Move; 256], sequence: &mut [u8]
             if next == NONE {
                 continue;
             }
-            let (output, other) = moves[pair(given, x)];
+            let (output, other) = mutant.moves[pair(given, x)];
             if output != wanted {
                 return Some(trace(&came, head, x, sequence));
             }

@@ -43,6 +43,7 @@ pub fn with_library(tables: &Tables, buffer: &mut [u8]) {
         tables.size,
         &tables.rules,
         &tables.faults,
+        &tables.starts,
         &tables.lengths,
         &tables.presses,
         buffer,

@@ -1,14 +1,15 @@
-//! Sheets as tables and from tables, written from document 02 (Point 1) alone; and tables to try.
+//! Sheets as tables and from tables, written from document 02 (Points 1 and 5) alone; and tables to try.
 
 use crate::generator::{self, Random, LARGE, SMALL};
-use crate::reference::{read, Refusal, Sheet, END, FAULT, PRESS, RULE, SIZE, TEST};
+use crate::reference::{read, Refusal, Sheet, END, FAULT, PRESS, RULE, SIZE, START, TEST};
 
-/// Sizes; rules and faults four bytes a row; the lengths of the tests and their presses end to end.
+/// Sizes; rules and faults four bytes a row; the states of the STARTs; the lengths of the tests and their presses end to end.
 #[derive(Clone, Debug, Default, PartialEq, Eq)]
 pub struct Tables {
     pub size: [u8; 3],
     pub rules: Vec<u8>,
     pub faults: Vec<u8>,
+    pub starts: Vec<u8>,
     pub lengths: Vec<u16>,
     pub presses: Vec<u8>,
 }
@@ -27,6 +28,7 @@ impl Tables {
                 (SIZE, operands) => tables.size.copy_from_slice(operands),
                 (RULE, row) => tables.rules.extend(row),
                 (FAULT, row) => tables.faults.extend(row),
+                (START, t) => tables.starts.extend(t),
                 (TEST, _) => tables.lengths.push(0),
                 (PRESS, x) => {
                     tables.presses.extend(x);
@@ -53,6 +55,7 @@ impl Tables {
                 bytes.extend(row);
             }
         }
+        bytes.extend(self.starts.iter().flat_map(|&t| [START, t]));
         let mut presses = self.presses.iter();
         for &length in &self.lengths {
             bytes.push(TEST);
@@ -93,7 +96,7 @@ pub fn any_tables(random: &mut Random) -> Tables {
 }
 
 fn damage(random: &mut Random, tables: &mut Tables) {
-    match random.below(5) {
+    match random.below(6) {
         0 => {
             let place = random.below(3);
             tables.size[place] = random.below(18) as u8;
@@ -101,6 +104,7 @@ fn damage(random: &mut Random, tables: &mut Tables) {
         1 => damage_rows(random, &mut tables.rules),
         2 => damage_rows(random, &mut tables.faults),
         3 => damage_lengths(random, tables),
+        4 => damage_bytes(random, &mut tables.starts),
         _ => damage_bytes(random, &mut tables.presses),
     }
 }

@@ -10,6 +10,8 @@ pub struct Machine {
     states: usize,
     inputs: usize,
     rules: Vec<Option<Move>>,
+    /// The states in which a mutant may wake: 0, then the listed ones.
+    wakings: Vec<u8>,
     choices: Vec<Vec<Move>>,
     /// The pairs with two or more choices (01: open pairs).
     suspects: Vec<usize>,
@@ -17,9 +19,10 @@ pub struct Machine {
     suite: Vec<(Vec<u8>, Vec<u8>)>,
 }
 
-/// A machine with one choice taken at each pair.
+/// A machine with one choice taken at each pair, and of a waking state.
 pub struct Mutant<'a> {
     machine: &'a Machine,
+    start: usize,
     moves: Vec<Move>,
 }
 
@@ -79,6 +82,7 @@ impl Machine {
                 .pairs()
                 .map(|p| sheet.rules.get(&p).copied())
                 .collect(),
+            wakings: [0].into_iter().chain(sheet.starts.clone()).collect(),
             suspects: suspects.collect(),
             choices,
             suite: Vec::new(),
@@ -106,29 +110,37 @@ impl Machine {
         inputs.iter().map(step).collect()
     }
 
-    /// The number of choices of each suspect.
+    /// Whether a board's first byte says where it wakes.
+    fn wakes(&self) -> bool {
+        self.wakings.len() > 1
+    }
+
+    /// The number of choices of each byte of a board: of a waking state, if there is a
+    /// choice, and of each suspect.
     pub fn counts(&self) -> Vec<usize> {
-        self.suspects
-            .iter()
-            .map(|&p| self.choices[p].len())
-            .collect()
+        let waking = self.wakes().then_some(self.wakings.len());
+        let suspects = self.suspects.iter().map(|&p| self.choices[p].len());
+        waking.into_iter().chain(suspects).collect()
     }
 
     /// All boards of the sheet, in dictionary order.
     pub fn boards(&self) -> Boards {
         Boards {
             counts: self.counts(),
-            next: Some(vec![0; self.suspects.len()]),
+            next: Some(vec![0; self.counts().len()]),
         }
     }
 
     pub fn mutant(&self, board: &[u8]) -> Mutant<'_> {
         let mut moves: Vec<_> = self.choices.iter().map(|list| list[0]).collect();
+        let (waking, board) = board.split_at(usize::from(self.wakes()));
         for (&pair, &choice) in self.suspects.iter().zip(board) {
             moves[pair] = self.choices[pair][usize::from(choice)];
         }
+        let waking = waking.first().map_or(0, |&choice| choice.into());
         Mutant {
             machine: self,
+            start: self.wakings[waking].into(),
             moves,
         }
     }
@@ -149,7 +161,7 @@ impl Machine {
 impl Mutant<'_> {
     /// The pairs met after one reset, on any inputs.
     fn pairs<'b>(&'b self, inputs: &'b [u8]) -> impl Iterator<Item = usize> + 'b {
-        let mut state = 0;
+        let mut state = self.start;
         inputs.iter().map(move |&x| {
             let pair = self.machine.pair(state, x);
             state = self.moves[pair].1.into();
@@ -162,13 +174,14 @@ impl Mutant<'_> {
         self.pairs(inputs).map(|pair| self.moves[pair].0)
     }
 
-    /// The suspects among the pairs that are met on sequences, each after a reset.
+    /// The bytes of the board that are used on sequences, each after a reset: that of the waking
+    /// state always, those of the suspects that are met.
     fn used<'b>(&self, sequences: impl Iterator<Item = &'b [u8]>) -> Used {
         let met: BTreeSet<usize> = sequences.flat_map(|inputs| self.pairs(inputs)).collect();
-        let suspects = self.machine.suspects.iter().enumerate();
-        let bits = suspects
-            .filter(|(_, pair)| met.contains(pair))
-            .map(|(i, _)| i);
+        let waking = self.machine.wakes().then_some(true);
+        let suspects = self.machine.suspects.iter().map(|pair| met.contains(pair));
+        let bytes = waking.into_iter().chain(suspects).enumerate();
+        let bits = bytes.filter(|&(_, used)| used).map(|(i, _)| i);
         Used {
             number: bits.clone().count(),
             set: bits.map(|i| 1 << i).sum(),
@@ -202,8 +215,8 @@ impl Mutant<'_> {
     pub fn distinguish(&self) -> Option<Vec<u8>> {
         let machine = self.machine;
         let mut seen = vec![false; machine.states * machine.states];
-        seen[0] = true;
-        let mut queue = VecDeque::from([(0, 0, Vec::new())]);
+        seen[self.start] = true;
+        let mut queue = VecDeque::from([(0, self.start, Vec::new())]);
         while let Some((specified, given, sequence)) = queue.pop_front() {
             for x in 0..machine.inputs as u8 {
                 let Some((wanted, next)) = machine.rules[machine.pair(specified, x)] else {
@@ -310,7 +323,7 @@ pub fn judge(
     sequence_room: usize,
 ) -> Result<Option<Survivor>, Refusal> {
     let machine = Machine::new(&read(bytes)?.sheet);
-    if board_room < machine.suspects.len() {
+    if board_room < machine.counts().len() {
         return refuse(16, 0);
     }
     if sequence_room < machine.states * machine.states {

@@ -1,6 +1,6 @@
 //! Seeded, reproducible sheets: well-formed ones, ones at the limits, damaged ones, noise.
 
-use crate::reference::{Move, Pair, Sheet, END, FAULT, MOST_BYTES, PRESS, RULE, SIZE, TEST};
+use crate::reference::{Move, Pair, Sheet, END, FAULT, MOST_BYTES, PRESS, RULE, SIZE, START, TEST};
 
 /// A small generator of pseudo-random numbers (splitmix64).
 pub struct Random(u64);
@@ -95,6 +95,7 @@ struct Draft<'a> {
 pub fn sheet(random: &mut Random, shape: &Shape) -> Sheet {
     let mut draft = Draft::new(random, shape);
     draft.reach_every_state();
+    draft.add_starts();
     draft.fill_pairs();
     draft.add_faults();
     draft.add_tests();
@@ -161,6 +162,17 @@ impl<'a> Draft<'a> {
         self.open_pairs += opened;
         self.boards = boards;
         true
+    }
+
+    /// Some of the states other than 0 as waking states, in half of all sheets none.
+    fn add_starts(&mut self) {
+        let listed = self.random.pick(&[0, 0, 0, 20, 60, 100]);
+        for t in 1..self.sheet.states {
+            let choices = 1 + self.sheet.starts.len() as u64;
+            if self.random.chance(listed) && self.afford(choices, choices + 1) {
+                self.sheet.starts.insert(t);
+            }
+        }
     }
 
     /// A rule at each other pair, but for some.
@@ -344,7 +356,7 @@ pub fn commands(bytes: &[u8]) -> Vec<Vec<u8>> {
         let width = match command {
             SIZE => 4,
             RULE | FAULT => 5,
-            PRESS => 2,
+            START | PRESS => 2,
             _ => 1,
         };
         let (first, later) = rest.split_at(width.min(rest.len()));
@@ -408,11 +420,11 @@ fn damage_commands(random: &mut Random, bytes: &[u8]) -> Vec<u8> {
 
 /// A command with operands below the bound.
 fn some_command(random: &mut Random, bound: usize) -> Vec<u8> {
-    let command = random.pick(&[RULE, RULE, FAULT, TEST, PRESS, PRESS, SIZE, END]);
+    let command = random.pick(&[RULE, RULE, FAULT, START, TEST, PRESS, PRESS, SIZE, END]);
     let width = match command {
         SIZE => 3,
         RULE | FAULT => 4,
-        PRESS => 1,
+        START | PRESS => 1,
         _ => 0,
     };
     let mut bytes = vec![command];

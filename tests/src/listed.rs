@@ -1,7 +1,7 @@
-//! The sheets that document 01 lists, spelled here from its words.
+//! The sheets that document 01 lists, spelled here from its words, and some with what 02 adds.
 
 use crate::enumeration::Survivor;
-use crate::reference::{Refusal, Sheet, Summary, END, PRESS, RULE, SIZE, TEST};
+use crate::reference::{Refusal, Sheet, Summary, END, FAULT, PRESS, RULE, SIZE, START, TEST};
 
 /// Bytes from hexadecimal; what follows `#` or `--` on a line is a comment.
 pub fn hexadecimal(text: &str) -> Vec<u8> {
@@ -46,6 +46,21 @@ pub fn p6() -> Vec<u8> {
     hexadecimal("01 01 01 01 06")
 }
 
+/// P1 whose boards may wake in state 1.
+pub fn p1_start() -> Vec<u8> {
+    after_faults(p1(), &[START, 1])
+}
+
+/// P1 without its test and its fault, whose boards may wake in state 1.
+pub fn only_start() -> Vec<u8> {
+    without(after_faults(p3(), &[START, 1]), &[FAULT, 1, 1, 1, 1])
+}
+
+/// Two states that sound alike, and boards that may wake in either.
+pub fn equal_start() -> Vec<u8> {
+    hexadecimal("01 02 01 01  02 00 00 00 01  02 01 00 00 00  07 01 06")
+}
+
 pub fn p9() -> Vec<u8> {
     published(&["bababa"])
 }
@@ -73,6 +88,7 @@ fn published(suite: &[&str]) -> Vec<u8> {
         .into(),
         faults: [((2, 0), (1, 2)), ((2, 1), (0, 2)), ((3, 0), (1, 1))].into(),
         tests: suite.iter().map(letters).collect(),
+        ..Sheet::default()
     }
     .encode()
 }
@@ -114,6 +130,9 @@ pub fn all() -> Vec<(&'static str, Vec<u8>)> {
         ("P6", p6()),
         ("P9", p9()),
         ("P10", p10()),
+        ("P1-start", p1_start()),
+        ("only-start", only_start()),
+        ("equal-start", equal_start()),
         ("empty", vec![]),
         ("unknown-command", hexadecimal("00")),
         ("cut-size", hexadecimal("01 02")),
@@ -142,6 +161,9 @@ pub fn verdicts() -> Vec<(&'static str, Vec<u8>, Option<Survivor>)> {
         ("P6", p6(), None),
         ("P9", p9(), survivor(&[0, 0, 0, 1], &[1, 0, 1, 0, 0, 1, 0])),
         ("P10", p10(), None),
+        ("P1-start", p1_start(), survivor(&[0, 1], &[0, 1, 0])),
+        ("only-start", only_start(), survivor(&[1], &[0])),
+        ("equal-start", equal_start(), None),
     ]
 }
 
@@ -168,6 +190,9 @@ pub fn readings() -> Vec<(&'static str, Result<Summary, Refusal>)> {
         ("P6", accepted([1, 1, 1, 0, 0, 0, 0])),
         ("P9", accepted([4, 2, 2, 7, 3, 1, 4])),
         ("P10", accepted([4, 2, 2, 7, 3, 3, 4])),
+        ("P1-start", accepted([2, 2, 2, 4, 1, 1, 2])),
+        ("only-start", accepted([2, 2, 2, 4, 0, 0, 1])),
+        ("equal-start", accepted([2, 1, 1, 2, 0, 0, 1])),
         ("empty", refused(2, 0)),
         ("unknown-command", refused(3, 0)),
         ("cut-size", refused(2, 0)),
@@ -179,6 +204,15 @@ pub fn readings() -> Vec<(&'static str, Result<Summary, Refusal>)> {
         ("256-tests", accepted([1, 1, 1, 0, 0, 256, 0])),
         ("257-tests", refused(8, 4 + 256)),
     ]
+}
+
+/// The bytes with commands after the FAULTs of P1's machine.
+pub fn after_faults(mut bytes: Vec<u8>, commands: &[u8]) -> Vec<u8> {
+    let fault = [FAULT, 1, 1, 1, 1];
+    let place = bytes.windows(5).position(|window| window == fault);
+    let place = place.expect("P1's fault stands in the sheet") + 5;
+    bytes.splice(place..place, commands.iter().copied());
+    bytes
 }
 
 fn before_end(mut bytes: Vec<u8>, commands: &[u8]) -> Vec<u8> {

@@ -1,4 +1,4 @@
-//! A small reader of sheets, written from document 01 alone.
+//! A small reader of sheets, written from documents 01 and 02 alone.
 
 use std::collections::{BTreeMap, BTreeSet};
 use std::ops::Range;
@@ -9,6 +9,7 @@ pub const FAULT: u8 = 0x03;
 pub const TEST: u8 = 0x04;
 pub const PRESS: u8 = 0x05;
 pub const END: u8 = 0x06;
+pub const START: u8 = 0x07;
 
 pub const MOST_BYTES: usize = 16_384;
 pub const MOST_FAULTS: usize = 256;
@@ -29,7 +30,8 @@ pub struct Refusal {
     pub place: usize,
 }
 
-/// What a sheet says: a specified machine, its possible faults, a test suite.
+/// What a sheet says: a specified machine, its possible faults, the states other than 0 in which
+/// a board may wake, a test suite.
 #[derive(Clone, Debug, Default, PartialEq, Eq)]
 pub struct Sheet {
     pub states: u8,
@@ -37,6 +39,7 @@ pub struct Sheet {
     pub sounds: u8,
     pub rules: BTreeMap<Pair, Move>,
     pub faults: BTreeSet<(Pair, Move)>,
+    pub starts: BTreeSet<u8>,
     pub tests: Vec<Vec<u8>>,
 }
 
@@ -130,8 +133,10 @@ impl Sheet {
         self.faults.range(all).map(|&(_, to)| to)
     }
 
+    /// The open pairs; the choice of a waking state counts as one.
     fn open_pairs(&self) -> usize {
-        self.pairs().filter(|&pair| self.is_open(pair)).count()
+        let waking = usize::from(!self.starts.is_empty());
+        waking + self.pairs().filter(|&pair| self.is_open(pair)).count()
     }
 
     fn is_open(&self, pair: Pair) -> bool {
@@ -166,6 +171,7 @@ impl Sheet {
         for &((s, x), (o, t)) in &self.faults {
             bytes.extend([FAULT, s, x, o, t]);
         }
+        bytes.extend(self.starts.iter().flat_map(|&t| [START, t]));
         for test in &self.tests {
             bytes.push(TEST);
             bytes.extend(test.iter().flat_map(|&x| [PRESS, x]));
@@ -179,7 +185,7 @@ fn operands_of(command: u8) -> usize {
     match command {
         SIZE => 3,
         RULE | FAULT => 4,
-        PRESS => 1,
+        START | PRESS => 1,
         _ => 0,
     }
 }
@@ -187,9 +193,10 @@ fn operands_of(command: u8) -> usize {
 /// The kinds of commands in the order in which they stand in a sheet.
 #[derive(Clone, Copy, PartialEq, PartialOrd)]
 enum Phase {
-    Start,
+    Size,
     Rules,
     Faults,
+    Starts,
     Tests,
 }
 
@@ -205,7 +212,7 @@ struct Reader {
 impl Reader {
     fn new() -> Self {
         Reader {
-            phase: Phase::Start,
+            phase: Phase::Size,
             sheet: Sheet::default(),
             parts: Vec::new(),
             state: 0,
@@ -214,9 +221,10 @@ impl Reader {
 
     fn allows(&self, command: u8) -> bool {
         match command {
-            SIZE => self.phase == Phase::Start,
+            SIZE => self.phase == Phase::Size,
             RULE => self.phase == Phase::Rules,
             FAULT => self.phase == Phase::Rules || self.phase == Phase::Faults,
+            START => self.phase >= Phase::Rules && self.phase <= Phase::Starts,
             TEST | END => self.phase >= Phase::Rules,
             PRESS => self.phase == Phase::Tests,
             _ => false,
@@ -229,6 +237,7 @@ impl Reader {
             [n, k, m] => self.size(n, k, m),
             [s, x, o, t] if command == RULE => self.rule((s, x), (o, t)),
             [s, x, o, t] => self.fault((s, x), (o, t)),
+            [t] if command == START => self.start(t),
             [x] => self.press(x, next),
             _ => self.test(next),
         }
@@ -266,6 +275,15 @@ impl Reader {
         check(self.sheet.faults.len() < MOST_FAULTS, 8)?;
         self.sheet.faults.insert((pair, to));
         self.phase = Phase::Faults;
+        Ok(())
+    }
+
+    fn start(&mut self, t: u8) -> Result<(), usize> {
+        check(t < self.sheet.states, 5)?;
+        check(self.sheet.starts.last().is_none_or(|&last| last < t), 6)?;
+        check(t != 0, 7)?;
+        self.sheet.starts.insert(t);
+        self.phase = Phase::Starts;
         Ok(())
     }
 

@@ -60,6 +60,16 @@ fn runs_of_listed_boards() {
     runs(&listed::p4(), &[3, 1], &[0, 1], &[1, 1], &[1]);
     runs(&listed::p1(), &[1], &[0, 0], &[1, 0], &[]);
     runs(&listed::p1(), &[1], &[], &[], &[]);
+    runs(&listed::p1_start(), &[1, 0], &[], &[], &[0]);
+    runs(&listed::p1_start(), &[1, 0], &[0], &[0], &[0]);
+    runs(&listed::p1_start(), &[1, 1], &[1, 0], &[1, 0], &[0, 1]);
+    runs(
+        &listed::p1_start(),
+        &[0, 1],
+        &[0, 1, 0],
+        &[1, 1, 0],
+        &[0, 1],
+    );
 }
 
 fn fails(bytes: &[u8], board: &[u8], place: Option<(usize, usize)>, pairs: &[usize]) {
@@ -79,6 +89,9 @@ fn first_failed_tests_of_listed_boards() {
     fails(&listed::p10(), &[0, 0, 0, 1], Some((2, 6)), &[0, 1, 2, 3]);
     fails(&listed::p10(), &[0, 1, 0, 0], Some((1, 2)), &[1, 2, 3]);
     fails(&listed::p10(), &[0, 0, 1, 0], Some((0, 3)), &[1, 2]);
+    fails(&listed::p1_start(), &[1, 0], Some((0, 0)), &[0]);
+    fails(&listed::p1_start(), &[0, 1], None, &[0, 1]);
+    fails(&listed::only_start(), &[1], None, &[0]);
 }
 
 /// The last of 32 open pairs alone, and all of them: each pair of a state leads back to it.
@@ -110,6 +123,9 @@ fn comparisons_of_listed_boards() {
     compares(&listed::p9(), &[7, 0, 0, 0], None);
     compares(&listed::p9(), &[0, 1, 0, 0], Some(&[1, 0, 0]));
     compares(&listed::p9(), &[0, 0, 1, 0], Some(&[1, 0, 1, 0]));
+    compares(&listed::p1_start(), &[1, 0], Some(&[0]));
+    compares(&listed::p1_start(), &[0, 1], Some(&[0, 1, 0]));
+    compares(&listed::equal_start(), &[1], None);
     let late: &[u8] = &[1, 0, 1, 0, 0, 1, 0];
     compares(&listed::p9(), &[0, 0, 0, 1], Some(late));
 }

@@ -3,7 +3,9 @@
 use ranthelo_tests::generator::{self, Random};
 use ranthelo_tests::library::reading::{checked_read, checked_test_part};
 use ranthelo_tests::listed::{self, spelled};
-use ranthelo_tests::reference::{read, Refusal, Summary, MOST_BYTES};
+use ranthelo_tests::reference::{
+    read, Refusal, Summary, END, FAULT, MOST_BYTES, RULE, SIZE, START, TEST,
+};
 
 /// Both readers agree on a sheet.
 fn agree(bytes: &[u8]) -> Result<Summary, Refusal> {
@@ -89,6 +91,34 @@ fn random_and_damaged_sheets() {
 fn thirty_two_open_pairs_and_one_more() {
     assert_eq!(agree(&listed::open_pairs(32)).unwrap().open_pairs, 32);
     refused(&listed::open_pairs(33), 12, 19);
+}
+
+/// Where a board wakes counts toward the 32.
+#[test]
+fn open_pairs_with_a_start() {
+    let starting = |open: usize| {
+        let mut sheet = read(&listed::open_pairs(open)).unwrap().sheet;
+        sheet.starts = [1, 2].into();
+        sheet.encode()
+    };
+    assert_eq!(agree(&starting(31)).unwrap().open_pairs, 32);
+    refused(&starting(32), 12, 19 + 5 + 4);
+}
+
+#[test]
+fn starts_and_their_refusals() {
+    let start = |commands: &[u8]| listed::after_faults(listed::p1(), commands);
+    assert_eq!(agree(&start(&[START, 1])).unwrap().open_pairs, 2);
+    refused(&start(&[START, 2]), 5, 29);
+    refused(&start(&[START, 1, START, 1]), 6, 31);
+    refused(&start(&[START, 1, START, 0]), 6, 31);
+    refused(&start(&[START, 0]), 7, 29);
+    refused(&start(&[START, 1])[..30], 2, 29);
+    refused(&start(&[START, 1, FAULT, 1, 1, 1, 1]), 3, 31);
+    refused(&start(&[START, 1, RULE, 1, 1, 1, 1]), 3, 31);
+    refused(&start(&[TEST, START, 1]), 3, 30);
+    refused(&[SIZE, 1, 1, 1, START, 0, END], 7, 4);
+    refused(&[START, 1], 3, 0);
 }
 
 #[test]

@@ -44,8 +44,14 @@ fn listed_sheets() {
         faults: vec![1, 1, 1, 1],
         lengths: vec![2],
         presses: vec![0, 1],
+        ..Tables::default()
     };
     written(&p1, &listed::p1());
+    let p1_start = Tables {
+        starts: vec![1],
+        ..p1
+    };
+    written(&p1_start, &listed::p1_start());
 }
 
 #[test]
@@ -63,6 +69,7 @@ fn refusals_come_in_order() {
         size: [17, 1, 1],
         rules: vec![0, 9, 0],
         faults: vec![0; 9],
+        starts: vec![0],
         lengths: vec![0; MOST_BYTES],
         presses: vec![1],
     };
@@ -84,6 +91,12 @@ fn refusals_come_in_order() {
     tables.faults = vec![0, 0, 0, 1, 0, 0, 0, 1];
     refused(&tables, 6);
     tables.faults.truncate(4);
+    refused(&tables, 7);
+    tables.starts = vec![1, 1];
+    refused(&tables, 6);
+    tables.starts = vec![2];
+    refused(&tables, 5);
+    tables.starts.clear();
     tables.lengths[1] = 1;
     tables.presses = vec![0, 2];
     refused(&tables, 5);
@@ -176,6 +189,7 @@ fn huge_tables() {
     };
     refused_with(|tables| tables.rules.resize(HUGE, 0), 1);
     refused_with(|tables| tables.faults.resize(HUGE, 0), 1);
+    refused_with(|tables| tables.starts.resize(HUGE, 0), 1);
     refused_with(|tables| tables.lengths.resize(HUGE, 0), 1);
     refused_with(|tables| tables.lengths.resize(HUGE, u16::MAX), 2);
     refused_with(|tables| tables.presses.resize(HUGE, 0), 2);

@@ -2,13 +2,14 @@
 
 use super::cubes::{output, target, Settled, Step};
 use super::marks::{Marks, FROM_TEST};
-use super::tables::{parts, Tables, RESET};
+use super::tables::{parts, Tables, RESET, WAKING};
 
 /// Waits for no suspect: the test is through, or not begun.
 const THROUGH: u8 = 255;
 const FRESH: u8 = 254;
 
-/// By test: the place of its next event, the state, and the suspect that it waits for.
+/// By test: the place of its next event, the state, and the suspect that it waits for. A test that
+/// waits for the waking state has no state yet.
 #[derive(Clone)]
 pub struct Cursors {
     at: [u16; 256],
@@ -22,17 +23,24 @@ impl Cursors {
         for (at, &begin) in at.iter_mut().zip(&tables.begin) {
             *at = begin as u16;
         }
+        let (state, wait) = match tables.step(p, WAKING) {
+            Step::Takes(step, _) => (target(step) as u8, FRESH),
+            Step::Waits(i) => (0, i as u8),
+        };
         Cursors {
             at,
-            state: [p.start() as u8; 256],
-            wait: [FRESH; 256],
+            state: [state; 256],
+            wait: [wait; 256],
         }
     }
 
     /// Takes a test on as far as the settled part goes; false if it fails.
     fn advance(&mut self, tables: &Tables<'_>, p: &Settled, test: usize) -> bool {
         let mut at = usize::from(self.at[test]);
-        let mut state = usize::from(self.state[test]);
+        let mut state = match self.wait[test] {
+            i if i == tables.site[WAKING] => target(p.steps[usize::from(i)]),
+            _ => usize::from(self.state[test]),
+        };
         let mut wait = THROUGH;
         while tables.log[at] != RESET {
             let (x, o) = parts(tables.log[at]);
@@ -76,6 +84,9 @@ impl Cursors {
                 continue;
             }
             waiting[i] += 1;
+            if tables.site[WAKING] == self.wait[test] {
+                continue;
+            }
             let (_, wanted) = parts(tables.log[usize::from(self.at[test])]);
             for o in (0..tables.outputs).filter(|&o| o != wanted) {
                 marks.mark(i, o, tables.free[i * 16 + o], FROM_TEST + test as u16);

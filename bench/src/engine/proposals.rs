@@ -1,9 +1,9 @@
 //! Cubes around a settled part, as wide as they can be had. What they are worth is checked.
 
 use super::cubes::{
-    has, literal, members, output, starts, target, Cube, Settled, States, Step, Suspects, ANY,
+    has, literal, members, output, target, Cube, Settled, States, Step, Suspects, ANY,
 };
-use super::tables::{parts, Tables};
+use super::tables::{parts, Tables, WAKING};
 
 /// A suspect as a set, empty for none.
 fn bit(site: u8) -> Suspects {
@@ -21,13 +21,13 @@ struct Walk {
 }
 
 impl Walk {
-    fn new(cube: &Cube) -> Self {
+    fn new(starts: States) -> Self {
         let mut walk = Walk {
             met: [0; 16],
             taken: [0; 16],
             rows: 0,
         };
-        walk.add(0, starts(cube));
+        walk.add(0, starts);
         walk
     }
 
@@ -55,8 +55,8 @@ impl Tables<'_> {
     /// The pairs of states met under a cube, and the suspects there; none if an output can be
     /// wrong.
     pub fn spread(&self, cube: &Cube) -> Option<(Pairs, Suspects)> {
-        let mut walk = Walk::new(cube);
-        let mut used = 0;
+        let mut walk = Walk::new(self.starts(cube));
+        let mut used = bit(self.site[WAKING]);
         while let Some((a, b)) = walk.next() {
             for x in 0..self.inputs {
                 let Some((o, next)) = self.rule(a * 16 + x) else {
@@ -93,8 +93,12 @@ impl Tables<'_> {
     /// Walks the pairs of states met under a cube, and narrows it where they would leave the
     /// safe ones; none if it was narrowed.
     fn narrow(&self, safe: &Pairs, cube: &mut Cube) -> Option<Pairs> {
-        let mut same = true;
-        let mut walk = Walk::new(cube);
+        let (all, go) = (self.starts(cube), self.starts(cube) & safe[0]);
+        let mut same = go == all;
+        if !same {
+            cube[usize::from(self.site[WAKING])] = literal(0, go);
+        }
+        let mut walk = Walk::new(go);
         while let Some((a, b)) = walk.next() {
             for x in 0..self.inputs {
                 let Some((o, next)) = self.rule(a * 16 + x) else {
@@ -126,7 +130,10 @@ impl Tables<'_> {
 
     /// The suspects that a test meets up to its wrong output.
     pub fn met(&self, p: &Settled, test: usize) -> Suspects {
-        let (mut state, mut used) = (p.start(), 0);
+        let Step::Takes(woken, mut used) = self.step(p, WAKING) else {
+            return 0;
+        };
+        let mut state = target(woken);
         for &observation in self.observations(test) {
             let (x, o) = parts(observation);
             let Step::Takes(step, by) = self.step(p, state * 16 + x) else {
@@ -170,7 +177,10 @@ impl Tables<'_> {
         let mut cube = [ANY; 32];
         let mut first = [usize::MAX; 32];
         let mut sets = [0; 257];
-        sets[0] = starts(&cube);
+        if let Some(waking) = cube.get_mut(usize::from(self.site[WAKING])) {
+            *waking = literal(0, self.starts(&[ANY; 32]) & bad[0]);
+        }
+        sets[0] = self.starts(&cube);
         let mut l = 0;
         while l < observations.len() && sets[l] != 0 {
             let (x, o) = parts(observations[l]);

@@ -51,12 +51,12 @@ fn from(attempt: &mut impl Attempt, prefix: &Prefix, i: usize) -> Searched {
 /// A mutant as a survivor, if it is one.
 fn survivor(sheet: &plain::Tables<'_>, choices: &[u16]) -> Option<Survivor> {
     let board: Vec<u8> = choices.iter().map(|&choice| choice as u8).collect();
-    let moves = sheet.mutant(&board).ok()?;
-    if plain::failure(sheet, &moves).is_some() {
+    let mutant = sheet.mutant(&board).ok()?;
+    if plain::failure(sheet, &mutant).is_some() {
         return None;
     }
     let mut sequence = [0; 256];
-    let length = plain::distinguish(sheet, &moves, &mut sequence)?;
+    let length = plain::distinguish(sheet, &mutant, &mut sequence)?;
     let sequence = sequence[..length].to_vec();
     Some(Survivor { board, sequence })
 }

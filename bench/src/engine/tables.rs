@@ -1,12 +1,15 @@
 //! A sheet as the engine wants it: tables, and the suite as a log.
 
-use super::cubes::{among, has, output, target, Settled, States, Step};
+use super::cubes::{among, has, output, target, Settled, States, Step, ANY};
 use super::notes::{Prefix, UNSETTLED};
 use crate::plain::{self, pair, NONE};
 use ranthelo_tests::reference::TEST;
 
 /// No suspect at a pair.
 pub const FIXED: usize = 255;
+/// The pair, as it were, of the waking state: its transition comes with each reset, and has the
+/// output 0.
+pub const WAKING: usize = 256;
 /// In the log a reset; otherwise an observation is input * 16 + output.
 pub const RESET: u16 = 256;
 
@@ -18,10 +21,10 @@ pub struct Tables<'a> {
     pub outputs: usize,
     pub suspects: usize,
     /// The suspect at a pair, and the transition of a pair that is none.
-    pub site: [u8; 256],
-    pub lone: [u8; 256],
+    pub site: [u8; 257],
+    pub lone: [u8; 257],
     /// The pair of a suspect, and its number of choices.
-    pub pair_of: [u8; 32],
+    pub pair_of: [u16; 32],
     pub counts: [u16; 32],
     /// The outputs that a suspect has, and by suspect * 16 + output the next states.
     pub outs: [u16; 32],
@@ -42,8 +45,8 @@ impl<'a> Tables<'a> {
             inputs: sheet.inputs.into(),
             outputs: sheet.outputs.into(),
             suspects: 0,
-            site: [FIXED as u8; 256],
-            lone: [0; 256],
+            site: [FIXED as u8; 257],
+            lone: [0; 257],
             pair_of: [0; 32],
             counts: [1; 32],
             outs: [0; 32],
@@ -52,6 +55,7 @@ impl<'a> Tables<'a> {
             log: Vec::with_capacity(sheet.suite.len() + 1),
             begin: Vec::with_capacity(sheet.summary.tests + 1),
         };
+        tables.add_pair(WAKING);
         for s in 0..sheet.states {
             for x in 0..sheet.inputs {
                 tables.add_pair(pair(s, x));
@@ -62,7 +66,7 @@ impl<'a> Tables<'a> {
     }
 
     fn add_pair(&mut self, k: usize) {
-        let count = self.sheet.choices(k);
+        let count = self.count(k);
         if count == 1 {
             self.lone[k] = self.transition(k, 0);
             return;
@@ -70,9 +74,9 @@ impl<'a> Tables<'a> {
         let i = self.suspects;
         self.suspects += 1;
         self.site[k] = i as u8;
-        self.pair_of[i] = k as u8;
+        self.pair_of[i] = k as u16;
         self.counts[i] = count as u16;
-        if self.sheet.rules[k].1 == NONE {
+        if k != WAKING && self.sheet.rules[k].1 == NONE {
             let all = |n| (u32::MAX >> (32 - n)) as u16;
             self.outs[i] = all(self.outputs);
             self.free[i * 16..][..self.outputs].fill(all(self.states));
@@ -106,8 +110,19 @@ impl<'a> Tables<'a> {
         self.begin.push(self.log.len());
     }
 
+    /// How many choices a pair has.
+    fn count(&self, k: usize) -> usize {
+        match k {
+            WAKING => self.sheet.waking,
+            _ => self.sheet.choices(k),
+        }
+    }
+
     /// The transition of a choice at a pair.
     fn transition(&self, k: usize, choice: u16) -> u8 {
+        if k == WAKING {
+            return self.sheet.wakings[usize::from(choice)];
+        }
         let (output, next) = self.sheet.choice(k, choice as u8);
         output * 16 + next
     }
@@ -177,9 +192,11 @@ impl Tables<'_> {
     /// Finds the states that can be exchanged: no mutant starts there, and every pair has the
     /// choices of its image.
     pub fn find_swaps(&mut self) {
-        for a in 1..self.states {
-            for b in 1..a {
-                if self.swappable(a, b) {
+        let wakings = self.starts(&[ANY; 32]);
+        for a in 0..self.states {
+            for b in 0..a {
+                let asleep = !has(wakings, a) && !has(wakings, b);
+                if asleep && self.swappable(a, b) {
                     self.swap[a] |= 1 << b;
                     self.swap[b] |= 1 << a;
                 }

@@ -1,6 +1,7 @@
 -- The numbers that the code gives to the suspects of a sheet are those of its mutants' slots.
 use Prim.Native.Nat.{ℕ, zero, suc, _+_, _*_, _/_, _%_, _≤_, _<_}
 use native.Mathlib.Decide.{decLe}
+use native.Mathlib.Nat.{add-assoc}
 use native.Mathlib.Omega.{arith}
 use mathlib.Core.Path.{_≡_, refl, sym, _∙_, ap, ap₂, fun-ext}
 use mathlib.Core.Logic.{by-cases}
@@ -9,15 +10,15 @@ use mathlib.Core.Option.{none, some}
 use mathlib.Core.List.{List, [], _∷_, _++_, map, append-nil, append-assoc}
 use borrow.Author.Tests.{lt-ltb, le-ltb, ltb-true, ltb-false}
 use lib.Dec.{ltb}
-use lib.ListN.{length, getD, replicate, length-append, length-map}
+use lib.ListN.{length, getD, replicate, length-append, length-map, length-replicate}
 use Rattle.lists.specs.Lists.{maybe, upTo, joined, count, overlay}
-use Rattle.sheet.specs.Sheet.{Sheet, choicesAt, isOpen, openBelow}
+use Rattle.sheet.specs.Sheet.{Sheet, choicesAt, isOpen, openBelow, wakingChoices, wakingSlots}
 use Rattle.sheet.specs.Tables.{byPair}
 use Rattle.sheet.specs.WellFormed.{WellFormed}
 use Rattle.sheet.specs.laws.TablesLaw.{table-at}
 use Rattle.model.specs.Mutant.{Suspect, keepOpen, suspects, slots, siteOf}
 use Rattle.lists.specs.laws.ListLaw.{map-append, joined-append, upTo-snoc, length-joined-snoc}
-use Rattle.model.specs.laws.SuspectLaw.{at-count, openBefore, slot-count, site-outside, site-number}
+use Rattle.model.specs.laws.SuspectLaw.{at-count, slotsBefore, slot-count, site-outside, site-number}
 use Rattle.block.specs.Sites.{openAt, openChoices, Numbered}
 use Rattle.block.specs.declared.sites.Sites.{Sites}
 
@@ -52,6 +53,10 @@ joined-nothing : {B : Type 0} (n : ℕ) → joined {A = ℕ} {B = B} (λ i. []) 
 unfolding joined upTo
 joined-nothing zero = refl
 joined-nothing {B} (suc n) = joined-snoc {B = B} (λ i. []) n ∙ append-nil _ ∙ joined-nothing n
+
+-- the number of choices of the waking state, if there is a choice
+abbrev pub first : Sheet → List ℕ
+first sh = replicate (wakingSlots sh) (wakingChoices sh)
 
 module _ (sh : Sheet) (wf : WellFormed sh) (choices : List ℕ) (is : choices ≡ byPair (choicesAt sh)) where
   n : ℕ
@@ -96,25 +101,26 @@ module _ (sh : Sheet) (wf : WellFormed sh) (choices : List ℕ) (is : choices �
       go true false = refl
       go false b = refl
 
-  choices-row : (s x : ℕ) → s < 16 → x ≤ 16 → openChoices n k choices (s * 16 + x) ≡ openChoices n k choices (s * 16) ++ map choicesOf (row s x)
+  choices-row : (s x : ℕ) → s < 16 → x ≤ 16 → openChoices (first sh) n k choices (s * 16 + x) ≡ openChoices (first sh) n k choices (s * 16) ++ map choicesOf (row s x)
   unfolding openChoices row joined upTo
-  choices-row s zero ls lx = let e : s * 16 + 0 ≡ s * 16 = omega arith in rw e (sym (append-nil (openChoices n k choices (s * 16))))
+  choices-row s zero ls lx = let e : s * 16 + 0 ≡ s * 16 = omega arith in rw e (sym (append-nil (openChoices (first sh) n k choices (s * 16))))
   choices-row s (suc x) ls lx =
       let e : s * 16 + suc x ≡ suc (s * 16 + x) = omega arith in
-      let before = openChoices n k choices (s * 16) in
+      let before = openChoices (first sh) n k choices (s * 16) in
       rw e
       (ap₂ (λ a b. a ++ b) (choices-row s x ls (omega arith)) (piece s x ls (omega arith))
       ∙ append-assoc before (map choicesOf (row s x)) (map choicesOf (cut s x))
       ∙ ap (λ l. before ++ l) (sym (map-append choicesOf (row s x) (cut s x)) ∙ ap (map choicesOf) (sym (joined-snoc (cut s) x))))
 
-  choices-below : (s : ℕ) → s ≤ 16 → openChoices n k choices (s * 16) ≡ map choicesOf (below s)
+  choices-below : (s : ℕ) → s ≤ 16 → openChoices (first sh) n k choices (s * 16) ≡ first sh ++ map choicesOf (below s)
   unfolding openChoices below joined upTo
-  choices-below zero l = refl
+  choices-below zero l = sym (append-nil (first sh))
   choices-below (suc s) l =
       let e : suc s * 16 ≡ s * 16 + 16 = omega arith in
       rw e
       (choices-row s 16 (omega arith) (omega arith) ∙ ap (λ t. t ++ map choicesOf (row s 16)) (choices-below s (omega arith))
-      ∙ sym (map-append choicesOf (below s) (row s 16)) ∙ ap (map choicesOf) (sym (joined-snoc (λ t. row t 16) s)))
+      ∙ append-assoc (first sh) (map choicesOf (below s)) (map choicesOf (row s 16))
+      ∙ ap (λ l. first sh ++ l) (sym (map-append choicesOf (below s) (row s 16)) ∙ ap (map choicesOf) (sym (joined-snoc (λ t. row t 16) s))))
 
   -- a whole row
   row-whole : (s : ℕ) → row s 16 ≡ cond (ltb s n) (joined (λ x. keepOpen sh s x) (upTo k)) []
@@ -132,11 +138,11 @@ module _ (sh : Sheet) (wf : WellFormed sh) (choices : List ℕ) (is : choices �
       ∙ joined-cut (λ s. joined (λ x. keepOpen sh s x) (upTo (sh .size .inputs))) (sh .size .states) 16 (wf .size .states .few)
 
   -- in all: the numbers of choices of the mutants' bytes
-  pub choices-all : openChoices (sh .size .states) (sh .size .inputs) choices 256 ≡ slots sh
+  pub choices-all : openChoices (first sh) (sh .size .states) (sh .size .inputs) choices 256 ≡ slots sh
   unfolding slots n k choicesOf
-  choices-all = choices-below 16 (omega arith) ∙ ap (map choicesOf) below-all
+  choices-all = choices-below 16 (omega arith) ∙ ap (λ l. first sh ++ map choicesOf l) below-all
 
-  pub few-slots : length (openChoices (sh .size .states) (sh .size .inputs) choices 256) ≤ 32
+  pub few-slots : length (openChoices (first sh) (sh .size .states) (sh .size .inputs) choices 256) ≤ 32
   few-slots = rw choices-all (omega (arith, slot-count sh, wf .few-open))
 
   row-count : (s x : ℕ) → s < n → x ≤ k → length (row s x) ≡ count (isOpen sh s) x
@@ -153,18 +159,20 @@ module _ (sh : Sheet) (wf : WellFormed sh) (choices : List ℕ) (is : choices �
       length-joined-snoc (λ t. row t 16) s
       ∙ ap₂ (λ a b. a + b) (below-count s (omega arith)) (ap length whole ∙ at-count sh s (sh .size .inputs))
 
-  -- before a pair: the number of open pairs before it
-  pub choices-before : (s x : ℕ) → s < sh .size .states → x < sh .size .inputs → length (openChoices (sh .size .states) (sh .size .inputs) choices (s * 16 + x)) ≡ openBefore sh s x
+  -- before a pair: the number of slots before it
+  pub choices-before : (s x : ℕ) → s < sh .size .states → x < sh .size .inputs → length (openChoices (first sh) (sh .size .states) (sh .size .inputs) choices (s * 16 + x)) ≡ slotsBefore sh s x
   unfolding n k
   choices-before s x ls lx =
       let few = wf .size .states .few in
       let few′ = wf .size .inputs .few in
-      ap length (choices-row s x (omega arith) (omega arith)) ∙ length-append (openChoices n k choices (s * 16)) (map choicesOf (row s x))
+      ap length (choices-row s x (omega arith) (omega arith)) ∙ length-append (openChoices (first sh) n k choices (s * 16)) (map choicesOf (row s x))
       ∙ ap₂ (λ a b. a + b)
-      (ap length (choices-below s (omega arith)) ∙ length-map (below s) choicesOf ∙ below-count s (omega arith))
+      (ap length (choices-below s (omega arith)) ∙ length-append (first sh) (map choicesOf (below s))
+      ∙ ap₂ (λ a b. a + b) (length-replicate (wakingSlots sh) (wakingChoices sh)) (length-map (below s) choicesOf ∙ below-count s (omega arith)))
       (length-map (row s x) choicesOf ∙ row-count s x ls (omega arith))
+      ∙ add-assoc (wakingSlots sh) (openBelow sh s) (count (isOpen sh s) x)
 
-  pub sited : (r : Sites) → Numbered (sh .size .states) (sh .size .inputs) choices r → Sited sh r
+  pub sited : (r : Sites) → Numbered (first sh) (sh .size .states) (sh .size .inputs) choices r → Sited sh r
   sited r num =
       record {
         placed = λ i l. ap (λ (t : ℕ). getD (r .site) t 0) (split i) ∙ place (i / 16) (i % 16) (omega arith) (omega arith);
@@ -183,10 +191,10 @@ module _ (sh : Sheet) (wf : WellFormed sh) (choices : List ℕ) (is : choices �
           found false i = refl
 
           go : (a : Bool) → ltb s (sh .size .states) ≡ a → (b : Bool) → ltb x (sh .size .inputs) ≡ b →
-              cond ((a && b) && isOpen sh s x) (length (openChoices (sh .size .states) (sh .size .inputs) choices (s * 16 + x))) 255 ≡ maybe (siteOf sh s x) 255 (λ j. j)
+              cond ((a && b) && isOpen sh s x) (length (openChoices (first sh) (sh .size .states) (sh .size .inputs) choices (s * 16 + x))) 255 ≡ maybe (siteOf sh s x) 255 (λ j. j)
           go true ea true eb =
               let hs = ltb-true s (sh .size .states) ea in
               let hx = ltb-true x (sh .size .inputs) eb in
-              rw (site-number sh s x hs hx, choices-before s x hs hx) (found (isOpen sh s x) (openBefore sh s x))
+              rw (site-number sh s x hs hx, choices-before s x hs hx) (found (isOpen sh s x) (slotsBefore sh s x))
           go true ea false eb = rw (site-outside sh s x (λ hs hx. omega (arith, ltb-false x (sh .size .inputs) eb))) refl
           go false ea b eb = rw (site-outside sh s x (λ hs hx. omega (arith, ltb-false s (sh .size .states) ea))) refl

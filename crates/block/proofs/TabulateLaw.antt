@@ -2,25 +2,30 @@
 use Prim.Native.Nat.{ℕ, _+_, _-_, _/_, _%_, _≤_, _<_}
 use native.Mathlib.Decide.{decLt}
 use native.Mathlib.Omega.{arith}
-use mathlib.Core.Path.{_≡_, sym, _∙_, ap}
-use mathlib.Core.Logic.{by-cases, inl}
+use mathlib.Core.Path.{_≡_, refl, sym, _∙_, ap}
+use mathlib.Core.Bool.{Bool, true, false, cond}
+use mathlib.Core.Option.{none, some}
+use lib.Dec.{ltb}
+use mathlib.Core.Logic.{_⊎_, inl, inr, ⊎-elim, by-cases}
 use mathlib.Core.List.{List, _++_}
 use lib.ListN.{length, getD, set, drop, replicate, length-set, getD-replicate, List·getD-append, List·getD-eq-default}
 use lib.Seq.{getD-append-add, getD-drop, getD-set-same, getD-set-other}
+use Rattle.lists.specs.Lists.{maybe}
 use Rattle.sheet.specs.declared.Summary.{Summary}
 use Rattle.sheet.specs.declared.Tables.{Tables}
-use Rattle.sheet.specs.Sheet.{Sheet, choicesAt}
+use Rattle.sheet.specs.Sheet.{Sheet, choicesAt, wakingChoices, wakingSlots}
 use Rattle.sheet.specs.Reading.{summaryOf}
 use Rattle.sheet.specs.Tables.{tablesOf, byPair, firstFault}
 use Rattle.sheet.specs.laws.TablesLaw.{table-at}
-use Rattle.model.specs.Mutant.{slots}
+use Rattle.sheet.specs.laws.WakingLaw.{wakings-at}
+use Rattle.model.specs.Mutant.{slots, startSlot}
 use Rattle.model.specs.laws.SuspectLaw.{slot-count}
 use Rattle.block.specs.declared.sites.Sites.{Sites}
-use Rattle.block.specs.Sites.{openChoices, Numbered}
-use Rattle.block.specs.Packing.{Copied, FirstCopied, ChoicesCopied, Located}
+use Rattle.block.specs.Sites.{wakingFirst, openChoices, Numbered}
+use Rattle.block.specs.Packing.{Copied, FirstCopied, ChoicesCopied, WakingsCopied, Located}
 use Rattle.block.specs.Tabled.{Read, Tabled}
 use Rattle.block.specs.laws.TabledLaw.{getD-default, first-less, slot-few, slot-some}
-use Rattle.block.proofs.SlotLaw.{Sited, few-slots, sited}
+use Rattle.block.proofs.SlotLaw.{Sited, first, few-slots, sited}
 
 -- the numbers of choices with 1 past the last
 slots-at : (s : List ℕ) (i : ℕ) → length s ≤ 32 → i < 32 → getD (s ++ drop (length s) (replicate 32 1)) i 0 ≡ getD s i 1
@@ -50,25 +55,48 @@ module _ {sh : Sheet} {size : Summary} {tables : Tables} (rd : Read sh size tabl
   unfolding tablesOf
   choices-are = ap (λ (t : Tables). t .choices) (rd .tabled)
 
-  pub few : (n ≤ 16) × (length (openChoices n k (tables .choices) 256) ≤ 32)
-  few = rw (en ∙ states-are, ek ∙ inputs-are) (rd .formed .size .states .few, few-slots sh (rd .formed) (tables .choices) choices-are)
+  waking-are : tables .waking ≡ wakingChoices sh
+  unfolding tablesOf
+  waking-are = ap (λ (t : Tables). t .waking) (rd .tabled)
+
+  -- the numbers that stand first are those of the waking state
+  first-are : wakingFirst (tables .waking) ≡ first sh
+  unfolding wakingSlots
+  first-are = rw waking-are refl
+
+  pub few : (n ≤ 16) × (length (openChoices (wakingFirst (tables .waking)) n k (tables .choices) 256) ≤ 32)
+  few = rw (en ∙ states-are, ek ∙ inputs-are, first-are) (rd .formed .size .states .few, few-slots sh (rd .formed) (tables .choices) choices-are)
 
   -- all of it, in the order of the code
-  module _ {m₀ m₁ m₂ m₃ m₄ m₅ m₆ m₇ m₈ : List ℕ} (r : Sites) (num : Numbered n k (tables .choices) r)
-      (a : Copied m₀ m₁ 0 (tables .output) 256) (b : Copied m₁ m₂ 256 (tables .target) 256) (c : Copied m₂ m₃ 512 (r .site) 256)
-      (d : FirstCopied m₃ m₄ (tables .first) 256) (e : Copied m₄ m₅ 1024 (tables .mutated) 256) (f : Copied m₅ m₆ 1280 (tables .diverted) 256)
-      (g : ChoicesCopied m₆ m₇ (r .slots) 32) (h : Located m₇ m₈) where
+  module _ {m₀ m₁ m₂ m₃ m₄ m₅ m₆ m₇ m₈ m₉ : List ℕ} (r : Sites) (num : Numbered (wakingFirst (tables .waking)) n k (tables .choices) r) (site : ℕ) (waked : site ≡ cond (ltb 1 (tables .waking)) 0 255)
+      (a : Copied m₀ m₁ 0 (tables .output) 256) (b : Copied m₁ m₂ 256 (tables .target) 256) (c : FirstCopied m₂ m₃ (tables .first) 256)
+      (d : Copied m₃ m₄ 768 (tables .mutated) 256) (e : Copied m₄ m₅ 1024 (tables .diverted) 256) (f : ChoicesCopied m₅ m₆ (r .slots) 32)
+      (g : Copied m₆ m₇ 1315 (r .site) 256) (h : WakingsCopied m₇ m₈ (tables .wakings) 16) (i : Located m₈ m₉) where
+    abbrev sized : List ℕ
+    sized = set (set (set m₉ 1312 (size .states)) 1313 (size .inputs)) 1314 (r .count)
+
     abbrev end : List ℕ
-    end = set (set (set m₈ 1568 (size .states)) 1569 (size .inputs)) 1570 (r .count)
+    end = set sized 1571 site
 
-    from₇ : (j : ℕ) → j < 1568 → getD end j 0 ≡ getD m₇ j 0
-    from₇ j l =
-        getD-set-other (set (set m₈ 1568 (size .states)) 1569 (size .inputs)) 1570 j (r .count) 0 (λ s. omega (arith, s, l))
-        ∙ getD-set-other (set m₈ 1568 (size .states)) 1569 j (size .inputs) 0 (λ s. omega (arith, s, l))
-        ∙ getD-set-other m₈ 1568 j (size .states) 0 (λ s. omega (arith, s, l)) ∙ h .others j (omega arith)
+    -- what the last four writes leave
+    from₉ : (j : ℕ) → (j < 1312) ⊎ (1315 ≤ j) → (j ≡ 1571 → ⊥) → getD end j 0 ≡ getD m₉ j 0
+    from₉ j l n =
+        getD-set-other sized 1571 j site 0 n
+        ∙ getD-set-other (set (set m₉ 1312 (size .states)) 1313 (size .inputs)) 1314 j (r .count) 0 (out 2 (omega arith))
+        ∙ getD-set-other (set m₉ 1312 (size .states)) 1313 j (size .inputs) 0 (out 1 (omega arith))
+        ∙ getD-set-other m₉ 1312 j (size .states) 0 (out 0 (omega arith))
+      where
+        out : (t : ℕ) → t < 3 → j ≡ 1312 + t → ⊥
+        out t lt s = ⊎-elim (λ x. omega (arith, s, x)) (λ x. omega (arith, s, x, lt)) l
 
-    from₆ : (j : ℕ) → j < 1536 → getD end j 0 ≡ getD m₆ j 0
-    from₆ j l = from₇ j (omega arith) ∙ g .others j (inl l)
+    from₈ : (j : ℕ) → (j < 1312) ⊎ (1315 ≤ j) → (j ≡ 1571 → ⊥) → j < 1588 → getD end j 0 ≡ getD m₈ j 0
+    from₈ j l n h = from₉ j l n ∙ i .others j h
+
+    from₇ : (j : ℕ) → (j < 1312) ⊎ (1315 ≤ j) → j < 1571 → getD end j 0 ≡ getD m₇ j 0
+    from₇ j l k = from₈ j l (λ s. omega (arith, s, k)) (omega (arith, k)) ∙ h .others j (inl (omega (arith, k)))
+
+    from₆ : (j : ℕ) → j < 1312 → getD end j 0 ≡ getD m₆ j 0
+    from₆ j l = from₇ j (inl l) (omega arith) ∙ g .others j (inl (omega arith))
 
     from₅ : (j : ℕ) → j < 1280 → getD end j 0 ≡ getD m₅ j 0
     from₅ j l = from₆ j (omega arith) ∙ f .others j (inl l)
@@ -86,32 +114,41 @@ module _ {sh : Sheet} {size : Summary} {tables : Tables} (rd : Read sh size tabl
     from₁ j l = from₂ j (omega arith) ∙ b .others j (inl l)
 
     numbers : Sited sh r
-    numbers = sited sh (rd .formed) (tables .choices) choices-are r (rw (en ∙ states-are, ek ∙ inputs-are) at num)
+    numbers = sited sh (rd .formed) (tables .choices) choices-are r (rw (en ∙ states-are, ek ∙ inputs-are, first-are) at num)
+
+    site-of : (c : Bool) → cond c 0 255 ≡ maybe (cond c (some 0) none) 255 (λ (j : ℕ). j)
+    site-of true = refl
+    site-of false = refl
 
     pub tabled : Tabled sh end
-    unfolding tablesOf
+    unfolding tablesOf startSlot
     tabled =
         record {
           formed = rd .formed;
           outputs = λ j l. let z : 0 + j ≡ j = omega arith in from₁ j l ∙ rw z at (a .same j l) ∙ rw (rd .tabled) (table-at _ j l);
           targets = λ j l. from₂ (256 + j) (omega arith) ∙ b .same j l ∙ rw (rd .tabled) (table-at _ j l);
-          sites = λ j l. from₃ (512 + j) (omega arith) ∙ c .same j l ∙ numbers .placed j l;
+          sites = λ j l. from₇ (1315 + j) (inr (omega arith)) (omega arith) ∙ g .same j l ∙ numbers .placed j l;
           firsts = λ j l.
               let is : getD (tables .first) j 0 ≡ firstFault (sh .faults) (j / 16) (j % 16) = rw (rd .tabled) (table-at _ j l) in
-              from₄ (768 + j) (omega arith) ∙ d .same j l (rw is (first-less sh (rd .formed) (j / 16) (j % 16))) ∙ is;
-          fault-outputs = λ j l. from₅ (1024 + j) (omega arith) ∙ e .same j l ∙ rw (rd .tabled) (table-at _ j l);
-          fault-targets = λ j l. from₆ (1280 + j) (omega arith) ∙ f .same j l ∙ rw (rd .tabled) (table-at _ j l);
-          choices = λ i l.
-              let is : getD (r .slots) i 0 ≡ getD (slots sh) i 1 = rw (numbers .sizes) (slots-at (slots sh) i (omega (arith, slot-count sh, rd .formed .few-open)) l) in
-              ap (λ (v : ℕ). v + 1) (from₇ (1536 + i) (omega arith)) ∙ g .same i l (rw is (slot-some sh (rd .formed) i)) (rw is (slot-few sh (rd .formed) i)) ∙ is;
+              from₃ (512 + j) (omega arith) ∙ c .same j l (rw is (first-less sh (rd .formed) (j / 16) (j % 16))) ∙ is;
+          fault-outputs = λ j l. from₄ (768 + j) (omega arith) ∙ d .same j l ∙ rw (rd .tabled) (table-at _ j l);
+          fault-targets = λ j l. from₅ (1024 + j) (omega arith) ∙ e .same j l ∙ rw (rd .tabled) (table-at _ j l);
+          choices = λ j l.
+              let is : getD (r .slots) j 0 ≡ getD (slots sh) j 1 = rw (numbers .sizes) (slots-at (slots sh) j (omega (arith, slot-count sh, rd .formed .few-open)) l) in
+              ap (λ (v : ℕ). v + 1) (from₆ (1280 + j) (omega arith)) ∙ f .same j l (rw is (slot-some sh (rd .formed) j)) (rw is (slot-few sh (rd .formed) j)) ∙ is;
           states =
-              getD-set-other (set (set m₈ 1568 (size .states)) 1569 (size .inputs)) 1570 1568 (r .count) 0 (λ s. omega (arith, s))
-              ∙ getD-set-other (set m₈ 1568 (size .states)) 1569 1568 (size .inputs) 0 (λ s. omega (arith, s))
-              ∙ getD-set-same m₈ 1568 (size .states) 0 (omega (arith, h .long)) ∙ states-are;
+              getD-set-other sized 1571 1312 site 0 (λ s. omega (arith, s))
+              ∙ getD-set-other (set (set m₉ 1312 (size .states)) 1313 (size .inputs)) 1314 1312 (r .count) 0 (λ s. omega (arith, s))
+              ∙ getD-set-other (set m₉ 1312 (size .states)) 1313 1312 (size .inputs) 0 (λ s. omega (arith, s))
+              ∙ getD-set-same m₉ 1312 (size .states) 0 (omega (arith, i .long)) ∙ states-are;
           inputs =
-              getD-set-other (set (set m₈ 1568 (size .states)) 1569 (size .inputs)) 1570 1569 (r .count) 0 (λ s. omega (arith, s))
-              ∙ getD-set-same (set m₈ 1568 (size .states)) 1569 (size .inputs) 0 (omega (arith, length-set m₈ 1568 (size .states), h .long)) ∙ inputs-are;
+              getD-set-other sized 1571 1313 site 0 (λ s. omega (arith, s))
+              ∙ getD-set-other (set (set m₉ 1312 (size .states)) 1313 (size .inputs)) 1314 1313 (r .count) 0 (λ s. omega (arith, s))
+              ∙ getD-set-same (set m₉ 1312 (size .states)) 1313 (size .inputs) 0 (omega (arith, length-set m₉ 1312 (size .states), i .long)) ∙ inputs-are;
           count =
-              getD-set-same (set (set m₈ 1568 (size .states)) 1569 (size .inputs)) 1570 (r .count) 0 (simp length-set (omega (arith, h .long)))
+              getD-set-other sized 1571 1314 site 0 (λ s. omega (arith, s))
+              ∙ getD-set-same (set (set m₉ 1312 (size .states)) 1313 (size .inputs)) 1314 (r .count) 0 (simp length-set (omega (arith, i .long)))
               ∙ numbers .many;
+          waking-site = getD-set-same sized 1571 site 0 (simp length-set (omega (arith, i .long))) ∙ waked ∙ rw waking-are (site-of (ltb 1 (wakingChoices sh)));
+          wakings = λ j l. from₈ (1572 + j) (inr (omega arith)) (λ s. omega (arith, s)) (omega arith) ∙ h .same j l ∙ rw (rd .tabled) (wakings-at sh j l);
         }

@@ -6,20 +6,20 @@ use lib.ListN.{length, getD}
 use Rattle.sheet.specs.declared.Summary.{Summary}
 use Rattle.sheet.specs.declared.Tables.{Tables}
 use Rattle.lists.specs.Lists.{maybe}
-use Rattle.sheet.specs.Sheet.{Sheet, ruleAt}
+use Rattle.sheet.specs.Sheet.{Sheet, ruleAt, wakings}
 use Rattle.sheet.specs.Reading.{summaryOf}
 use Rattle.sheet.specs.Tables.{tablesOf, firstFault as firstRow, noRow}
 use Rattle.sheet.specs.WellFormed.{WellFormed}
-use Rattle.model.specs.Mutant.{slots, siteOf}
-use Rattle.block.specs.Layout.{ruleOutput, ruleTarget, siteAt, firstFault, mutated, diverted, choicesOf, statesOf, inputsOf, slotsOf}
+use Rattle.model.specs.Mutant.{slots, siteOf, startSlot}
+use Rattle.block.specs.Layout.{waking, ruleOutput, ruleTarget, siteAt, firstFault, mutated, diverted, choicesOf, statesOf, inputsOf, slotsOf, wakeAt}
 
 pub record Read (sh : Sheet) (size : Summary) (tables : Tables) : Type 0 where
   pub formed : WellFormed sh
   pub summary : size ≡ summaryOf sh
   pub tabled : tables ≡ tablesOf sh
 
--- the block holds the sheet's rules (255 for none), which slot each pair uses (255 for none), the faults, how many choices each
--- slot has (1 past the last), and the numbers of states, inputs and slots
+-- the block holds the sheet's rules (255 for none), which slot each pair and the waking state use (255 for none), the faults, how many
+-- choices each slot has (1 past the last), the waking states, and the numbers of states, inputs and slots
 pub record Tabled (sh : Sheet) (m : List ℕ) : Type 0 where
   pub formed : WellFormed sh
   pub outputs : (k : ℕ) → k < 256 → ruleOutput m k ≡ maybe (ruleAt (sh .rules) (k / 16) (k % 16)) 255 (λ r. r .output)
@@ -32,3 +32,5 @@ pub record Tabled (sh : Sheet) (m : List ℕ) : Type 0 where
   pub states : statesOf m ≡ sh .size .states
   pub inputs : inputsOf m ≡ sh .size .inputs
   pub count : slotsOf m ≡ length (slots sh)
+  pub waking-site : siteAt m waking ≡ maybe (startSlot sh) 255 (λ i. i)
+  pub wakings : (c : ℕ) → c < 16 → wakeAt m c ≡ getD (wakings sh) c 0

@@ -8,21 +8,24 @@ use lib.ListN.{length, getD}
 use lib.Dec.{eqb, ltb}
 use Rattle.model.specs.Machine.{Move, Pair}
 use Rattle.model.specs.Mutant.{idle}
-use Rattle.block.specs.Layout.{pair, ruleOutput, ruleTarget, siteAt, firstFault, mutated, diverted, choicesOf, statesOf, inputsOf}
+use Rattle.block.specs.Layout.{pair, waking, ruleOutput, ruleTarget, siteAt, firstFault, mutated, diverted, choicesOf, statesOf, inputsOf, wakeAt}
 use Rattle.block.specs.declared.layout.Step.{Step}
 
 -- how many choices a pair has: one where it is no suspect
 unfoldable pub choicesAt : List ℕ → ℕ → ℕ
 choicesAt m k = cond (eqb (siteAt m k) 255) 1 (choicesOf m (siteAt m k))
 
--- the transition of choice c at the pair k: the rule, then its faults; without a rule all outputs and next states in order
+-- the transition of choice c at the pair k: the rule, then its faults; without a rule all outputs and next states in order; one that
+-- leads into the waking state has no output of its own
 unfoldable pub choiceOf : List ℕ → ℕ → ℕ → Move
 choiceOf m k c =
-    cond (eqb (ruleTarget m k) 255)
+    cond (eqb k waking)
+    (record { output = 0; target = wakeAt m c })
+    (cond (eqb (ruleTarget m k) 255)
     (record { output = c / statesOf m; target = c % statesOf m })
     (cond (eqb c 0)
     (record { output = ruleOutput m k; target = ruleTarget m k })
-    (record { output = mutated m (firstFault m k + c - 1); target = diverted m (firstFault m k + c - 1) }))
+    (record { output = mutated m (firstFault m k + c - 1); target = diverted m (firstFault m k + c - 1) })))
 
 -- the mutant's choice at the pair k
 unfoldable pub chosen : List ℕ → List ℕ → ℕ → ℕ
@@ -41,7 +44,7 @@ stepOf m b s x = cond (ltb s (statesOf m) && ltb x (inputsOf m)) (choiceOf m (pa
 
 -- the state of the mutant b after a reset
 unfoldable pub startOf : List ℕ → List ℕ → ℕ
-startOf m b = 0
+startOf m b = choiceOf m waking (chosen m b waking) .target
 
 -- the specification and the mutant b
 abbrev pub pairOf : List ℕ → List ℕ → Pair
@@ -60,10 +63,12 @@ pub record Wf (m : List ℕ) : Type 0 where
   pub rules : (k : ℕ) → k < 256 → (ruleTarget m k ≡ 255 → ⊥) → ruleTarget m k < statesOf m
   pub targets : (f : ℕ) → f < 256 → diverted m f < statesOf m
   pub faults : (k c : ℕ) → k < 256 → (ruleTarget m k ≡ 255 → ⊥) → c < choicesAt m k → firstFault m k + c ≤ 256
-  pub sites : (k : ℕ) → k < 256 → (siteAt m k ≡ 255 → ⊥) → siteAt m k < 32
-  pub once : (k j : ℕ) → k < 256 → j < 256 → (siteAt m k ≡ 255 → ⊥) → siteAt m j ≡ siteAt m k → j ≡ k
+  pub sites : (k : ℕ) → k < 257 → (siteAt m k ≡ 255 → ⊥) → siteAt m k < 32
+  pub once : (k j : ℕ) → k < 257 → j < 257 → (siteAt m k ≡ 255 → ⊥) → siteAt m j ≡ siteAt m k → j ≡ k
   pub choices : (i : ℕ) → i < 32 → choicesOf m i ≤ 256
   pub inside : (k : ℕ) → k < 256 → (siteAt m k ≡ 255 → ⊥) → (k / 16 < statesOf m) × (k % 16 < inputsOf m)
+  pub wakings : (c : ℕ) → c < choicesAt m waking → wakeAt m c < statesOf m
+  pub few-wakings : choicesAt m waking ≤ 16
 
 -- the transition of choice c at the pair k
 pub record StepIs (m : List ℕ) (k c : ℕ) (r : Step) : Type 0 where

@@ -1,31 +1,36 @@
 // The tables of a machine and its mutants, in one block of bytes (their places: specs/Layout.antt), and what is read from it.
 ghost use mathlib.Core.Path.{_≡_};
 ghost use Prim.Native.Nat.{_+_, _/_, _%_, _<_, _≤_};
-ghost use Rattle.block.specs.Layout.{pair, ruleOutput, ruleTarget, siteAt, choicesOf, statesOf, inputsOf, slotsOf};
-ghost use Rattle.block.specs.Tabulated.{StepIs, startOf};
+ghost use Rattle.block.specs.Layout.{pair, waking, ruleOutput, ruleTarget, siteAt, choicesOf, statesOf, inputsOf, slotsOf, wakeAt};
+ghost use Rattle.block.specs.Tabulated.{Wf, StepIs, choicesAt, chosen, startOf};
 
 // How many bytes the block has, and where its tables stand in it (specs/Layout.antt).
-pub const BLOCK: usize = 1604;
+pub const BLOCK: usize = 1621;
 
 pub(crate) const TARGETS: usize = 256;
 
-pub(crate) const SITES: usize = 512;
+pub(crate) const FIRST_FAULTS: usize = 512;
 
-pub(crate) const FIRST_FAULTS: usize = 768;
+pub(crate) const MUTATED: usize = 768;
 
-pub(crate) const MUTATED: usize = 1024;
+pub(crate) const DIVERTED: usize = 1024;
 
-pub(crate) const DIVERTED: usize = 1280;
+pub(crate) const CHOICES: usize = 1280;
 
-pub(crate) const CHOICES: usize = 1536;
+pub(crate) const STATES: usize = 1312;
 
-pub(crate) const STATES: usize = 1568;
+pub(crate) const INPUTS: usize = 1313;
 
-pub(crate) const INPUTS: usize = 1569;
+pub(crate) const SLOTS: usize = 1314;
 
-pub(crate) const SLOTS: usize = 1570;
+pub(crate) const SITES: usize = 1315;
 
-pub(crate) const PAIRS: usize = 1571;
+pub(crate) const WAKES: usize = 1572;
+
+pub(crate) const PAIRS: usize = 1588;
+
+// The waking state is the next state of one more pair, past those of states and inputs.
+pub const WAKING: usize = 256;
 
 pub fn wide(x: u8) -> usize
     ensures { λ r. ⌜ (r ≡ x) × (r < 256) ⌝ }
@@ -77,7 +82,7 @@ pub fn rule_target(block: &[u8; BLOCK], k: usize) -> u8
 
 // Which suspect a pair is, 255 for none.
 pub fn site(block: &[u8; BLOCK], k: usize) -> u8
-    requires { ⌜ k < 256 ⌝ }
+    requires { ⌜ k < 257 ⌝ }
     ensures { λ r. ⌜ r ≡ siteAt (now (block .entry)) k ⌝ }
 {
     block[SITES + k]
@@ -116,18 +121,14 @@ pub fn slots(block: &[u8; BLOCK]) -> u8
     block[SLOTS]
 }
 
-// The state of the mutant with the choices p after a reset.
-pub fn initial(block: &[u8; BLOCK], p: &[u16; 32]) -> u8
-    ensures { λ r. ⌜ r ≡ startOf (now (block .entry)) (now (p .entry)) ⌝ }
-{
-    0
-}
-
 // The pair of a suspect. That it is the right one is not promised: who relies on it asks `site`.
 pub fn pair_of(block: &[u8; BLOCK], i: u8) -> usize
     requires { ⌜ i < 32 ⌝ }
-    ensures { λ r. ⌜ r < 256 ⌝ }
+    ensures { λ r. ⌜ r < 257 ⌝ }
 {
+    if i == site(block, WAKING) {
+        return WAKING;
+    }
     wide(block[PAIRS + wide(i)])
 }
 
@@ -159,11 +160,30 @@ fn unruled(states: u8, c: u16) -> Step
     }
 }
 
+// The transition of choice c into the waking state.
+fn wake(block: &[u8; BLOCK], c: u16) -> Step
+    ensures { λ r. ⌜ (r .output ≡ 0) × (c < 16 → r .target ≡ wakeAt (now (block .entry)) c) ⌝ }
+{
+    if c >= 16 {
+        return Step {
+            output: 0,
+            target: 0,
+        };
+    }
+    Step {
+        output: 0,
+        target: block[WAKES + wide16(c)],
+    }
+}
+
 // The transition of choice c at the pair k. Any number c is taken, as guesses may name one that there is not.
 pub fn transition(block: &[u8; BLOCK], k: usize, c: u16) -> Step
-    requires { ⌜ k < 256 ⌝ }
+    requires { ⌜ k < 257 ⌝ }
     ensures { λ r. ⌜ StepIs (now (block .entry)) k c r ⌝ }
 {
+    if k == WAKING {
+        return wake(block, c);
+    }
     let target = rule_target(block, k);
     if target == 255 {
         return unruled(states(block), c);
@@ -185,4 +205,24 @@ pub fn transition(block: &[u8; BLOCK], k: usize, c: u16) -> Step
         output: block[MUTATED + f],
         target: block[DIVERTED + f],
     }
+}
+
+// The choice of p at a pair, 0 where it is no suspect.
+pub fn choice_at(block: &[u8; BLOCK], p: &[u16; 32], k: usize) -> u16
+    requires { ⌜ Wf (now block) × (k < 257) ⌝ }
+    ensures { λ r. ⌜ r ≡ chosen (now (block .entry)) (now (p .entry)) k ⌝ }
+{
+    let i = site(block, k);
+    if i == 255 {
+        return 0;
+    }
+    p[wide(i)]
+}
+
+// The state of the mutant with the choices p after a reset.
+pub fn initial(block: &[u8; BLOCK], p: &[u16; 32]) -> u8
+    requires { ⌜ Wf (now block) ⌝ }
+    ensures { λ r. ⌜ (chosen (now (block .entry)) (now (p .entry)) waking < choicesAt (now (block .entry)) waking → r ≡ startOf (now (block .entry)) (now (p .entry))) ⌝ }
+{
+    wake(block, choice_at(block, p, WAKING)).target
 }

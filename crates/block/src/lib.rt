@@ -7,6 +7,8 @@ mod sites;
 
 pub use layout::BLOCK;
 pub use layout::Step;
+pub use layout::WAKING;
+pub use layout::choice_at;
 pub use layout::choices;
 pub use layout::initial;
 pub use layout::inputs;

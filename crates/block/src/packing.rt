@@ -1,9 +1,11 @@
 // Filling the block.
 ghost use mathlib.Core.Path.{_≡_};
 ghost use Prim.Native.Nat.{_+_, _<_, _≤_};
+ghost use mathlib.Core.Bool.{cond};
+ghost use lib.Dec.{ltb};
 ghost use lib.ListN.{length};
 ghost use Rattle.sheet.specs.Sheet.{Sheet};
-ghost use Rattle.block.specs.Packing.{Copied, FirstCopied, ChoicesCopied, Located};
+ghost use Rattle.block.specs.Packing.{Copied, FirstCopied, ChoicesCopied, WakingsCopied, Located};
 ghost use Rattle.block.specs.Tabled.{Read, Tabled};
 use crate::layout::BLOCK;
 use crate::layout::CHOICES;
@@ -16,6 +18,8 @@ use crate::layout::SITES;
 use crate::layout::SLOTS;
 use crate::layout::STATES;
 use crate::layout::TARGETS;
+use crate::layout::WAKES;
+use crate::layout::WAKING;
 use crate::layout::wide;
 use crate::sites::number;
 use sheet::Summary;
@@ -42,7 +46,7 @@ fn last(x: u16) -> u8
 }
 
 fn copy(block: &mut [u8; BLOCK], base: usize, from: &[u8; 256])
-    requires { ⌜ (length (now block) ≡ 1604) × (base ≤ 1280) ⌝ }
+    requires { ⌜ (length (now block) ≡ 1621) × (base ≤ 1315) ⌝ }
     ensures { λ r. ⌜ Copied (now (block .entry)) (now (block .exit)) base (now (from .entry)) 256 ⌝ }
 {
     let mut k: usize = 0;
@@ -54,7 +58,7 @@ fn copy(block: &mut [u8; BLOCK], base: usize, from: &[u8; 256])
 }
 
 fn copy_first(block: &mut [u8; BLOCK], first: &[u16; 256])
-    requires { ⌜ length (now block) ≡ 1604 ⌝ }
+    requires { ⌜ length (now block) ≡ 1621 ⌝ }
     ensures { λ r. ⌜ FirstCopied (now (block .entry)) (now (block .exit)) (now (first .entry)) 256 ⌝ }
 {
     let mut k: usize = 0;
@@ -66,7 +70,7 @@ fn copy_first(block: &mut [u8; BLOCK], first: &[u16; 256])
 }
 
 fn copy_choices(block: &mut [u8; BLOCK], choices: &[u16; 32])
-    requires { ⌜ length (now block) ≡ 1604 ⌝ }
+    requires { ⌜ length (now block) ≡ 1621 ⌝ }
     ensures { λ r. ⌜ ChoicesCopied (now (block .entry)) (now (block .exit)) (now (choices .entry)) 32 ⌝ }
 {
     let mut i: usize = 0;
@@ -77,9 +81,22 @@ fn copy_choices(block: &mut [u8; BLOCK], choices: &[u16; 32])
     }
 }
 
+// The waking states by choice.
+fn copy_wakings(block: &mut [u8; BLOCK], states: &[u8; 16])
+    requires { ⌜ length (now block) ≡ 1621 ⌝ }
+    ensures { λ r. ⌜ WakingsCopied (now (block .entry)) (now (block .exit)) (now (states .entry)) 16 ⌝ }
+{
+    let mut c: usize = 0;
+    while c < 16 {
+        let t = states[c];
+        block[WAKES + c] = t;
+        c += 1;
+    }
+}
+
 // Where the pair of a suspect is kept; any other number has one place past them.
 fn pair_at(i: usize) -> usize
-    ensures { λ r. ⌜ (1571 ≤ r) × (r < 1604) ⌝ }
+    ensures { λ r. ⌜ (1588 ≤ r) × (r < 1621) ⌝ }
 {
     if i < 32 {
         return PAIRS + i;
@@ -89,7 +106,7 @@ fn pair_at(i: usize) -> usize
 
 // The pair of each suspect, all of which are among the first `end` pairs.
 fn locate(block: &mut [u8; BLOCK], site: &[u8; 256], end: usize)
-    requires { ⌜ (length (now block) ≡ 1604) × (end ≤ 256) ⌝ }
+    requires { ⌜ (length (now block) ≡ 1621) × (end ≤ 256) ⌝ }
     ensures { λ r. ⌜ Located (now (block .entry)) (now (block .exit)) ⌝ }
 {
     let mut k: usize = 0;
@@ -100,30 +117,47 @@ fn locate(block: &mut [u8; BLOCK], site: &[u8; 256], end: usize)
     }
 }
 
+// The slot of the waking state, 255 where there is no choice.
+fn waking_site(waking: u8) -> u8
+    ensures { λ r. ⌜ r ≡ cond (ltb 1 waking) 0 255 ⌝ }
+{
+    if waking <= 1 {
+        return 255;
+    }
+    0
+}
+
 // A block to be filled.
 pub fn fresh() -> [u8; BLOCK]
-    ensures { λ r. ⌜ length r ≡ 1604 ⌝ }
+    ensures { λ r. ⌜ length r ≡ 1621 ⌝ }
 {
     [0u8; BLOCK]
 }
 
 // Puts the tables of an accepted sheet into the block.
 pub fn tabulate(size: Summary, tables: Tables, block: &mut [u8; BLOCK])
-    requires { ⌜ length (now block) ≡ 1604 ⌝ }
+    requires { ⌜ length (now block) ≡ 1621 ⌝ }
     requires { ⌜ ((sh : Sheet) × Read sh size tables) ⌝ }
-    ensures { λ r. ⌜ length (now (block .exit)) ≡ 1604 ⌝ }
+    ensures { λ r. ⌜ length (now (block .exit)) ≡ 1621 ⌝ }
     ensures { λ r. ⌜ ((sh : Sheet) → Read sh size tables → Tabled sh (now (block .exit))) ⌝ }
 {
-    let sites = number(&tables.choices, wide(size.states), wide(size.inputs));
+    let sites = number(
+        &tables.choices,
+        wide(size.states),
+        wide(size.inputs),
+        tables.waking,
+    );
     copy(block, 0, &tables.output);
     copy(block, TARGETS, &tables.target);
-    copy(block, SITES, &sites.site);
     copy_first(block, &tables.first);
     copy(block, MUTATED, &tables.mutated);
     copy(block, DIVERTED, &tables.diverted);
     copy_choices(block, &sites.slots);
+    copy(block, SITES, &sites.site);
+    copy_wakings(block, &tables.wakings);
     locate(block, &sites.site, 16 * wide(size.states));
     block[STATES] = size.states;
     block[INPUTS] = size.inputs;
     block[SLOTS] = sites.count;
+    block[SITES + WAKING] = waking_site(tables.waking);
 }

@@ -85,13 +85,14 @@ pub extern "C" fn ranthelo_write(
     outputs: u8,
     rules: &[u8],
     faults: &[u8],
+    starts: &[u8],
     lengths: &[u16],
     presses: &[u8],
     buffer: &mut [u8],
     answer: &mut [usize; 3],
 )
-    ensures { λ r. ⌜ now (answer .exit) ≡ writtenNumbers (writtenAnswer (writing (drawing (record { states = states; inputs = inputs; outputs = outputs }) (now (rules .entry)) (now (faults .entry)) (now (lengths .entry)) (now (presses .entry))) (length (now (buffer .entry))))) ⌝ }
-    ensures { λ r. ⌜ now (buffer .exit) ≡ overlay (sheetWrites (writing (drawing (record { states = states; inputs = inputs; outputs = outputs }) (now (rules .entry)) (now (faults .entry)) (now (lengths .entry)) (now (presses .entry))) (length (now (buffer .entry))))) (now (buffer .entry)) ⌝ }
+    ensures { λ r. ⌜ now (answer .exit) ≡ writtenNumbers (writtenAnswer (writing (drawing (record { states = states; inputs = inputs; outputs = outputs }) (now (rules .entry)) (now (faults .entry)) (now (starts .entry)) (now (lengths .entry)) (now (presses .entry))) (length (now (buffer .entry))))) ⌝ }
+    ensures { λ r. ⌜ now (buffer .exit) ≡ overlay (sheetWrites (writing (drawing (record { states = states; inputs = inputs; outputs = outputs }) (now (rules .entry)) (now (faults .entry)) (now (starts .entry)) (now (lengths .entry)) (now (presses .entry))) (length (now (buffer .entry))))) (now (buffer .entry)) ⌝ }
 {
     let size = Size {
         states,
@@ -99,7 +100,7 @@ pub extern "C" fn ranthelo_write(
         outputs,
     };
     tell_length(
-        writing::write(size, rules, faults, lengths, presses, buffer),
+        writing::write(size, rules, faults, starts, lengths, presses, buffer),
         answer,
     );
 }

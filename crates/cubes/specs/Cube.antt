@@ -20,9 +20,9 @@ Means l v = (l ≡ 4294967295) ⊎ ((l / 65536 ≡ v .output) × Has (l % 65536)
 abbrev pub MeansStep : ℕ → ℕ → ℕ → Type 0
 MeansStep l o t = Means l (record { output = o; target = t })
 
--- the mutant b is in the cube: at each suspect its transition is meant
+-- the mutant b is in the cube: at each suspect, the waking state among them, its transition is meant
 pub record In (m cube b : List ℕ) : Type 0 where
-  pub at : (k : ℕ) → k < 256 → (siteAt m k ≡ 255 → ⊥) → Means (getD cube (siteAt m k) 0) (choiceOf m k (chosen m b k))
+  pub at : (k : ℕ) → k < 257 → (siteAt m k ≡ 255 → ⊥) → Means (getD cube (siteAt m k) 0) (choiceOf m k (chosen m b k))
 
 -- what a goal asks of a mutant besides the log
 abbrev pub Meets : Goal → List ℕ → List ℕ → Type 0
@@ -60,9 +60,9 @@ pub record AllConform (m cube : List ℕ) : Type 0 where
 -- The facts of a block: by suspect i and output o, at i * 16 + o, a set that has the next states of its choices with that output;
 -- by suspect i, at 512 + i, one that has its outputs. What stands from 544 on is the business of others.
 pub record FreeOk (m facts : List ℕ) : Type 0 where
-  pub few : (k c : ℕ) → k < 256 → (siteAt m k ≡ 255 → ⊥) → c < choicesOf m (siteAt m k) → choiceOf m k c .output < 16
-  pub going : (k c : ℕ) → k < 256 → (siteAt m k ≡ 255 → ⊥) → c < choicesOf m (siteAt m k) → Has (getD facts (siteAt m k * 16 + choiceOf m k c .output) 0) (choiceOf m k c .target)
-  pub sounding : (k c : ℕ) → k < 256 → (siteAt m k ≡ 255 → ⊥) → c < choicesOf m (siteAt m k) → Has (getD facts (512 + siteAt m k) 0) (choiceOf m k c .output)
+  pub few : (k c : ℕ) → k < 257 → (siteAt m k ≡ 255 → ⊥) → c < choicesOf m (siteAt m k) → choiceOf m k c .output < 16
+  pub going : (k c : ℕ) → k < 257 → (siteAt m k ≡ 255 → ⊥) → c < choicesOf m (siteAt m k) → Has (getD facts (siteAt m k * 16 + choiceOf m k c .output) 0) (choiceOf m k c .target)
+  pub sounding : (k c : ℕ) → k < 257 → (siteAt m k ≡ 255 → ⊥) → c < choicesOf m (siteAt m k) → Has (getD facts (512 + siteAt m k) 0) (choiceOf m k c .output)
 
 pub record Given (m facts : List ℕ) : Type 0 where
   pub wf : Wf m
@@ -113,7 +113,7 @@ pub record LineOk (m : List ℕ) (those : List ℕ → Type 0) (pairs : List ℕ
 -- ---- the join
 -- the mutant b is in the cube, but perhaps at the suspect i
 pub record InBut (m cube b : List ℕ) (i : ℕ) : Type 0 where
-  pub at : (k : ℕ) → k < 256 → (siteAt m k ≡ 255 → ⊥) → (siteAt m k ≡ i → ⊥) → Means (getD cube (siteAt m k) 0) (choiceOf m k (chosen m b k))
+  pub at : (k : ℕ) → k < 257 → (siteAt m k ≡ 255 → ⊥) → (siteAt m k ≡ i → ⊥) → Means (getD cube (siteAt m k) 0) (choiceOf m k (chosen m b k))
 
 -- no mutant in `all`, the suspect of the pair k aside, whose transition there is in `done` (by output a set of next states) is sought
 pub record Joining (goal : Goal) (m log all done : List ℕ) (k : ℕ) : Type 0 where

@@ -1,6 +1,7 @@
 pub mod SetLaw
 pub mod LiteralLaw
 pub mod SuspectedLaw
+pub mod StartsLaw
 pub mod ConformLaw
 pub mod WalkLaw
 pub mod JoinLaw

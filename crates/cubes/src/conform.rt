@@ -135,7 +135,7 @@ pub fn closed(
     requires { ⌜ Given (now block) (now facts) ⌝ }
     ensures { λ r. ⌜ (r ≡ true → AllConform (now (block .entry)) (now (cube .entry))) ⌝ }
 {
-    if !within(starts(block, cube), pairs[0]) {
+    if !within(starts(block, facts, cube), pairs[0]) {
         return false;
     }
     let end = states(block);

@@ -112,7 +112,7 @@ pub fn fails(
         return false;
     }
     let mut at = from + 1;
-    let mut set = starts(block, cube);
+    let mut set = starts(block, facts, cube);
     while at < log.len() {
         let v = log[at];
         if v >= 256 {

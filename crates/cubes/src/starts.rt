@@ -1,12 +1,21 @@
 // Where the mutants of a cube start.
+use crate::literals::going;
+use crate::tables::FACTS;
 use crate::words::one;
 use block::BLOCK;
-ghost use mathlib.Core.Path.{_≡_};
-ghost use Rattle.cubes.specs.Cube.{StartsOk};
+use block::WAKING;
+use block::site;
+use block::transition;
+use block::wide;
+ghost use Rattle.cubes.specs.Cube.{Given, StartsOk};
 
 // The states in which a mutant of the cube can be after a reset.
-pub fn starts(block: &[u8; BLOCK], cube: &[u32; 32]) -> u16
-    ensures { λ r. ⌜ StartsOk (now (block .entry)) (now (cube .entry)) r ⌝ }
+pub fn starts(block: &[u8; BLOCK], facts: &[u16; FACTS], cube: &[u32; 32]) -> u16
+    ensures { λ r. ⌜ (Given (now (block .entry)) (now (facts .entry)) → StartsOk (now (block .entry)) (now (cube .entry)) r) ⌝ }
 {
-    one(0)
+    let i = site(block, WAKING);
+    if i >= 32 {
+        return one(transition(block, WAKING, 0).target % 16);
+    }
+    going(facts, cube[wide(i)], i, 0)
 }

@@ -40,7 +40,7 @@ fn put(facts: &mut [u16; FACTS], at: usize, s: u8)
 
 // One choice of a suspect; false where its output is none of the sheet's.
 fn enter(block: &[u8; BLOCK], facts: &mut [u16; FACTS], k: usize, i: u8, c: u16) -> bool
-    requires { ⌜ Wf (now block) × (k < 256) × (i ≡ siteAt (now block) k) × (i < 32) × (c < choicesOf (now block) i) × (length (now facts) ≡ 832) ⌝ }
+    requires { ⌜ Wf (now block) × (k < 257) × (i ≡ siteAt (now block) k) × (i < 32) × (c < choicesOf (now block) i) × (length (now facts) ≡ 832) ⌝ }
     ensures { λ r. ⌜ Entered (now (block .entry)) (now (facts .entry)) (now (facts .exit)) k c r ⌝ }
 {
     let step = transition(block, k, c);
@@ -56,7 +56,7 @@ fn enter(block: &[u8; BLOCK], facts: &mut [u16; FACTS], k: usize, i: u8, c: u16)
 
 // Every choice of a pair.
 fn enter_pair(block: &[u8; BLOCK], facts: &mut [u16; FACTS], k: usize) -> bool
-    requires { ⌜ Wf (now block) × (k < 256) × (length (now facts) ≡ 832) ⌝ }
+    requires { ⌜ Wf (now block) × (k < 257) × (length (now facts) ≡ 832) ⌝ }
     ensures { λ r. ⌜ PairEntered (now (block .entry)) (now (facts .entry)) (now (facts .exit)) k r ⌝ }
 {
     let i = site(block, k);
@@ -80,7 +80,7 @@ pub fn enter_all(block: &[u8; BLOCK], facts: &mut [u16; FACTS]) -> bool
     ensures { λ r. ⌜ AllEntered (now (block .entry)) (now (facts .exit)) r ⌝ }
 {
     let mut k: usize = 0;
-    while k < 256 {
+    while k < 257 {
         if !enter_pair(block, facts, k) {
             return false;
         }

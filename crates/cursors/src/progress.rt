@@ -4,16 +4,15 @@ use crate::observed::output_of;
 use crate::observed::test_at;
 use crate::observed::tests_of;
 use block::BLOCK;
+use block::WAKING;
 use block::site;
 use block::some_place;
 use block::wide;
-use cubes::starts::starts;
 use cubes::tables::FACTS;
-use leaves::ANY;
 use leaves::among;
 use leaves::joined;
-use leaves::least;
 use leaves::lone;
+ghost use Prim.Native.Nat.{_<_};
 
 // What a test waits for where it is no suspect: it has not begun, it is through, or it has failed.
 const NOT_BEGUN: u8 = 254;
@@ -21,6 +20,9 @@ const NOT_BEGUN: u8 = 254;
 const THROUGH: u8 = 255;
 
 const FAILED: u8 = 253;
+
+// The state of a test before its reset, from which the waking state is the next one.
+const ASLEEP: u8 = 16;
 
 fn cursor(at: usize, state: u8, wait: u8) -> u32 {
     ((at % 65536) as u32) * 65536 + (state as u32) * 256 + (wait as u32)
@@ -38,49 +40,62 @@ pub fn wait_of(c: u32) -> u8 {
     (c % 256) as u8
 }
 
-// A test before its first input.
-pub fn begun(facts: &[u16; FACTS], t: usize, state: u8) -> u32 {
-    cursor(test_at(facts, t) + 1, state, NOT_BEGUN)
+// A test before its reset.
+pub fn begun(facts: &[u16; FACTS], t: usize) -> u32 {
+    cursor(test_at(facts, t), ASLEEP, NOT_BEGUN)
 }
 
-// The state of the settled part after a reset, as a cube has it.
-pub fn start(block: &[u8; BLOCK], cube: &[u32; 32]) -> u8 {
-    least(starts(block, cube))
-}
-
-// Every test before its first input.
-pub fn start_cursors(block: &[u8; BLOCK], facts: &[u16; FACTS], cursors: &mut [u32; 256]) {
-    let all = [ANY; 32];
-    let state = start(block, &all);
+// Every test before its reset.
+pub fn start_cursors(facts: &[u16; FACTS], cursors: &mut [u32; 256]) {
     let mut t: usize = 0;
     while t < 256 {
-        cursors[t] = begun(facts, t, state);
+        cursors[t] = begun(facts, t);
         t += 1;
     }
 }
 
 // The next state by a transition; 256 + FAILED where it has another output than the one observed.
-fn go(step: u8, v: u16) -> u16 {
-    if step / 16 != output_of(v) {
+fn go(step: u8, o: u8) -> u16 {
+    if step / 16 != o {
         return 256 + (FAILED as u16);
     }
     (step % 16) as u16
 }
 
-// The next state on an observation; 256 + what the test waits for where it does not go on.
-fn go_on(block: &[u8; BLOCK], p: &[u8; 32], settled: u32, state: u8, v: u16) -> u16 {
-    if v >= 256 {
-        return 256 + (THROUGH as u16);
-    }
-    let k = some_place(state, input_of(v));
+// The same at a pair; 256 + its suspect where that is not settled.
+fn go_at(block: &[u8; BLOCK], p: &[u8; 32], settled: u32, k: usize, o: u8) -> u16
+    requires { ⌜ k < 257 ⌝ }
+{
     let i = site(block, k);
     if i >= 32 {
-        return go(lone(block, k), v);
+        return go(lone(block, k), o);
     }
     if !among(settled, i) {
         return 256 + (i as u16);
     }
-    go(p[wide(i)], v)
+    go(p[wide(i)], o)
+}
+
+// The waking state at a test's own reset; through at the next one.
+fn wake(block: &[u8; BLOCK], p: &[u8; 32], settled: u32, state: u8) -> u16 {
+    if state != ASLEEP {
+        return 256 + (THROUGH as u16);
+    }
+    go_at(block, p, settled, WAKING, 0)
+}
+
+// The next state on an observation; 256 + what the test waits for where it does not go on.
+fn go_on(block: &[u8; BLOCK], p: &[u8; 32], settled: u32, state: u8, v: u16) -> u16 {
+    if v >= 256 {
+        return wake(block, p, settled, state);
+    }
+    go_at(
+        block,
+        p,
+        settled,
+        some_place(state, input_of(v)),
+        output_of(v),
+    )
 }
 
 // A test as far as the settled part goes.

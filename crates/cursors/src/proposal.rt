@@ -5,14 +5,13 @@ use crate::observed::output_of;
 use crate::observed::test_at;
 use crate::progress::begun;
 use crate::progress::met;
-use crate::progress::start;
 use block::BLOCK;
+use block::WAKING;
 use block::site;
 use block::some_place;
 use block::states;
 use block::wide;
 use cubes::literals::going;
-use cubes::starts::starts;
 use cubes::tables::FACTS;
 use leaves::ANY;
 use leaves::add;
@@ -41,9 +40,9 @@ fn length_of(log: &[u16], from: usize) -> usize
     256
 }
 
-// The states to which a mutant of the cube can go at a pair, if it gives the output o.
+// The states to which a mutant of the cube can go at a pair, or after a reset, if it gives the output o.
 fn arrive(block: &[u8; BLOCK], facts: &[u16; FACTS], cube: &[u32; 32], k: usize, o: u8) -> u16
-    requires { ⌜ (k < 256) × (o < 16) ⌝ }
+    requires { ⌜ (k < 257) × (o < 16) ⌝ }
 {
     let i = site(block, k);
     if i < 32 {
@@ -119,7 +118,7 @@ fn narrow_step(
     o: u8,
     bad: u16,
 ) -> u32
-    requires { ⌜ (k < 256) × (o < 16) ⌝ }
+    requires { ⌜ (k < 257) × (o < 16) ⌝ }
 {
     let go = arrive(block, facts, cube, k, o);
     let i = site(block, k);
@@ -162,7 +161,7 @@ fn narrow_states(
     next
 }
 
-// The test from its start up to where the cube is narrowed. True if it was.
+// The test from its reset up to where the cube is narrowed. True if it was.
 fn narrow_once<'a>(
     block: &[u8; BLOCK],
     facts: &[u16; FACTS],
@@ -175,28 +174,27 @@ fn narrow_once<'a>(
 ) -> bool
     requires { ⌜ (from ≤ 65536) × (length ≤ 256) ⌝ }
 {
-    let mut set = starts(block, cube);
+    let mut next = narrow_step(block, facts, base, cube, WAKING, 0, bad[0]);
     let mut l: usize = 0;
     while l < length {
-        let next = narrow_states(
-            block,
-            facts,
-            base,
-            cube,
-            set,
-            observed(log, from + l),
-            bad[l + 1],
-        );
         if next >= 65536 {
             return true;
         }
         if next == 0 {
             return false;
         }
-        set = next as u16;
+        next = narrow_states(
+            block,
+            facts,
+            base,
+            cube,
+            next as u16,
+            observed(log, from + l),
+            bad[l + 1],
+        );
         l += 1;
     }
-    false
+    next >= 65536
 }
 
 // Narrows the cube until nothing is left to narrow.
@@ -233,8 +231,7 @@ pub fn propose_fail(
 ) {
     let mut base = [0u32; 32];
     let mut bad = [0u16; 257];
-    exact(p, settled, &mut base);
-    let used = met(block, log, p, settled, begun(facts, t, start(block, &base)));
+    let used = met(block, log, p, settled, begun(facts, t));
     exact(p, used, &mut base);
     let from = test_at(facts, t) + 1;
     let length = length_of(log, from);

@@ -81,7 +81,8 @@ fn one_more(waiting: &mut [u16; 32], j: u8) {
     }
 }
 
-// Notes the choices that a test refutes, if it waits, and counts it.
+// Notes the choices that a test refutes, if it waits, and counts it. One that waits at its reset refutes none: a reset reads as the
+// output 0, which every choice of the waking state has.
 fn mark_want(
     facts: &[u16; FACTS],
     log: &[u16],

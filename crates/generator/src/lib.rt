@@ -39,7 +39,7 @@ fn in_range(size: Size) -> bool
     false
 }
 
-// The sheet of a size in range, from the tables of its rules and faults and no tests.
+// The sheet of a size in range, from the tables of its rules and faults, no STARTs and no tests.
 fn spell(seed: u32, size: Size, buffer: &mut [u8]) -> Written
     requires { ⌜ SizeIn size ⌝ }
     requires { ⌜ 16384 ≤ length (now buffer) ⌝ }
@@ -51,7 +51,15 @@ fn spell(seed: u32, size: Size, buffer: &mut [u8]) -> Written
     let place = put_pairs(seed, size, &mut rules, &mut faults);
     let ruled = 4 * pairs_of(size);
     let faulted = 4 * place.faults;
-    writing::write(size, &rules[..ruled], &faults[..faulted], &[], &[], buffer)
+    writing::write(
+        size,
+        &rules[..ruled],
+        &faults[..faulted],
+        &[],
+        &[],
+        &[],
+        buffer,
+    )
 }
 
 // The sheet of a seed and a size at the buffer's front.

@@ -108,7 +108,7 @@ pub fn packed(output: u8, target: u8) -> u8 {
 
 // The transition of a pair that is no suspect.
 pub fn lone(block: &[u8; BLOCK], k: usize) -> u8
-    requires { ⌜ k < 256 ⌝ }
+    requires { ⌜ k < 257 ⌝ }
 {
     let step = transition(block, k, 0);
     packed(step.output, step.target)

@@ -10,15 +10,15 @@ use Rattle.model.specs.Mutant.{slots, IsMutant}
 use Rattle.model.specs.Operations.{withMutant}
 use Rattle.model.specs.laws.SuspectLaw.{slot-count}
 use Rattle.model.specs.laws.OperationLaw.{in-range, first-high}
-use Rattle.block.specs.Layout.{choicesOf, statesOf, slotsOf}
-use Rattle.block.specs.Tabulated.{stepOf, startOf}
+use Rattle.block.specs.Layout.{waking, choicesOf, statesOf, slotsOf}
+use Rattle.block.specs.Tabulated.{choicesAt, chosen, stepOf, startOf}
 use Rattle.block.specs.Tabled.{Tabled}
 use Rattle.block.specs.laws.TabledLaw.{getD-default}
 use Rattle.machine.specs.declared.fitting.Fit.{Fit}
 use Rattle.machine.specs.declared.fitting.Fit.the-variants as fit
 use Rattle.machine.specs.Laid.{Settles, Moves}
 use Rattle.machine.specs.Fits.{HighAt, fitOf, Widened, Machined}
-use Rattle.machine.specs.laws.LaidLaw.{settled-start, settled-moves}
+use Rattle.machine.specs.laws.LaidLaw.{settled-chosen, settled-start, settled-moves}
 use Rattle.machine.specs.laws.FitsLaw.{mutant-fits}
 
 pub few-slots : {sh : Sheet} {m : List ℕ} → Tabled sh m → slotsOf m ≤ 32
@@ -60,7 +60,7 @@ module _ {sh : Sheet} {m : List ℕ} (tb : Tabled sh m) {b p : List ℕ} (w : Wi
   pub settles : Settles sh p b
   settles = record { at = λ j l. w .at j (omega (arith, slot-count sh, tb .formed .few-open)) }
 
-  pub machined : {f : Fit} {start : ℕ} {outputs targets : List ℕ} → f ≡ fitOf sh b → start ≡ startOf m p →
+  pub machined : {f : Fit} {start : ℕ} {outputs targets : List ℕ} → f ≡ fitOf sh b → (chosen m p waking < choicesAt m waking → start ≡ startOf m p) →
       (IsMutant sh b → Moves (stepOf m p) outputs targets (16 * statesOf m)) → Machined sh b (record { fit = f; start = start; output = outputs; target = targets })
   machined e es moved =
-      record { fits = e; start = λ is. es ∙ settled-start tb is settles; moves = λ is. settled-moves tb is settles (moved is) }
+      record { fits = e; start = λ is. es (settled-chosen tb is settles .at waking (omega arith)) ∙ settled-start tb is settles; moves = λ is. settled-moves tb is settles (moved is) }

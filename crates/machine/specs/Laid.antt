@@ -11,7 +11,7 @@ use Rattle.block.specs.declared.layout.Step.{Step}
 
 -- each choice of p is one of its pair's
 pub record Chosen (m p : List ℕ) : Type 0 where
-  pub at : (k : ℕ) → k < 256 → chosen m p k < choicesAt m k
+  pub at : (k : ℕ) → k < 257 → chosen m p k < choicesAt m k
 
 -- p has the choices of the mutant b; past the last slot it is free
 pub record Settles (sh : Sheet) (p b : List ℕ) : Type 0 where

@@ -4,7 +4,7 @@ ghost use mathlib.Core.Path.{_≡_};
 ghost use lib.ListN.{length, getD, replicate};
 ghost use Rattle.sheet.specs.Sheet.{Sheet};
 ghost use Rattle.block.specs.Layout.{statesOf};
-ghost use Rattle.block.specs.Tabulated.{Wf, chosen, stepOf};
+ghost use Rattle.block.specs.Tabulated.{Wf, stepOf};
 ghost use Rattle.block.specs.Tabled.{Tabled};
 ghost use Rattle.machine.specs.Laid.{Chosen, asMove, Moves};
 ghost use Rattle.machine.specs.Fits.{Widened, Machined};
@@ -12,9 +12,9 @@ use crate::fitting::Fit;
 use crate::fitting::fits;
 use block::BLOCK;
 use block::Step;
+use block::choice_at;
 use block::initial;
 use block::inputs;
-use block::site;
 use block::states;
 use block::transition;
 use block::wide;
@@ -25,18 +25,6 @@ pub struct Machine {
     pub start: u8,
     pub output: [u8; 256],
     pub target: [u8; 256],
-}
-
-// The choice of p at a pair, 0 where it is no suspect.
-fn choice_at(block: &[u8; BLOCK], p: &[u16; 32], k: usize) -> u16
-    requires { ⌜ Wf (now block) × (k < 256) ⌝ }
-    ensures { λ r. ⌜ r ≡ chosen (now (block .entry)) (now (p .entry)) k ⌝ }
-{
-    let i = site(block, k);
-    if i == 255 {
-        return 0;
-    }
-    p[wide(i)]
 }
 
 // What the mutant p does at an index of one of the states: nothing outside the inputs.

@@ -10,10 +10,10 @@ use lib.ListN.{length, getD}
 use Rattle.model.specs.Machine.{Move, outputsFrom, ConformingFrom}
 use Rattle.model.specs.Mutant.{idle}
 use Rattle.model.specs.Log.{Observation, reset, seen, GivesFrom}
-use Rattle.block.specs.Layout.{pair, siteAt, statesOf, inputsOf, choicesOf}
-use Rattle.block.specs.Tabulated.{Wf, Ranged, choicesAt, choiceOf, chosen, stepOf, startOf}
+use Rattle.block.specs.Layout.{pair, waking, siteAt, statesOf, inputsOf, choicesOf}
+use Rattle.block.specs.Tabulated.{Wf, Ranged, choiceOf, chosen, stepOf, startOf}
 use Rattle.block.specs.Logged.{GivesOf, observations}
-use Rattle.block.specs.laws.ChoiceLaw.{choices-none, choices-some, chosen-none, chosen-some, step-inside}
+use Rattle.block.specs.laws.ChoiceLaw.{choices-none, choices-some, chosen-none, chosen-some, chosen-low, step-inside, start-is}
 use Rattle.cubes.specs.Cube.{Sought, Meets}
 use Rattle.cubes.specs.declared.goal.Goal.{Goal}
 use Rattle.cubes.specs.declared.goal.Goal.the-variants.{Any, Nonconforming}
@@ -80,27 +80,19 @@ step-outside m b s x n = go (decLt s (statesOf m)) (decLt x (inputsOf m))
     go (yes l) (no h) = rw (lt-ltb _ _ l, le-ltb x (inputsOf m) (omega (arith, h)))
     go (no l) h = rw (le-ltb s (statesOf m) (omega (arith, l)))
 
-chosen-low : {m c : List ℕ} {k : ℕ} → Wf m → Ranged m c → k < 256 → chosen m c k < choicesAt m k
-chosen-low {m} {c} {k} wf r lk = go (ℕ-discrete (siteAt m k) 255)
-  where
-    go : Dec (siteAt m k ≡ 255) → chosen m c k < choicesAt m k
-    go (yes e) = rw (chosen-none m c k e, choices-none m k e) (omega arith)
-    go (no n) = rw (chosen-some m c k n, choices-some m k n) (r .at (siteAt m k) (wf .sites k lk n))
-
--- every mutant starts in the same state: the one place that knows where
-start-same : (m c d : List ℕ) → startOf m d ≡ startOf m c
-unfolding startOf
-start-same m c d = refl
-
 -- the image of a pair
 abbrev pub over : ℕ → ℕ → ℕ → ℕ
 over a b k = pair (other a b (k / 16)) (k % 16)
 
--- a mutant that does at every pair what c does at the image, exchanged, and is sought if c is
+-- that of the waking state is itself
+pub over-waking : (m : List ℕ) (a b : ℕ) → Wf m → Exchangeable m a b → over a b waking ≡ waking
+over-waking m a b wf ex = ap (λ (q : ℕ). pair q 0) (other-rest a b 16 (λ e. omega (arith, e, ex .a-low, wf .few-states)) (λ e. omega (arith, e, ex .b-low, wf .few-states)))
+
+-- a mutant that does at every suspect what c does at the image, exchanged, and is sought if c is
 pub record Image (m : List ℕ) (a b : ℕ) (c : List ℕ) : Type 0 where
   pub list : List ℕ
   pub ranged : Ranged m list
-  pub choice : (k : ℕ) → k < 256 → k / 16 < statesOf m → k % 16 < inputsOf m → choiceOf m k (chosen m list k) ≡ turned a b (choiceOf m (over a b k) (chosen m c (over a b k)))
+  pub choice : (k : ℕ) → k < 257 → (siteAt m k ≡ 255 → ⊥) → choiceOf m k (chosen m list k) ≡ turned a b (choiceOf m (over a b k) (chosen m c (over a b k)))
   pub sought : (goal : Goal) (log : List ℕ) → Sought goal m log c → Sought goal m log list
 
 module _ (m c : List ℕ) (a b : ℕ) (wf : Wf m) (ex : Exchangeable m a b) (r : Ranged m c) where
@@ -112,20 +104,37 @@ module _ (m c : List ℕ) (a b : ℕ) (wf : Wf m) (ex : Exchangeable m a b) (r :
   offer k ls lx =
       let lq : other a b (k / 16) < statesOf m = other-low a b (k / 16) (statesOf m) (ex .a-low) (ex .b-low) ls in
       let back : pair (other a b (other a b (k / 16))) (k % 16) ≡ k = ap (λ (t : ℕ). pair t (k % 16)) (other-twice a b (k / 16)) ∙ div-add-mod' k 16 in
-      subst (λ (j : ℕ). Offers m j (due k)) back (ex .rows .at (other a b (k / 16)) lq .at (k % 16) lx .at (chosen m c (over a b k)) (chosen-low wf r (place-low wf lq lx)))
+      subst (λ (j : ℕ). Offers m j (due k)) back (ex .rows .at (other a b (k / 16)) lq .at (k % 16) lx .at (chosen m c (over a b k)) (chosen-low wf r (over a b k) (omega (arith, place-low wf lq lx))))
+
+  -- no mutant wakes in a state that is exchanged
+  due-waking : due waking ≡ choiceOf m waking (chosen m c waking)
+  due-waking =
+      let same : startOf m c ≡ choiceOf m waking (chosen m c waking) .target = start-is m c in
+      ap (λ (k : ℕ). turned a b (choiceOf m k (chosen m c k))) (over-waking m a b wf ex)
+      ∙ ap₂ {C = Move} (λ (o t : ℕ). record { output = o; target = t }) refl
+      (other-rest a b (choiceOf m waking (chosen m c waking) .target) (λ e. ex .a-free .start c r (same ∙ e)) (λ e. ex .b-free .start c r (same ∙ e)))
+
+  suspect-offer : (k : ℕ) → k < 257 → (siteAt m k ≡ 255 → ⊥) → Offers m k (due k)
+  suspect-offer k lk nk = go (decLt k 256)
+    where
+      go : Dec (k < 256) → Offers m k (due k)
+      go (yes l) = offer k (wf .inside k l nk .0) (wf .inside k l nk .1)
+      go (no n) =
+          let e : k ≡ waking = omega (arith, n, lk) in
+          subst (λ (j : ℕ). Offers m j (due j)) (sym e) (record { choice = chosen m c waking; low = chosen-low wf r waking (omega arith); is = sym due-waking })
 
   -- a choice of the suspect i that does it, looked for among the pairs below n; c's own where there is none
   record Slot (i n v : ℕ) : Type 0 where
     low : v < choicesOf m i
     is : (k : ℕ) → k < n → siteAt m k ≡ i → choiceOf m k v ≡ due k
 
-  slot-more : (i n : ℕ) → i < 32 → n < 256 → (v : ℕ) × Slot i n v → (v : ℕ) × Slot i (suc n) v
+  slot-more : (i n : ℕ) → i < 32 → n < 257 → (v : ℕ) × Slot i n v → (v : ℕ) × Slot i (suc n) v
   slot-more i n li ln old = go (ℕ-discrete (siteAt m n) i)
     where
       go : Dec (siteAt m n ≡ i) → (v : ℕ) × Slot i (suc n) v
       go (yes e) =
           let some : siteAt m n ≡ 255 → ⊥ = λ w. omega (arith, e, w, li) in
-          let o = offer n (wf .inside n ln some .0) (wf .inside n ln some .1) in (
+          let o = suspect-offer n ln some in (
             o .choice,
             record {
               low = subst (λ (j : ℕ). o .choice < choicesOf m j) e (rw (choices-some m n some) at (o .low));
@@ -137,12 +146,22 @@ module _ (m c : List ℕ) (a b : ℕ) (wf : Wf m) (ex : Exchangeable m a b) (r :
         record { low = old .1 .low; is = λ k lk f. let w : k ≡ n → ⊥ = λ y. d (ap (λ (j : ℕ). siteAt m j) (sym y) ∙ f) in old .1 .is k (omega (arith, w)) f },
       )
 
-  slot : (i : ℕ) → i < 32 → (n : ℕ) → n ≤ 256 → (v : ℕ) × Slot i n v
+  slot : (i : ℕ) → i < 32 → (n : ℕ) → n ≤ 257 → (v : ℕ) × Slot i n v
   slot i li zero l = (getD c i 0, record { low = r .at i li; is = λ k h. absurd (omega arith) })
   slot i li (suc n) l = slot-more i n li (omega arith) (slot i li n (omega arith))
 
-  slots : Listed (λ i v. Slot i 256 v) 32
-  slots = listed (λ i v. Slot i 256 v) 32 (λ i l. slot i l 256 (omega arith))
+  slots : Listed (λ i v. Slot i 257 v) 32
+  slots = listed (λ i v. Slot i 257 v) 32 (λ i l. slot i l 257 (omega arith))
+
+  suspect-due : (k : ℕ) → k < 257 → (siteAt m k ≡ 255 → ⊥) → choiceOf m k (chosen m (slots .list) k) ≡ due k
+  suspect-due k lk nk = ap (λ (v : ℕ). choiceOf m k v) (chosen-some m (slots .list) k nk) ∙ slots .at (siteAt m k) (wf .sites k lk nk) .is k lk refl
+
+  start-same : startOf m (slots .list) ≡ startOf m c
+  start-same = start-is m (slots .list) ∙ ap (λ (v : Move). v .target) (go (ℕ-discrete (siteAt m waking) 255)) ∙ sym (start-is m c)
+    where
+      go : Dec (siteAt m waking ≡ 255) → choiceOf m waking (chosen m (slots .list) waking) ≡ choiceOf m waking (chosen m c waking)
+      go (yes e) = ap (λ (v : ℕ). choiceOf m waking v) (chosen-none m (slots .list) waking e ∙ sym (chosen-none m c waking e))
+      go (no n) = suspect-due waking (omega arith) n ∙ due-waking
 
   choice-due : (k : ℕ) → k < 256 → k / 16 < statesOf m → k % 16 < inputsOf m → choiceOf m k (chosen m (slots .list) k) ≡ due k
   choice-due k lk ls lx = go (ℕ-discrete (siteAt m k) 255)
@@ -152,7 +171,7 @@ module _ (m c : List ℕ) (a b : ℕ) (wf : Wf m) (ex : Exchangeable m a b) (r :
           let o = offer k ls lx in
           let first : o .choice ≡ 0 = omega (arith, o .low, choices-none m k e) in
           ap (λ (v : ℕ). choiceOf m k v) (chosen-none m (slots .list) k e ∙ sym first) ∙ o .is
-      go (no n) = ap (λ (v : ℕ). choiceOf m k v) (chosen-some m (slots .list) k n) ∙ slots .at (siteAt m k) (wf .sites k lk n) .is k lk refl
+      go (no n) = suspect-due k (omega (arith, lk)) n
 
   step-same : (s x : ℕ) → stepOf m (slots .list) (other a b s) x ≡ turned a b (stepOf m c s x)
   step-same s x = go (decLt s (statesOf m)) (decLt x (inputsOf m))
@@ -183,9 +202,9 @@ module _ (m c : List ℕ) (a b : ℕ) (wf : Wf m) (ex : Exchangeable m a b) (r :
   image-of = record {
     list = slots .list;
     ranged = record { short = omega (arith, slots .long); at = λ i l. slots .at i l .low };
-    choice = choice-due;
+    choice = suspect-due;
     sought = mirror-sought (record {
-      start = start-same m c (slots .list) ∙ sym (other-rest a b (startOf m c) (ex .a-free .start c r) (ex .b-free .start c r));
+      start = start-same ∙ sym (other-rest a b (startOf m c) (ex .a-free .start c r) (ex .b-free .start c r));
       step = step-same;
     });
   }

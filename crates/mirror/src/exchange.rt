@@ -20,6 +20,7 @@ ghost use Prim.Native.Nat.{_<_, _%_};
 ghost use lib.ListN.{length};
 ghost use Rattle.block.specs.Layout.{statesOf};
 ghost use Rattle.block.specs.Tabulated.{Wf, choicesAt};
+ghost use Rattle.cubes.specs.Cube.{Given};
 ghost use Rattle.mirror.specs.Mirror.{other, Each, Below, OffersStep, Answered, Exchanges, RowExchanges, Movable, FixedOk, Exchangeable, Exchanged};
 
 // The state s, with a and b exchanged.
@@ -37,7 +38,7 @@ fn other(s: u8, a: u8, b: u8) -> u8
 
 // How many choices a pair has.
 fn choices_at(block: &[u8; BLOCK], k: usize) -> u16
-    requires { ⌜ Wf (now block) × (k < 256) ⌝ }
+    requires { ⌜ Wf (now block) × (k < 257) ⌝ }
     ensures { λ r. ⌜ r ≡ choicesAt (now (block .entry)) k ⌝ }
 {
     let i = site(block, k);
@@ -187,12 +188,12 @@ fn all_exchange(block: &[u8; BLOCK], a: u8, b: u8) -> bool
 }
 
 // The states that no exchange may move: where mutants start, and 0.
-fn fixed(block: &[u8; BLOCK]) -> u16
-    requires { ⌜ Wf (now block) ⌝ }
+fn fixed(block: &[u8; BLOCK], facts: &[u16; FACTS]) -> u16
+    requires { ⌜ Given (now block) (now facts) ⌝ }
     ensures { λ r. ⌜ FixedOk (now (block .entry)) r ⌝ }
 {
     let all = [4294967295u32; 32];
-    union(one(0), starts(block, &all))
+    union(one(0), starts(block, facts, &all))
 }
 
 // The state b, if it can be exchanged with a.
@@ -235,10 +236,10 @@ fn partners(block: &[u8; BLOCK], fixed: u16, a: u8) -> u16
 
 // Fills in, by state a at 544 + a of the facts, the states that can be exchanged with it.
 pub fn exchange_all(block: &[u8; BLOCK], facts: &mut [u16; FACTS])
-    requires { ⌜ Wf (now block) × (length (now facts) ≡ 832) ⌝ }
+    requires { ⌜ Given (now block) (now facts) × (length (now facts) ≡ 832) ⌝ }
     ensures { λ r. ⌜ Exchanged (now (block .entry)) (now (facts .entry)) (now (facts .exit)) ⌝ }
 {
-    let keep = fixed(block);
+    let keep = fixed(block, facts);
     let mut a: u8 = 0;
     while a < 16 {
         let set = partners(block, keep, a);

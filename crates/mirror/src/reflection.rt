@@ -23,7 +23,7 @@ ghost use Rattle.mirror.specs.Reflect.{Quiet, Silent, Blind, BlindBut, M
 
 // Whether the cube does not speak of the pair k.
 fn quiet(block: &[u8; BLOCK], cube: &[u32; 32], k: usize) -> bool
-    requires { ⌜ Wf (now block) × (k < 256) ⌝ }
+    requires { ⌜ Wf (now block) × (k < 257) ⌝ }
     ensures { λ r. ⌜ (r ≡ true → Quiet (now (block .entry)) (now (cube .entry)) k) ⌝ }
 {
     let i = site(block, k);
@@ -138,7 +138,7 @@ pub fn reflect(
     o: u8,
     done: &mut [u16; 16],
 )
-    requires { ⌜ Wf (now block) × SwapsOk (now block) (now facts) × (k < 256) × (siteAt (now block) k ≡ 255 → ⊥) × (length (now done) ≡ 16) ⌝ }
+    requires { ⌜ Wf (now block) × SwapsOk (now block) (now facts) × (k < 257) × (siteAt (now block) k ≡ 255 → ⊥) × (length (now done) ≡ 16) ⌝ }
     ensures { λ r. ⌜ ReflectedOk (now (block .entry)) (now (cube .entry)) (now (done .entry)) (now (done .exit)) k ⌝ }
 {
     if a >= 16 {

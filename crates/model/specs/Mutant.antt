@@ -1,13 +1,13 @@
 -- Mutants of a sheet (01: boards): one transition chosen at each suspect (01: open pair).
-use Prim.Native.Nat.{ℕ, zero, suc, _<_}
+use Prim.Native.Nat.{ℕ, zero, suc, _+_, _<_}
 use mathlib.Core.Bool.{cond, _&&_}
 use mathlib.Core.Option.{Option, none, some}
-use mathlib.Core.List.{List, [], _∷_, map}
+use mathlib.Core.List.{List, [], _∷_, _++_, map}
 use lib.Dec.{eqb, ltb}
-use lib.ListN.{getD}
+use lib.ListN.{getD, replicate}
 use Rattle.sheet.specs.declared.Row.{Row}
 use Rattle.lists.specs.Lists.{maybe, upTo, joined}
-use Rattle.sheet.specs.Sheet.{Sheet, rowsAt, ruleAt, choicesAt, isOpen}
+use Rattle.sheet.specs.Sheet.{Sheet, rowsAt, ruleAt, choicesAt, isOpen, wakings, wakingChoices, wakingSlots}
 use Rattle.model.specs.Machine.{Move, Action, Pair, outputsFrom, specifiedFrom, DistinguishesFrom, ConformingFrom}
 
 abbrev pub moveOf : Row → Move
@@ -38,9 +38,10 @@ keepOpen sh s x = cond (isOpen sh s x) (record { state = s; input = x } ∷ []) 
 unfoldable pub suspects : Sheet → List Suspect
 suspects sh = joined (λ s. joined (λ x. keepOpen sh s x) (upTo (sh .size .inputs))) (upTo (sh .size .states))
 
--- how many choices each byte of a mutant has
+-- how many choices each byte of a mutant has: first where it wakes, if there is a choice (02: START), then the suspects
 unfoldable pub slots : Sheet → List ℕ
-slots sh = map (λ (u : Suspect). choicesAt sh (u .state) (u .input)) (suspects sh)
+slots sh =
+    replicate (wakingSlots sh) (wakingChoices sh) ++ map (λ (u : Suspect). choicesAt sh (u .state) (u .input)) (suspects sh)
 
 abbrev pub later : Option ℕ → Option ℕ
 later none = none
@@ -52,9 +53,13 @@ siteIn (u ∷ us) s x =
     let rest = later (siteIn us s x) in
     cond (eqb (u .state) s && eqb (u .input) x) (some zero) rest
 
+-- the byte of a suspect, by its number among the suspects
+abbrev pub slotOf : Sheet → Option ℕ → Option ℕ
+slotOf sh found = maybe found none (λ i. some (wakingSlots sh + i))
+
 -- which byte of a mutant a state and an input use; none where there is one transition only
 unfoldable pub siteOf : Sheet → ℕ → ℕ → Option ℕ
-siteOf sh s x = siteIn (suspects sh) s x
+siteOf sh s x = slotOf sh (siteIn (suspects sh) s x)
 
 -- all lists of choices below the given numbers, in dictionary order
 unfoldable pub choiceLists : List ℕ → List (List ℕ)
@@ -83,7 +88,7 @@ unfoldable pub acts : Sheet → List ℕ → ℕ → ℕ → Action
 acts sh b =
     let us = suspects sh in
     λ s x.
-    let slot = siteIn us s x in
+    let slot = slotOf sh (siteIn us s x) in
     record {
       move =
           cond (ltb s (sh .size .states) && ltb x (sh .size .inputs))
@@ -96,13 +101,13 @@ acts sh b =
 unfoldable pub step : Sheet → List ℕ → ℕ → ℕ → Move
 step sh b = let act = acts sh b in λ s x. act s x .move
 
--- the state after a reset (01: fresh start)
-unfoldable pub initial : Sheet → List ℕ → ℕ
-initial sh b = 0
-
--- which byte of a mutant says that state, if any; every run uses it
+-- which byte of a mutant says in which state it wakes, if there is a choice; every run uses it
 unfoldable pub startSlot : Sheet → Option ℕ
-startSlot sh = none
+startSlot sh = cond (ltb 1 (wakingChoices sh)) (some zero) none
+
+-- the state after a reset (01: fresh start): the waking state that its byte names, or the only one, 0
+unfoldable pub initial : Sheet → List ℕ → ℕ
+initial sh b = getD (wakings sh) (maybe (startSlot sh) zero (λ i. getD b i 0)) 0
 
 -- the mutant's outputs (01: sounds)
 unfoldable pub outputs : Sheet → List ℕ → List ℕ → List ℕ

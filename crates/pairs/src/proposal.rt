@@ -2,7 +2,9 @@
 use crate::cells::Cell;
 use crate::cells::look;
 use block::BLOCK;
+use block::WAKING;
 use block::inputs;
+use block::site;
 use block::states;
 use block::wide;
 use cubes::starts::starts;
@@ -209,6 +211,28 @@ fn spread_next(
     spread_pair(block, facts, safe, cube, pairs, w, packed(a, b))
 }
 
+// Begins with the pairs after a reset, and narrows the literal of the waking state where these would not be safe; false if it was
+// narrowed.
+fn start(
+    block: &[u8; BLOCK],
+    facts: &[u16; FACTS],
+    safe: &[u16; 16],
+    cube: &mut [u32; 32],
+    pairs: &mut [u16; 16],
+) -> bool {
+    *pairs = [0u16; 16];
+    let all = starts(block, facts, cube);
+    pairs[0] = all;
+    let i = site(block, WAKING);
+    let go = common(all, safe[0]);
+    if i >= 32 || go == all {
+        return true;
+    }
+    pairs[0] = go;
+    cube[wide(i)] = literal(0, go);
+    false
+}
+
 // Spreads over the pairs of states reachable under a cube, and narrows it where they would leave the safe ones; false if it
 // was narrowed. Strict: false as soon as an output can be wrong.
 fn spread(
@@ -220,11 +244,9 @@ fn spread(
     strict: bool,
 ) -> bool {
     let mut done = [0u16; 16];
-    *pairs = [0u16; 16];
-    pairs[0] = starts(block, cube);
     let mut w = Rows {
         rows: add(0, 0),
-        good: true,
+        good: start(block, facts, safe, cube, pairs),
         strict,
     };
     let mut turns: u16 = 0;

@@ -3,7 +3,9 @@ use crate::cells::Cell;
 use crate::cells::look;
 use crate::witness::keep;
 use block::BLOCK;
+use block::WAKING;
 use block::inputs;
+use block::site;
 use block::wide;
 use cubes::starts::starts;
 use cubes::tables::FACTS;
@@ -124,7 +126,7 @@ fn walk(
         at: 255,
         want: 0,
     };
-    w = list_pair(seen, list, w, 0, least(starts(block, cube)));
+    w = list_pair(seen, list, w, 0, least(starts(block, facts, cube)));
     let mut h: usize = 0;
     while h < 256 {
         if h >= w.end {
@@ -140,8 +142,8 @@ fn walk(
     w
 }
 
-// The first unsettled suspect on the walk of the settled part; 255 if there is none, or if a wrong output is in reach: then a
-// witness is kept.
+// The first unsettled suspect on the walk of the settled part, the waking state before all; 255 if there is none, or if a wrong
+// output is in reach: then a witness is kept.
 pub fn meet(
     block: &[u8; BLOCK],
     facts: &[u16; FACTS],
@@ -153,6 +155,10 @@ pub fn meet(
     let mut seen = [0u16; 16];
     let mut list = [0u8; 256];
     exact(p, settled, &mut cube);
+    let i = site(block, WAKING);
+    if unsettled(&cube, i) {
+        return i;
+    }
     let w = walk(block, facts, &cube, &mut seen, &mut list);
     if !w.wrong {
         return w.first;

@@ -24,7 +24,7 @@ use Rattle.refutation.specs.declared.branch.Split.{Split}
 use Rattle.refutation.specs.declared.branch.Turn.{Turn}
 
 -- ---- one cube
-pub joined : {m cube all done mid more wider : List ℕ} {k : ℕ} {s : Step} (i l : ℕ) → Wf m → k < 256 → siteAt m k < 32 → i ≡ siteAt m k → l ≡ getD cube i 0 → (l ≡ 4294967295 → ⊥) → s .output < 16 → MeansStep l (s .output) (s .target)
+pub joined : {m cube all done mid more wider : List ℕ} {k : ℕ} {s : Step} (i l : ℕ) → Wf m → k < 257 → siteAt m k < 32 → i ≡ siteAt m k → l ≡ getD cube i 0 → (l ≡ 4294967295 → ⊥) → s .output < 16 → MeansStep l (s .output) (s .target)
     → AddsOk done mid l → MeetsAll all cube more → ReflectedOk m cube mid wider k → JoinedOk m cube all done more wider k s
 joined {m} {cube} {all} {done} {mid} {more} {wider} {k} {s} i l wf lk ls ei el nl lo ms ad me re = record {
   all-long = me .long;
@@ -94,7 +94,7 @@ prefix-none = record { at = λ k l. absurd (omega arith) }
 pub prefix-more : {m cube p : List ℕ} {n : ℕ} → PrefixTo m cube p n → PairHas m cube p n → PrefixTo m cube p (n + 1)
 prefix-more {n = n} t f = record { at = below-more _ n (t .at) f }
 
-pub prefix-all : {m cube p : List ℕ} {n : ℕ} → PrefixTo m cube p n → 256 ≤ n → PrefixIn m cube p
+pub prefix-all : {m cube p : List ℕ} {n : ℕ} → PrefixTo m cube p n → 257 ≤ n → PrefixIn m cube p
 prefix-all t l = record { at = λ b r e. record { at = λ k lk nk. t .at k (omega arith) .at nk b r e } }
 
 pub pair-none : {m cube p : List ℕ} {k : ℕ} → siteAt m k ≡ 255 → PairHas m cube p k

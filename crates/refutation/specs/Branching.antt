@@ -24,7 +24,7 @@ pub record Found (goal : Goal) (m log store : List ℕ) (r : Told) : Type 0 wher
 -- the suspect is that of the pair, the choices are all it has, and one more may be settled
 pub record SplitOk (m : List ℕ) (left : ℕ) (r : Split) : Type 0 where
   pub low : r .i < 32
-  pub pair : r .k < 256
+  pub pair : r .k < 257
   pub is : siteAt m (r .k) ≡ r .i
   pub count : r .n ≡ choicesOf m (r .i)
   pub some : 0 < left

@@ -86,7 +86,10 @@ fn recall(notes: &[u16], i: u8, known: &mut [u16; 272]) {
     recall_dead(notes, i, known);
 }
 
-// A suspect to settle, its pair (256: there is none), and how many choices it has.
+// Past every pair: there is no suspect to settle.
+const NO_PAIR: usize = 257;
+
+// A suspect to settle, its pair (257: there is none), and how many choices it has.
 pub(crate) struct Split {
     pub i: u8,
     pub k: usize,
@@ -94,17 +97,29 @@ pub(crate) struct Split {
 }
 
 fn split_at(block: &[u8; BLOCK], i: u8, left: u8) -> Split
-    ensures { λ r. ⌜ (r .k < 256 → SplitOk (now (block .entry)) left r) ⌝ }
+    ensures { λ r. ⌜ (r .k < 257 → SplitOk (now (block .entry)) left r) ⌝ }
 {
     if i >= 32 {
-        return Split { i, k: 256, n: 0 };
+        return Split {
+            i,
+            k: NO_PAIR,
+            n: 0,
+        };
     }
     if left == 0 {
-        return Split { i, k: 256, n: 0 };
+        return Split {
+            i,
+            k: NO_PAIR,
+            n: 0,
+        };
     }
     let k = pair_of(block, i);
     if site(block, k) != i {
-        return Split { i, k: 256, n: 0 };
+        return Split {
+            i,
+            k: NO_PAIR,
+            n: 0,
+        };
     }
     Split {
         i,
@@ -123,7 +138,7 @@ fn next_split(
     cursors: &[u32; 256],
     known: &mut [u16; 272],
 ) -> Split
-    ensures { λ r. ⌜ (r .k < 256 → SplitOk (now (block .entry)) (node .left) r) ⌝ }
+    ensures { λ r. ⌜ (r .k < 257 → SplitOk (now (block .entry)) (node .left) r) ⌝ }
 {
     let i = next_suspect(block, facts, log, notes, node, cursors);
     recall(notes, i, known);
@@ -154,7 +169,7 @@ fn has_step(sets: &[u16; 16], step: Step) -> bool
 
 // In the first round a choice of which something is said is passed over.
 fn first_turn(block: &[u8; BLOCK], k: usize, c: u16, done: &[u16; 16], known: &[u16; 272]) -> Turn
-    requires { ⌜ k < 256 ⌝ }
+    requires { ⌜ k < 257 ⌝ }
 {
     let step = transition(block, k, c);
     let dead = in_set(known[256 + wide(low(step.output))], step.target);
@@ -166,7 +181,7 @@ fn first_turn(block: &[u8; BLOCK], k: usize, c: u16, done: &[u16; 16], known: &[
 }
 
 fn second_turn(block: &[u8; BLOCK], k: usize, c: u16, done: &[u16; 16], known: &[u16; 272]) -> Turn
-    requires { ⌜ k < 256 ⌝ }
+    requires { ⌜ k < 257 ⌝ }
     ensures { λ r. ⌜ TurnOk (now (block .entry)) (now (done .entry)) k c r ⌝ }
 {
     let step = transition(block, k, c);
@@ -178,7 +193,7 @@ fn second_turn(block: &[u8; BLOCK], k: usize, c: u16, done: &[u16; 16], known: &
 }
 
 fn at_turn(block: &[u8; BLOCK], split: Split, r: u16, done: &[u16; 16], known: &[u16; 272]) -> Turn
-    requires { ⌜ split .k < 256 ⌝ }
+    requires { ⌜ split .k < 257 ⌝ }
     ensures { λ t. ⌜ (split .n ≤ r → TurnOk (now (block .entry)) (now (done .entry)) (split .k) (r - split .n) t) ⌝ }
 {
     if r < split.n {
@@ -207,7 +222,7 @@ fn join(
     all: &mut [u32; 32],
     done: &mut [u16; 16],
 ) -> bool
-    requires { ⌜ Ready (now block) (now facts) × (k < 256) × (siteAt (now block) k < 32) × (length (now all) ≡ 32) × (length (now done) ≡ 16) ⌝ }
+    requires { ⌜ Ready (now block) (now facts) × (k < 257) × (siteAt (now block) k < 32) × (length (now all) ≡ 32) × (length (now done) ≡ 16) ⌝ }
     ensures { λ r. ⌜ (r ≡ true → JoinedOk (now (block .entry)) (now (cube .entry)) (now (all .entry)) (now (done .entry)) (now (all .exit)) (now (done .exit)) k step) ⌝ }
 {
     let o = step.output;
@@ -263,7 +278,7 @@ pub(crate) fn explore(
     }
     let mut known = [0u16; 272];
     let split = next_split(block, facts, log, notes, node, &cursors, &mut known);
-    if split.k >= 256 {
+    if split.k >= NO_PAIR {
         return seen;
     }
     let mut all = [ANY; 32];

@@ -33,10 +33,12 @@ pub fn prepare(block: &[u8; BLOCK], log: &[u16], facts: &mut [u16; FACTS]) -> bo
     requires { ⌜ Wf (now block) × (length (now facts) ≡ 832) ⌝ }
     ensures { λ r. ⌜ (r ≡ true → Ready (now (block .entry)) (now (facts .exit))) ⌝ }
 {
-    let ready = enter_all(block, facts);
+    if !enter_all(block, facts) {
+        return false;
+    }
     exchange_all(block, facts);
     find_tests(log, facts);
-    ready
+    true
 }
 
 // Whether no mutant with all the choices of the prefix is sought; false promises nothing.
@@ -58,7 +60,7 @@ pub fn none_from(
     let node = root(block, prefix);
     admit_all(notes, node.settled);
     let mut cursors = [0u32; 256];
-    start_cursors(block, facts, &mut cursors);
+    start_cursors(facts, &mut cursors);
     let told = explore(block, facts, log, goal, store, notes, node, &cursors);
     if !told.ok {
         return false;

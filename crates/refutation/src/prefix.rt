@@ -13,7 +13,7 @@ ghost use Rattle.refutation.specs.Branching.{PairHas, PrefixIn};
 
 // One pair.
 fn pair_has(block: &[u8; BLOCK], cube: &[u32; 32], prefix: &[u16; 32], k: usize) -> bool
-    requires { ⌜ Wf (now block) × (k < 256) ⌝ }
+    requires { ⌜ Wf (now block) × (k < 257) ⌝ }
     ensures { λ r. ⌜ (r ≡ true → PairHas (now (block .entry)) (now (cube .entry)) (now (prefix .entry)) k) ⌝ }
 {
     let i = site(block, k);
@@ -44,7 +44,7 @@ pub(crate) fn has_prefix(block: &[u8; BLOCK], cube: &[u32; 32], prefix: &[u16; 3
     ensures { λ r. ⌜ (r ≡ true → PrefixIn (now (block .entry)) (now (cube .entry)) (now (prefix .entry))) ⌝ }
 {
     let mut k: usize = 0;
-    while k < 256 {
+    while k < 257 {
         if !pair_has(block, cube, prefix, k) {
             return false;
         }

@@ -8,7 +8,7 @@ use borrow.Author.Tests.{lt-ltb, le-ltb}
 use lib.Dec.{ltb}
 use lib.ListN.{length, take, drop, length-append}
 use lib.Seq.{take-at, length-take-le}
-use Rattle.sheet.specs.Sheet.{Sheet, openPairs}
+use Rattle.sheet.specs.Sheet.{Sheet, openSlots}
 use Rattle.sheet.specs.Reading.{Result, accepted, refused, Reading, reading, summaryOf}
 use Rattle.sheet.specs.Tables.{readAnswer}
 use Rattle.lists.specs.laws.TestLaw.{never}
@@ -58,7 +58,7 @@ unfolding judging judgeOn summaryOf
 survivor-choices s b xs room room′ = of-reading (reading s) refl
   where
     counted : (sh : Sheet) → reading s ≡ accepted sh → (p q : Bool) →
-        refuseIf p 16 0 (refuseIf q 16 1 (accepted (judgeOf sh))) ≡ accepted (survivor b xs) → length b ≡ openPairs sh
+        refuseIf p 16 0 (refuseIf q 16 1 (accepted (judgeOf sh))) ≡ accepted (survivor b xs) → length b ≡ openSlots sh
     counted sh e false false h =
         let j : judgeOf sh ≡ survivor b xs = cc in
         mutant-length sh b (judged-survivor sh (well-formed s sh e) b xs j .0 .survives .is) ∙ slot-count sh

@@ -18,8 +18,8 @@ use Rattle.model.specs.Log.{failedIn}
 use Rattle.model.specs.laws.StaysLaw.{start-below}
 use Rattle.model.specs.laws.SuspectLaw.{slot-count}
 use Rattle.model.specs.laws.OperationLaw.{mutant-length, in-range-at}
-use Rattle.block.specs.Layout.{statesOf, slotsOf}
-use Rattle.block.specs.Tabulated.{Wf, stepOf, startOf}
+use Rattle.block.specs.Layout.{waking, statesOf, slotsOf}
+use Rattle.block.specs.Tabulated.{Wf, choicesAt, chosen, stepOf, startOf}
 use Rattle.block.specs.Logged.{observations}
 use Rattle.block.specs.Tabled.{Tabled}
 use Rattle.block.specs.laws.TabledLaw.{getD-default, slot-few, well-formed}
@@ -103,12 +103,13 @@ module _ {sh : Sheet} {m log p : List ℕ} (w : Searching sh m log p (length (sl
   pub lay-asks : Wf m × Chosen m p
   lay-asks = (well-formed tb, settled-chosen tb is settles)
 
-  module _ {outputs targets : List ℕ} (laid : Moves (stepOf m p) outputs targets (16 * statesOf m)) {start : ℕ} (es : start ≡ startOf m p) where
+  module _ {outputs targets : List ℕ} (laid : Moves (stepOf m p) outputs targets (16 * statesOf m)) {start : ℕ}
+      (es : chosen m p waking < choicesAt m waking → start ≡ startOf m p) where
     moved : Moves (step sh (mutantIn sh p)) outputs targets (16 * sh .size .states)
     moved = settled-moves tb is settles laid
 
     starts : start ≡ initial sh (mutantIn sh p)
-    starts = es ∙ settled-start tb is settles
+    starts = es (settled-chosen tb is settles .at waking (omega arith)) ∙ settled-start tb is settles
 
     pub meets-asks : Valid m targets × (start < statesOf m)
     meets-asks = (tables-valid tb (mutantIn sh p) moved, rw (starts, tb .states) (start-below sh (mutantIn sh p) (tb .formed)))

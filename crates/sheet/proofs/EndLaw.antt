@@ -14,12 +14,13 @@ use borrow.Author.Tests.{lt-ltb, le-ltb, eq-eqb, ne-eqb, eqb-true, eqb-false}
 use Rattle.sheet.specs.declared.Row.{Row}
 use Rattle.sheet.specs.declared.Size.{Size}
 use Rattle.sheet.specs.declared.finish.End.the-variants.{Accepted, Refused}
-use Rattle.lists.specs.Lists.{maybe, any, all, count}
-use Rattle.sheet.specs.Sheet.{Sheet, rowsAt, ruleAt, leads, reachedWithin, allReached, unruledChoices, choicesAt, isOpen, openBelow, openPairs}
+use Rattle.lists.specs.Lists.{maybe, last, any, all, count}
+use Rattle.sheet.specs.Sheet.{Sheet, rowsAt, ruleAt, leads, reachedWithin, allReached, unruledChoices, choicesAt, isOpen, openBelow, openPairs, wakingSlots, openSlots}
 use Rattle.sheet.specs.Reading.{firstBroken, finishing}
-use Rattle.sheet.specs.words.Held.{Within16, Digits, placeOf, ruleTarget, present, Leads, Marks, Follows, Linked, markOf, endOf}
+use Rattle.sheet.specs.words.Held.{Within16, Digits, placeOf, nextKey, ruleTarget, present, Leads, Marks, Follows, Linked, StartsHold, markOf, endOf}
 use Rattle.lists.specs.laws.TestLaw.{never, both, or-right, and-both}
 use Rattle.sheet.specs.laws.ReachedLaw.{some-any, all-early}
+use Rattle.sheet.specs.laws.WakingLaw.{no-choice, a-choice}
 use Rattle.sheet.proofs.RowTableLaw.{If, rule-digits}
 
 pub few-pairs : (z : Size) → Within16 z → z .outputs * z .states ≤ 256
@@ -221,13 +222,39 @@ all-stop g i (suc n) h e = go (eqb i n) refl (all-stop g i n)
     go true q ih = rw (← eqb-true i n q, e)
     go false q ih = let ne = eqb-false i n q in rw (ih (omega arith) e) (and-false (g n))
 
-pub open-more : (sh : Sheet) (s n r : ℕ) → n ≡ openBelow sh s → r ≡ count (isOpen sh s) (sh .size .inputs) → n + r ≡ openBelow sh (s + 1)
+open-more : (sh : Sheet) (s n r : ℕ) → n ≡ openBelow sh s → r ≡ count (isOpen sh s) (sh .size .inputs) → n + r ≡ openBelow sh (s + 1)
 unfolding openBelow
 open-more sh s n r e f = rw (add-one s, e, f)
 
-pub open-all : (sh : Sheet) (n : ℕ) → n ≡ openBelow sh (sh .size .states) → n ≡ openPairs sh
-unfolding openPairs
-open-all sh n e = e
+-- where a mutant wakes, then the pairs
+module _ (sh : Sheet) where
+  key-none : (l : List ℕ) → nextKey (λ s. s) (last l) ≡ 0 → l ≡ []
+  unfolding last
+  key-none [] e = refl
+  key-none (t ∷ []) e = absurd (omega arith)
+  key-none (t ∷ u ∷ l) e = absurd (let z : u ∷ l ≡ [] = key-none (u ∷ l) e in let n : suc (length l) ≡ 0 = ap length z in omega arith)
+
+  pub waking-none : (t : ℕ) → StartsHold t (sh .starts) → t ≡ 0 → 0 ≡ wakingSlots sh
+  waking-none t h e = sym (no-choice sh (key-none (sh .starts) (sym (h .key) ∙ e)))
+
+  pub waking-one : (t : ℕ) → StartsHold t (sh .starts) → (t ≡ 0 → ⊥) → 1 ≡ wakingSlots sh
+  unfolding last
+  waking-one t h n = sym (a-choice sh (go (sh .starts) (h .key)))
+    where
+      go : (l : List ℕ) → t ≡ nextKey (λ s. s) (last l) → 1 ≤ length l
+      go [] e = absurd (n e)
+      go (u ∷ l) e = omega arith
+
+  pub slots-none : (n : ℕ) → n ≡ wakingSlots sh → n ≡ wakingSlots sh + openBelow sh 0
+  unfolding openBelow
+  slots-none n e = omega arith
+
+  pub slots-more : (s n r : ℕ) → n ≡ wakingSlots sh + openBelow sh s → r ≡ count (isOpen sh s) (sh .size .inputs) → n + r ≡ wakingSlots sh + openBelow sh (s + 1)
+  slots-more s n r e f = omega (arith, open-more sh s (openBelow sh s) r refl f)
+
+  pub slots-all : (n : ℕ) → n ≡ wakingSlots sh + openBelow sh (sh .size .states) → n ≡ openSlots sh
+  unfolding openPairs openSlots
+  slots-all n e = e
 
 -- all states are found after j rounds, and after the last
 pub reached-early : (sh : Sheet) (z : Size) (j : ℕ) → z ≡ sh .size → j ≤ z .states → all (reachedWithin sh j) (z .states) ≡ true → true ≡ allReached sh
@@ -246,10 +273,10 @@ module _ (sh : Sheet) (s : List ℕ) (at : ℕ) where
   unfolding finishing firstBroken
   end-lost h e = rw (le-ltb (at + 1) (length s) h, e)
 
-  pub end-many : length s ≤ at + 1 → allReached sh ≡ true → 32 < openPairs sh → Refused 12 at ≡ endOf (finishing sh s at)
+  pub end-many : length s ≤ at + 1 → allReached sh ≡ true → 32 < openSlots sh → Refused 12 at ≡ endOf (finishing sh s at)
   unfolding finishing firstBroken
-  end-many h e k = rw (le-ltb (at + 1) (length s) h, e, lt-ltb 32 (openPairs sh) k)
+  end-many h e k = rw (le-ltb (at + 1) (length s) h, e, lt-ltb 32 (openSlots sh) k)
 
-  pub end-good : length s ≤ at + 1 → allReached sh ≡ true → openPairs sh ≤ 32 → Accepted (openPairs sh) ≡ endOf (finishing sh s at)
+  pub end-good : length s ≤ at + 1 → allReached sh ≡ true → openSlots sh ≤ 32 → Accepted (openSlots sh) ≡ endOf (finishing sh s at)
   unfolding finishing firstBroken
-  end-good h e k = rw (le-ltb (at + 1) (length s) h, e, le-ltb 32 (openPairs sh) k)
+  end-good h e k = rw (le-ltb (at + 1) (length s) h, e, le-ltb 32 (openSlots sh) k)

@@ -31,14 +31,16 @@ none s at l = simp (le-ltb at (length s) l)
 
 -- the command that is fetched is the definition's
 same : (s : List ℕ) (at b : ℕ) → commandFrom (itemAt s at b) ≡ commandOf b s at
-same s at b = one (eqb b 1) refl (eqb b 2) refl (eqb b 3) refl (eqb b 5) refl
+same s at b = one (eqb b 1) refl (eqb b 2) refl (eqb b 3) refl (eqb b 5) refl (eqb b 7) refl
   where
-    one : (p : Bool) → eqb b 1 ≡ p → (q : Bool) → eqb b 2 ≡ q → (r : Bool) → eqb b 3 ≡ r → (t : Bool) → eqb b 5 ≡ t → commandFrom (itemAt s at b) ≡ commandOf b s at
-    one true e q _ r _ t _ = rw (eqb-true b 1 e)
-    one false e true f r _ t _ = rw (eqb-true b 2 f)
-    one false e false f true g t _ = rw (eqb-true b 3 g)
-    one false e false f false g true h = rw (eqb-true b 5 h)
-    one false e false f false g false h = simp (e, f, g, h)
+    one : (p : Bool) → eqb b 1 ≡ p → (q : Bool) → eqb b 2 ≡ q → (r : Bool) → eqb b 3 ≡ r → (t : Bool) → eqb b 5 ≡ t → (u : Bool) → eqb b 7 ≡ u
+        → commandFrom (itemAt s at b) ≡ commandOf b s at
+    one true e q _ r _ t _ u _ = rw (eqb-true b 1 e)
+    one false e true f r _ t _ u _ = rw (eqb-true b 2 f)
+    one false e false f true g t _ u _ = rw (eqb-true b 3 g)
+    one false e false f false g true h u _ = rw (eqb-true b 5 h)
+    one false e false f false g false h true i = rw (eqb-true b 7 i)
+    one false e false f false g false h false i = simp (e, f, g, h, i)
 
 kind : Taken → ℕ
 kind (Whole k) = 0

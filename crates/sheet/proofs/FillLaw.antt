@@ -1,9 +1,9 @@
 -- The tables, as the passes fill them.
-use Prim.Native.Nat.{ℕ, suc, _+_, _*_, _-_, _/_, _%_, _<_, _≤_}
+use Prim.Native.Nat.{ℕ, zero, suc, _+_, _*_, _-_, _/_, _%_, _<_, _≤_}
 use mathlib.Core.Path.{_≡_, refl, ap, sym, _∙_}
 use mathlib.Core.Bool.{Bool, true, false, cond}
 use mathlib.Core.Option.{Option, none, some}
-use mathlib.Core.List.{List, [], _∷_, _++_}
+use mathlib.Core.List.{List, [], _∷_, _++_, map}
 use native.Mathlib.Numerals.{add-one}
 use native.Mathlib.Omega.{arith}
 use lib.Dec.{ltb, eqb}
@@ -16,23 +16,24 @@ use Rattle.sheet.specs.declared.Span.{Span}
 use Rattle.sheet.specs.declared.fetch.Item.{Item}
 use Rattle.sheet.specs.declared.fetch.Fetched.{Fetched}
 use Rattle.sheet.specs.declared.fetch.Taken.the-variants.{Whole}
-use Rattle.lists.specs.Lists.{maybe, isNone, first}
+use Rattle.lists.specs.Lists.{maybe, isNone, first, upTo}
 use Rattle.sheet.specs.Sheet.{Sheet, isAt, rowsAt, ruleAt, unruledChoices, choicesAt}
-use Rattle.sheet.specs.Encode.{rowBytes, testBytes}
-use Rattle.sheet.specs.Tables.{table, firstAt, firstFault, noRow}
+use Rattle.sheet.specs.Encode.{rowBytes, operandBytes, startBytes, testBytes}
+use Rattle.sheet.specs.Tables.{firstAt, firstFault, noRow}
 use Rattle.sheet.specs.words.Fetch.{itemAt, fetchAt, itemIn, rowFrom}
 use Rattle.sheet.specs.words.Held.{Digits, placeOf, pairKey, ByPair, ruleTarget}
-use Rattle.sheet.specs.words.Places.{TestAt, spanFrom, FaultsFrom, TestsFrom, Table, FaultTables, TestTables, Countable}
+use Rattle.sheet.specs.words.Places.{TestAt, spanFrom, FaultsFrom, StartsFrom, TestsFrom, Table, FaultTables, TestTables, Countable}
 use Rattle.lists.specs.laws.ListLaw.{all-at-index}
-use Rattle.sheet.specs.laws.TablesLaw.{table-length, table-at, rows-few}
+use Rattle.sheet.specs.laws.TablesLaw.{below-length, below-at, rows-few}
 use Rattle.sheet.proofs.RowTableLaw.{If, length-snoc, at-true, rows-new, rows-old, rule-digits, table-set}
 use Rattle.sheet.proofs.PlaceLaw.{fetch-there, TestPlace, place-start, place-found, place-next}
 
 -- tables by index and by pair
-pub table-is : {t : List ℕ} {f : ℕ → ℕ} → Table t f → t ≡ table f
-table-is {t} {f} h = ext-getD 0 t (table f) (h .size ∙ sym (table-length f)) (λ i k. h .at i (omega (arith, h .size)) ∙ sym (table-at f i (omega (arith, h .size))))
+pub table-is : {n : ℕ} {t : List ℕ} {f : ℕ → ℕ} → Table n t f → t ≡ map f (upTo n)
+table-is {n} {t} {f} h =
+    ext-getD 0 t (map f (upTo n)) (h .size ∙ sym (below-length n f)) (λ i k. h .at i (omega (arith, h .size)) ∙ sym (below-at n f i (omega (arith, h .size))))
 
-pub pair-table : {t : List ℕ} {g : ℕ → ℕ → ℕ} → ByPair t g → Table t (λ i. g (i / 16) (i % 16))
+pub pair-table : {t : List ℕ} {g : ℕ → ℕ → ℕ} → ByPair t g → Table 256 t (λ i. g (i / 16) (i % 16))
 pair-table {t} {g} h = record {
   size = h .size;
   at = λ i k.
@@ -40,13 +41,13 @@ pair-table {t} {g} h = record {
       ap (λ (n : ℕ). getD t n 0) e ∙ h .at (i / 16) (i % 16) (omega arith) (omega arith);
 }
 
-pub table-same : {t : List ℕ} {f : ℕ → ℕ} (f' : ℕ → ℕ) → Table t f → ((i : ℕ) → i < 256 → f i ≡ f' i) → Table t f'
+pub table-same : {n : ℕ} {t : List ℕ} {f : ℕ → ℕ} (f' : ℕ → ℕ) → Table n t f → ((i : ℕ) → i < n → f i ≡ f' i) → Table n t f'
 table-same f' h e = record { size = h .size; at = λ i k. h .at i k ∙ e i k }
 
-index-set : {t : List ℕ} {f : ℕ → ℕ} (f' : ℕ → ℕ) (i v : ℕ) → Table t f → i < 256 → f' i ≡ v → ((j : ℕ) → (j ≡ i → ⊥) → f' j ≡ f j) → Table (set t i v) f'
-index-set {t} {f} f' i v h k same other = record { size = simp length-set (h .size); at = λ j m. go j m (eqb j i) refl }
+index-set : {n : ℕ} {t : List ℕ} {f : ℕ → ℕ} (f' : ℕ → ℕ) (i v : ℕ) → Table n t f → i < n → f' i ≡ v → ((j : ℕ) → (j ≡ i → ⊥) → f' j ≡ f j) → Table n (set t i v) f'
+index-set {n} {t} {f} f' i v h k same other = record { size = simp length-set (h .size); at = λ j m. go j m (eqb j i) refl }
   where
-    go : (j : ℕ) → j < 256 → (b : Bool) → eqb j i ≡ b → getD (set t i v) j 0 ≡ f' j
+    go : (j : ℕ) → j < n → (b : Bool) → eqb j i ≡ b → getD (set t i v) j 0 ≡ f' j
     go j m true e = rw (eqb-true j i e, same) (getD-set-same t i v 0 (omega (arith, h .size)))
     go j m false e = getD-set-other t i j v 0 (eqb-false j i e) ∙ h .at j m ∙ sym (other j (eqb-false j i e))
 
@@ -54,18 +55,18 @@ index-set {t} {f} f' i v h k same other = record { size = simp length-set (h .si
 abbrev pub partly : (ℕ → ℕ) → (ℕ → ℕ) → ℕ → ℕ → ℕ
 partly a b p i = cond (ltb i p) (a i) (b i)
 
-pub partly-here : {t : List ℕ} (a b : ℕ → ℕ) (p : ℕ) → p < 256 → Table t (partly a b p) → getD t p 0 ≡ b p
+pub partly-here : {n : ℕ} {t : List ℕ} (a b : ℕ → ℕ) (p : ℕ) → p < n → Table n t (partly a b p) → getD t p 0 ≡ b p
 partly-here a b p k h = h .at p k ∙ (rw (le-ltb p p (omega arith)))
 
-pub partly-next : {t : List ℕ} (a b : ℕ → ℕ) (p v : ℕ) → p < 256 → Table t (partly a b p) → v ≡ a p → Table (set t p v) (partly a b (p + 1))
+pub partly-next : {n : ℕ} {t : List ℕ} (a b : ℕ → ℕ) (p v : ℕ) → p < n → Table n t (partly a b p) → v ≡ a p → Table n (set t p v) (partly a b (p + 1))
 partly-next a b p v k h e = index-set (partly a b (p + 1)) p v h k (rw (lt-ltb p (p + 1) (omega arith)) (sym e)) (λ j n. go j n (ltb j p) refl)
   where
     go : (j : ℕ) → (j ≡ p → ⊥) → (c : Bool) → ltb j p ≡ c → partly a b (p + 1) j ≡ partly a b p j
     go j n true q = rw (q, lt-ltb j (p + 1) (omega (arith, ltb-true j p q)))
     go j n false q = let m = ltb-false j p q in let w : p + 1 ≤ j = omega arith in rw (q, le-ltb j (p + 1) w)
 
-zeros : (f : ℕ → ℕ) → ((i : ℕ) → i < 256 → f i ≡ 0) → Table (replicate 256 0) f
-zeros f e = record { size = length-replicate {A = ℕ} 256 0; at = λ i k. getD-replicate 256 i 0 0 k ∙ sym (e i k) }
+zeros : (n : ℕ) (f : ℕ → ℕ) → ((i : ℕ) → i < n → f i ≡ 0) → Table n (replicate n 0) f
+zeros n f e = record { size = length-replicate {A = ℕ} n 0; at = λ i k. getD-replicate n i 0 0 k ∙ sym (e i k) }
 
 pair-zeros : (g : ℕ → ℕ → ℕ) → ((s x : ℕ) → g s x ≡ 0) → ByPair (replicate 256 0) g
 pair-zeros g e = record { size = length-replicate {A = ℕ} 256 0; at = λ s x hs hx. getD-replicate 256 (placeOf s x) 0 0 (omega arith) ∙ sym (e s x) }
@@ -127,8 +128,8 @@ unfolding rowsAt firstFault
 faults-none = record {
   counts-are = pair-zeros (λ s x. length (rowsAt [] s x)) (λ s x. refl);
   firsts-are = pair-zeros (firstFault []) (λ s x. refl);
-  mutated-are = zeros (λ i. getD [] i noRow .output) (λ i k. refl);
-  diverted-are = zeros (λ i. getD [] i noRow .target) (λ i k. refl);
+  mutated-are = zeros 256 (λ i. getD [] i noRow .output) (λ i k. refl);
+  diverted-are = zeros 256 (λ i. getD [] i noRow .target) (λ i k. refl);
 }
 
 pub count-few : (cs fs ms ds : List ℕ) (l : List Row) (r : Row) → Digits r → FaultTables cs fs ms ds l → getD cs (pairKey r) 0 ≤ length l
@@ -202,6 +203,45 @@ module _ (s : List ℕ) (place : ℕ) (l : List Row) (from : FaultsFrom s place 
 pub filling-end : (s : List ℕ) (l : List Row) (cs fs ms ds : List ℕ) (at i : ℕ) → i ≡ length l → Filling s l cs fs ms ds at i → FaultTables cs fs ms ds l
 filling-end s l cs fs ms ds at i e g = rw (ap (λ (n : ℕ). take n l) e ∙ take-length l) at (g .tables)
 
+-- the pass over the STARTs
+abbrev wakingBy : List ℕ → ℕ → ℕ
+wakingBy l i = getD (0 ∷ l) i 0
+
+pub record Waking (s l ws : List ℕ) (at i : ℕ) : Type 0 where
+  pub rest : List ℕ
+  pub bytes : drop at s ≡ startBytes (drop i l) ++ rest
+  pub table : Table 16 ws (partly (wakingBy l) (λ j. 0) (i + 1))
+
+pub waking-start : (s : List ℕ) (place : ℕ) (l : List ℕ) → StartsFrom s place l → Waking s l (replicate 16 0) place 0
+waking-start s place l h = record { rest = h .rest; bytes = h .bytes; table = zeros 16 (partly (wakingBy l) (λ j. 0) 1) (λ i k. go i) }
+  where
+    go : (i : ℕ) → partly (wakingBy l) (λ j. 0) 1 i ≡ 0
+    go zero = refl
+    go (suc i) = rw (le-ltb (suc i) 1 (omega arith))
+
+module _ (s l : List ℕ) (at i : ℕ) (h : i < length l) (ws : List ℕ) (g : Waking s l ws at i) where
+  start-bytes : drop at s ≡ 7 ∷ getD l i 0 ∷ (startBytes (drop (suc i) l) ++ g .rest)
+  unfolding operandBytes
+  start-bytes = g .bytes ∙ ap (λ (t : List ℕ). startBytes t ++ g .rest) (drop-cons l i 0 h)
+
+  start-there : fetchAt s at ≡ record { taken = Whole (itemAt s at 7); next = at + 2 }
+  start-there = fetch-there s at 7 _ start-bytes (omega arith)
+
+  pub waking-next : length l ≤ 15 → (f : Fetched) (k : Item) → f ≡ fetchAt s at → k ≡ itemIn (f .taken) → Waking s l (set ws (i + 1) (k .first)) (f .next) (i + 1)
+  waking-next few f k ef ek = record {
+    rest = g .rest;
+    bytes = rw (ap (λ (f : Fetched). f .next) (ef ∙ start-there), add-one i) (sym (drop-drop 2 at s) ∙ ap (λ (b : List ℕ). drop 2 b) start-bytes);
+    table = partly-next (wakingBy l) (λ j. 0) (i + 1) (k .first) (omega arith) (g .table)
+        (ap (λ (x : Item). x .first) (ek ∙ ap (λ (f : Fetched). itemIn (f .taken)) (ef ∙ start-there)) ∙ bytes-at s at 1 _ start-bytes ∙ ap (wakingBy l) (sym (add-one i)));
+  }
+
+pub waking-end : (s l ws : List ℕ) (at i : ℕ) → i ≡ length l → Waking s l ws at i → Table 16 ws (λ j. getD (0 ∷ l) j 0)
+waking-end s l ws at i e g = table-same (wakingBy l) (g .table) (λ j k. go j (ltb j (i + 1)) refl)
+  where
+    go : (j : ℕ) (b : Bool) → ltb j (i + 1) ≡ b → cond b (wakingBy l j) 0 ≡ wakingBy l j
+    go j true q = refl
+    go j false q = sym (List·getD-eq-default (0 ∷ l) 0 {n = j} (omega (arith, ltb-false j (i + 1) q)))
+
 -- the pass over the pairs
 abbrev pub choicesBy : Sheet → ℕ → ℕ
 choicesBy sh i = choicesAt sh (i / 16) (i % 16)
@@ -209,7 +249,7 @@ choicesBy sh i = choicesAt sh (i / 16) (i % 16)
 abbrev pub faultsBy : Sheet → ℕ → ℕ
 faultsBy sh i = length (rowsAt (sh .faults) (i / 16) (i % 16))
 
-pub counting-start : (z : Size) (ts cs : List ℕ) (sh : Sheet) → Countable z ts cs sh → Table cs (partly (choicesBy sh) (faultsBy sh) 0)
+pub counting-start : (z : Size) (ts cs : List ℕ) (sh : Sheet) → Countable z ts cs sh → Table 256 cs (partly (choicesBy sh) (faultsBy sh) 0)
 counting-start z ts cs sh h = table-same (partly (choicesBy sh) (faultsBy sh) 0) (pair-table (h .counts-are)) (λ i k. sym (rw (le-ltb i 0 (omega arith))))
 
 choices-by : (o : Option Row) (n u v : ℕ) → If Digits o → v ≡ ruleTarget o → cond (ltb v 16) (n + 1) u ≡ maybe o u (λ r. suc n)
@@ -217,11 +257,11 @@ choices-by none n u v d e = rw e
 choices-by (some r) n u v d e = rw (lt-ltb v 16 (omega (arith, d .target))) (add-one n)
 
 module _ (z : Size) (ts cs₀ : List ℕ) (sh : Sheet) (h : Countable z ts cs₀ sh) (p : ℕ) (k : p < 256) where
-  pub faults-here : {cs : List ℕ} → Table cs (partly (choicesBy sh) (faultsBy sh) p) → getD cs p 0 ≤ 256
+  pub faults-here : {cs : List ℕ} → Table 256 cs (partly (choicesBy sh) (faultsBy sh) p) → getD cs p 0 ≤ 256
   faults-here t = omega (arith, partly-here (choicesBy sh) (faultsBy sh) p k t, rows-few (sh .faults) (p / 16) (p % 16), h .few)
 
   pub counting-next : {cs : List ℕ} (v u : ℕ) → u ≡ z .outputs * z .states → v ≡ cond (ltb (getD ts p 0) 16) (getD cs p 0 + 1) u
-      → Table cs (partly (choicesBy sh) (faultsBy sh) p) → Table (set cs p v) (partly (choicesBy sh) (faultsBy sh) (p + 1))
+      → Table 256 cs (partly (choicesBy sh) (faultsBy sh) p) → Table 256 (set cs p v) (partly (choicesBy sh) (faultsBy sh) (p + 1))
   unfolding choicesAt unruledChoices
   counting-next {cs} v u eu ev t =
       let n = partly-here (choicesBy sh) (faultsBy sh) p k t in
@@ -231,7 +271,7 @@ module _ (z : Size) (ts cs₀ : List ℕ) (sh : Sheet) (h : Countable z ts cs₀
       (rule-digits (sh .rules) (p / 16) (p % 16) (h .leads .digits)) (pair-table (h .leads .table) .at p k))) in
       partly-next (choicesBy sh) (faultsBy sh) p v k t e
 
-pub counting-end : {cs : List ℕ} (sh : Sheet) (p : ℕ) → p ≡ 256 → Table cs (partly (choicesBy sh) (faultsBy sh) p) → Table cs (choicesBy sh)
+pub counting-end : {cs : List ℕ} (sh : Sheet) (p : ℕ) → p ≡ 256 → Table 256 cs (partly (choicesBy sh) (faultsBy sh) p) → Table 256 cs (choicesBy sh)
 counting-end sh p e t = table-same (choicesBy sh) t (λ i k. rw (lt-ltb i p (omega arith)))
 
 -- the pass over the tests
@@ -262,6 +302,6 @@ testing-next s place l ss ls at i h k r t g =
 
 pub tests-none : (place : ℕ) (l : List (List ℕ)) → TestTables (replicate 256 0) (replicate 256 0) place l 0
 tests-none place l = record {
-  starts-are = zeros (partly (λ j. spanFrom place l j .start) (λ j. 0) 0) (λ i k. rw (le-ltb i 0 (omega arith)));
-  lengths-are = zeros (partly (λ j. length (getD l j [])) (λ j. 0) 0) (λ i k. rw (le-ltb i 0 (omega arith)));
+  starts-are = zeros 256 (partly (λ j. spanFrom place l j .start) (λ j. 0) 0) (λ i k. rw (le-ltb i 0 (omega arith)));
+  lengths-are = zeros 256 (partly (λ j. length (getD l j [])) (λ j. 0) 0) (λ i k. rw (le-ltb i 0 (omega arith)));
 }

@@ -12,7 +12,9 @@ use Rattle.sheet.specs.words.Held.{advanced}
 
 -- each command takes a byte at least
 pub wide : (b : ℕ) → 1 ≤ width b
-wide b = one (eqb b 1) _ _ (omega arith) (one (eqb b 2) _ _ (omega arith) (one (eqb b 3) _ _ (omega arith) (one (eqb b 5) _ _ (omega arith) (omega arith))))
+wide b =
+    one (eqb b 1) _ _ (omega arith) (one (eqb b 2) _ _ (omega arith) (one (eqb b 3) _ _ (omega arith)
+    (one (eqb b 5) _ _ (omega arith) (one (eqb b 7) _ _ (omega arith) (omega arith)))))
   where
     one : (p : Bool) (m n : ℕ) → 1 ≤ m → 1 ≤ n → 1 ≤ cond p m n
     one true m n h k = h

@@ -1,4 +1,4 @@
--- Places: where the tests of an accepted sheet stand.
+-- Places: where the parts of an accepted sheet stand.
 use Prim.Native.Nat.{ℕ, suc, _+_, _*_, _-_, _<_, _≤_}
 use mathlib.Core.Path.{_≡_, refl, ap, sym, _∙_}
 use mathlib.Core.Bool.{Bool, true, false}
@@ -19,10 +19,11 @@ use Rattle.sheet.specs.declared.fetch.Taken.the-variants.{Whole, Short, 
 use Rattle.sheet.specs.declared.fetch.Fetched.{Fetched}
 use Rattle.sheet.specs.Sheet.{Sheet}
 use Rattle.sheet.specs.Reading.{width}
-use Rattle.sheet.specs.Encode.{sizeBytes, rowBytes, pressBytes, testBytes, machineBytes, body, encode}
-use Rattle.sheet.specs.laws.PartLaw.{presses-length}
+use Rattle.sheet.specs.Encode.{sizeBytes, rowBytes, operandBytes, startBytes, pressBytes, testBytes, machineBytes, body, encode}
+use Rattle.sheet.specs.laws.InjectiveLaw.{encode-parts}
+use Rattle.sheet.specs.laws.PartLaw.{operands-length, presses-length}
 use Rattle.sheet.specs.words.Fetch.{itemAt, fetchBy, fetchAt, itemIn}
-use Rattle.sheet.specs.words.Places.{Calm, PressesFrom, TestAt, spanFrom}
+use Rattle.sheet.specs.words.Places.{Calm, OperandsFrom, TestAt, spanFrom}
 use Rattle.sheet.proofs.FetchLaw.{WholeAt, fetched-whole}
 
 -- what is fetched where a command stands
@@ -58,33 +59,35 @@ next-by s at h false q e = h
 pub next-in : (s : List ℕ) (at : ℕ) (f : Fetched) → f ≡ fetchAt s at → at ≤ length s → f .next ≤ length s
 next-in s at f e h = rw e (next-by s at h (ltb at (length s)) (leb (at + width (getD s at 0)) (length s)) refl)
 
--- what is left to count
-pub record Left (s xs rest : List ℕ) (n at : ℕ) : Type 0 where
+-- what is left to count of the commands with the byte b and one operand
+pub record Left (s : List ℕ) (b : ℕ) (xs rest : List ℕ) (n at : ℕ) : Type 0 where
   pub more : List ℕ
   pub sum : n + length more ≡ length xs
-  pub bytes : drop at s ≡ pressBytes more ++ rest
+  pub bytes : drop at s ≡ operandBytes b more ++ rest
 
-pub left-start : {s xs rest : List ℕ} (at : ℕ) → drop at s ≡ pressBytes xs ++ rest → Left s xs rest 0 at
+pub left-start : {s xs rest : List ℕ} {b : ℕ} (at : ℕ) → drop at s ≡ operandBytes b xs ++ rest → Left s b xs rest 0 at
 left-start {s} {xs} at e = record { more = xs; sum = omega arith; bytes = e }
 
-module _ (s xs rest : List ℕ) (calm : Calm rest) (n at : ℕ) where
-  onward : (ys : List ℕ) → n + length ys ≡ length xs → drop at s ≡ pressBytes ys ++ rest → getD s at 0 ≡ 5 → Left s xs rest (n + 1) (at + 2)
-  unfolding pressBytes
-  onward [] p b e = absurd (calm (sym (byte-at s at rest b) ∙ e))
-  onward (y ∷ ys) p b e = record { more = ys; sum = omega arith; bytes = sym (drop-drop 2 at s) ∙ ap (λ (l : List ℕ). drop 2 l) b }
+module _ (s : List ℕ) (b : ℕ) (xs rest : List ℕ) (calm : Calm b rest) (n at : ℕ) where
+  onward : (ys : List ℕ) → n + length ys ≡ length xs → drop at s ≡ operandBytes b ys ++ rest → getD s at 0 ≡ b → Left s b xs rest (n + 1) (at + 2)
+  unfolding operandBytes
+  onward [] p d e = absurd (calm (sym (byte-at s at rest d) ∙ e))
+  onward (y ∷ ys) p d e = record { more = ys; sum = omega arith; bytes = sym (drop-drop 2 at s) ∙ ap (λ (l : List ℕ). drop 2 l) d }
 
-  pub left-more : (i : Item) (next : ℕ) → WholeAt s at i next → i .byte ≡ 5 → Left s xs rest n at → Left s xs rest (n + 1) next
-  left-more i next w e h =
-      let b : getD s at 0 ≡ 5 = sym (w .byte) ∙ e in
-      rw (w .next ∙ ap (λ (b : ℕ). at + width b) b) (onward (h .more) (h .sum) (h .bytes) b)
+  pub left-more : (i : Item) (next : ℕ) → WholeAt s at i next → i .byte ≡ b → width b ≡ 2 → Left s b xs rest n at → Left s b xs rest (n + 1) next
+  left-more i next w e two h =
+      let d : getD s at 0 ≡ b = sym (w .byte) ∙ e in
+      rw (w .next ∙ ap (λ (c : ℕ). at + c) (ap width d ∙ two)) (onward (h .more) (h .sum) (h .bytes) d)
 
-  stopped : (ys : List ℕ) → n + length ys ≡ length xs → drop at s ≡ pressBytes ys ++ rest → (itemIn (fetchAt s at .taken) .byte ≡ 5 → ⊥) → n ≡ length xs
-  unfolding pressBytes
-  stopped [] p b other = omega arith
-  stopped (y ∷ ys) p b other = absurd (other (ap (λ (f : Fetched). itemIn (f .taken) .byte) (fetch-there s at 5 (y ∷ (pressBytes ys ++ rest)) b (omega arith))))
+  stopped : (ys : List ℕ) → n + length ys ≡ length xs → drop at s ≡ operandBytes b ys ++ rest → width b ≡ 2 → (itemIn (fetchAt s at .taken) .byte ≡ b → ⊥) → n ≡ length xs
+  unfolding operandBytes
+  stopped [] p d two other = omega arith
+  stopped (y ∷ ys) p d two other =
+      absurd (other (ap (λ (f : Fetched). itemIn (f .taken) .byte) (fetch-there s at b (y ∷ (operandBytes b ys ++ rest)) d (omega arith))))
 
-  pub left-stop : (f : Fetched) (i : Item) → f ≡ fetchAt s at → i ≡ itemIn (f .taken) → (i .byte ≡ 5 → ⊥) → Left s xs rest n at → n ≡ length xs
-  left-stop f i e k other h = stopped (h .more) (h .sum) (h .bytes) (λ q. other (ap (λ (x : Item). x .byte) (k ∙ ap (λ (f : Fetched). itemIn (f .taken)) e) ∙ q))
+  pub left-stop : (f : Fetched) (i : Item) → f ≡ fetchAt s at → i ≡ itemIn (f .taken) → width b ≡ 2 → (i .byte ≡ b → ⊥) → Left s b xs rest n at → n ≡ length xs
+  left-stop f i e k two other h =
+      stopped (h .more) (h .sum) (h .bytes) two (λ q. other (ap (λ (x : Item). x .byte) (k ∙ ap (λ (f : Fetched). itemIn (f .taken)) e) ∙ q))
 
 -- a test: its TEST, then its PRESS commands
 after-test : (s : List ℕ) (at : ℕ) (l : List ℕ) → drop at s ≡ 4 ∷ l → drop (at + 1) s ≡ l
@@ -93,7 +96,7 @@ after-test s at l e = sym (drop-drop 1 at s) ∙ ap (λ (t : List ℕ). drop 1 t
 test-next : (s : List ℕ) (at : ℕ) (l : List ℕ) (f : Fetched) → f ≡ fetchAt s at → drop at s ≡ 4 ∷ l → f .next ≡ at + 1
 test-next s at l f e d = ap (λ (f : Fetched). f .next) (e ∙ fetch-there s at 4 l d (omega arith))
 
-pub test-is : (s : List ℕ) (at n : ℕ) (f : Fetched) → f ≡ fetchAt s at → PressesFrom s (f .next) n → TestAt s at (record { start = f .next; length = 2 * n })
+pub test-is : (s : List ℕ) (at n : ℕ) (f : Fetched) → f ≡ fetchAt s at → OperandsFrom s 5 (f .next) n → TestAt s at (record { start = f .next; length = 2 * n })
 test-is s at n f e p = record {
   within = p .within;
   found = λ xs rest d calm.
@@ -102,10 +105,16 @@ test-is s at n f e p = record {
       rw (p .counted xs rest b calm, a);
 }
 
-pub calm-tests : (l : List (List ℕ)) → Calm (testBytes l ++ 6 ∷ [])
+-- no PRESS and no START stands where tests begin
+pub calm-tests : (l : List (List ℕ)) → Calm 5 (testBytes l ++ 6 ∷ [])
 unfolding testBytes
 calm-tests [] e = omega arith
 calm-tests (xs ∷ l) e = omega arith
+
+pub calm-starts : (l : List (List ℕ)) → Calm 7 (testBytes l ++ 6 ∷ [])
+unfolding testBytes
+calm-starts [] e = omega arith
+calm-starts (xs ∷ l) e = omega arith
 
 -- the tests from the jth on
 split-test : (l : List (List ℕ)) (j : ℕ) → j < length l
@@ -149,7 +158,7 @@ module _ (s : List ℕ) (place : ℕ) (l : List (List ℕ)) (j at : ℕ) (h : j 
             ∙ drop-at (4 ∷ pressBytes (getD l j [])) (testBytes (drop (j + 1) l) ++ 6 ∷ []) (1 + 2 * length (getD l j [])) (omega (arith, presses-length (getD l j []))));
       }
 
--- where the tests start
+-- how long the parts are
 pub row-length : (b : ℕ) (l : List Row) → length (rowBytes b l) ≡ 5 * length l
 unfolding rowBytes
 row-length b [] = refl
@@ -159,12 +168,32 @@ pub size-length : (z : Size) → length (sizeBytes z) ≡ 4
 unfolding sizeBytes
 size-length z = refl
 
-pub machine-length : (sh : Sheet) → length (machineBytes sh) ≡ 4 + 5 * length (sh .rules) + 5 * length (sh .faults)
-unfolding machineBytes
-machine-length sh = simp length-append (omega (arith, size-length (sh .size), row-length 2 (sh .rules), row-length 3 (sh .faults)))
+-- where they start
+module _ (sh : Sheet) where
+  abbrev pub testsOn : List ℕ
+  testsOn = testBytes (sh .tests) ++ 6 ∷ []
 
-pub tests-from : (sh : Sheet) → drop (length (machineBytes sh)) (encode sh) ≡ testBytes (sh .tests) ++ 6 ∷ []
-unfolding encode body
-tests-from sh =
-    ap (drop (length (machineBytes sh))) (append-assoc (machineBytes sh) (testBytes (sh .tests)) (6 ∷ []))
-    ∙ drop-at (machineBytes sh) (testBytes (sh .tests) ++ 6 ∷ []) (length (machineBytes sh)) refl
+  abbrev pub startsOn : List ℕ
+  startsOn = startBytes (sh .starts) ++ testsOn
+
+  pub faults-from : drop (4 + 5 * length (sh .rules)) (encode sh) ≡ rowBytes 3 (sh .faults) ++ startsOn
+  faults-from =
+      rw (encode-parts sh, ← append-assoc (sizeBytes (sh .size)) (rowBytes 2 (sh .rules)) (rowBytes 3 (sh .faults) ++ startsOn))
+      (drop-at (sizeBytes (sh .size) ++ rowBytes 2 (sh .rules)) (rowBytes 3 (sh .faults) ++ startsOn) (4 + 5 * length (sh .rules))
+      (simp length-append (omega (arith, size-length (sh .size), row-length 2 (sh .rules)))))
+
+  pub starts-from : drop (4 + 5 * length (sh .rules) + 5 * length (sh .faults)) (encode sh) ≡ startsOn
+  starts-from =
+      sym (drop-drop (5 * length (sh .faults)) (4 + 5 * length (sh .rules)) (encode sh)) ∙ ap (drop (5 * length (sh .faults))) faults-from
+      ∙ drop-at (rowBytes 3 (sh .faults)) startsOn (5 * length (sh .faults)) (row-length 3 (sh .faults))
+
+  pub tests-from : drop (4 + 5 * length (sh .rules) + 5 * length (sh .faults) + 2 * length (sh .starts)) (encode sh) ≡ testsOn
+  tests-from =
+      sym (drop-drop (2 * length (sh .starts)) (4 + 5 * length (sh .rules) + 5 * length (sh .faults)) (encode sh))
+      ∙ ap (drop (2 * length (sh .starts))) starts-from
+      ∙ drop-at (startBytes (sh .starts)) testsOn (2 * length (sh .starts)) (operands-length 7 (sh .starts))
+
+  pub machine-length : length (machineBytes sh) ≡ 4 + 5 * length (sh .rules) + 5 * length (sh .faults) + 2 * length (sh .starts)
+  unfolding machineBytes
+  machine-length =
+      simp length-append (omega (arith, size-length (sh .size), row-length 2 (sh .rules), row-length 3 (sh .faults), operands-length 7 (sh .starts)))

@@ -16,7 +16,7 @@ use Rattle.sheet.specs.declared.scan.Step.{Step}
 use Rattle.sheet.specs.declared.scan.Done.{Done}
 use Rattle.sheet.specs.declared.scan.Verdict.the-variants.{Go, Stop}
 use Rattle.lists.specs.Lists.{last}
-use Rattle.sheet.specs.Sheet.{Sheet, rowsAt, ruleAt, after, allReached, openPairs}
+use Rattle.sheet.specs.Sheet.{Sheet, rowsAt, ruleAt, after, allReached, openSlots}
 use Rattle.sheet.specs.Reading.{Progress, Reading, accepted, refused, Outcome, go, stop, lastTest, firstBroken, refuseOr, finishing, oneCommand, from, blank, reading, summaryOf}
 use Rattle.sheet.specs.Tables.{readAnswer}
 use Rattle.sheet.specs.words.Held.{placeOf, Holds, Linked, endOf, HeldOf, HeldFor, Meets, Scanned}
@@ -26,6 +26,7 @@ pub fresh-holds : Holds (record {
   size = record { states = 0; inputs = 0; outputs = 0 };
   rules = record { count = 0; key = 0 };
   faults = record { count = 0; key = 0 };
+  starts = 0;
   tests = record { count = 0; inputs = 0; state = 0 };
 }) (replicate 256 255) (replicate 256 255) (replicate 256 0) blank
 unfolding blank rowsAt ruleAt last after lastTest
@@ -52,8 +53,9 @@ fresh-holds = record {
     digits = tt;
     marks = record { size = length-replicate {A = ℕ} 256 0; at = λ s x hs hx. getD-replicate 256 (placeOf s x) 0 0 (omega arith) };
   };
+  starts = record { key = refl; most = omega arith };
   tests = record { count = refl; most = omega arith; inputs = refl; most-inputs = omega arith; state = refl; digit = omega arith };
-  ordered = record { rules = λ _. refl; faults = λ _. refl; tests = λ _. refl; begun = λ k. absurd (omega arith) };
+  ordered = record { rules = λ _. refl; faults = λ _. refl; starts = λ _. refl; tests = λ _. refl; begun = λ k. absurd (omega arith) };
 }
 
 pub linked : {c : State} {os ts ms : List ℕ} {p : Progress} → Holds c os ts ms p → Linked (c .size) ts ms (p .sheet)
@@ -64,7 +66,7 @@ held {p} h = record { progress = p; same = refl; holds = h }
 
 pub finish-held : {c : State} {os ts ms : List ℕ} {p : Progress} (s : List ℕ) (at : ℕ) → Holds c os ts ms p → HeldFor c os ts ms (finishing (p .sheet) s at)
 unfolding finishing firstBroken
-finish-held {c} {os} {ts} {ms} {p} s at h = one (ltb (at + 1) (length s)) (allReached (p .sheet)) (ltb 32 (openPairs (p .sheet)))
+finish-held {c} {os} {ts} {ms} {p} s at h = one (ltb (at + 1) (length s)) (allReached (p .sheet)) (ltb 32 (openSlots (p .sheet)))
   where
     one : (a b d : Bool) → HeldFor c os ts ms (cond a (refused 10 (at + 1)) (refuseOr (cond (not b) 11 (cond d 12 0)) at (accepted (p .sheet))))
     one true b d = tt
@@ -148,7 +150,7 @@ pub answer-accepted : (d : Reading) (r : Done) {os ts ms : List ℕ} (n : ℕ) �
 unfolding summaryOf
 answer-accepted (accepted sh) r n h e =
     let f = h .state .holds in
-    let o : n ≡ openPairs sh = cc (h .end, e) in
+    let o : n ≡ openSlots sh = cc (h .end, e) in
     let z : r .state .size ≡ sh .size = f .size ∙ ap (λ (x : Sheet). x .size) (h .state .same) in
     let a : r .state .rules .count ≡ length (sh .rules) = f .rules .count ∙ ap (λ (x : Sheet). length (x .rules)) (h .state .same) in
     let b : r .state .faults .count ≡ length (sh .faults) = f .faults .count ∙ ap (λ (x : Sheet). length (x .faults)) (h .state .same) in

@@ -19,41 +19,89 @@ use Rattle.sheet.specs.Reading.{Result, Reading, accepted, refused, read
 use Rattle.sheet.specs.Encode.{testBytes, machineBytes, body, encode}
 use Rattle.sheet.specs.Part.{spanOf, spanIn, parting, partOf, LiesIn}
 use Rattle.sheet.specs.Tables.{readAnswer, partAnswer}
-use Rattle.sheet.specs.words.Places.{spanFrom, TestFrom}
+use Rattle.sheet.specs.declared.Row.{Row}
+use Rattle.sheet.specs.declared.Size.{Size}
+use Rattle.sheet.specs.declared.part.Layout.{Layout}
+use Rattle.sheet.specs.WellFormed.{SizeIn, RowIn, WellFormed}
+use Rattle.sheet.specs.words.Held.{Digits}
+use Rattle.sheet.specs.words.Places.{spanFrom, OperandsFrom, TestFrom, Told, LaidOut, sizeIn}
 use Rattle.sheet.specs.laws.EncodedLaw.{encoded}
-use Rattle.sheet.specs.laws.AcceptedLaw.{short-enough}
-use Rattle.sheet.proofs.PlaceLaw.{machine-length, tests-from, tests-suc}
-
--- what an accepted reading tells of the bytes
-pub record Placed (s : List ℕ) (summary : Summary) (sheet : Sheet) : Type 0 where
-  pub is : reading s ≡ accepted sheet
-  pub same : summary ≡ summaryOf sheet
-  pub tests : summary .tests ≡ length (sheet .tests)
-  pub place : 4 + 5 * summary .rules + 5 * summary .faults ≡ length (machineBytes sheet)
-  pub room : 4 + 5 * summary .rules + 5 * summary .faults ≤ length s
-  pub bytes : drop (4 + 5 * summary .rules + 5 * summary .faults) s ≡ testBytes (sheet .tests) ++ 6 ∷ []
-  pub short : length s ≤ 16384
+use Rattle.sheet.specs.laws.AcceptedLaw.{well-formed, short-enough}
+use Rattle.sheet.specs.laws.WakingLaw.{few-starts}
+use Rattle.sheet.proofs.RowTableLaw.{all-map}
+use Rattle.sheet.proofs.PlaceLaw.{calm-starts, testsOn, startsOn, faults-from, starts-from, tests-from, machine-length, tests-suc}
 
 accepted-as : (d : Reading) (summary : Summary) → read.Accepted summary ≡ readAnswer d → (sh : Sheet) × (d ≡ accepted sh) × (summary ≡ summaryOf sh)
 accepted-as (accepted sh) summary e = (sh, refl, cc)
 accepted-as (refused n p) summary e = never (cc)
 
-pub located : (s : List ℕ) (summary : Summary) (sh : Sheet) → reading s ≡ accepted sh → summary ≡ summaryOf sh → Placed s summary sh
-unfolding summaryOf
-located s summary sh e same =
-    let rules : summary .rules ≡ length (sh .rules) = ap (λ (x : Summary). x .rules) same in
-    let faults : summary .faults ≡ length (sh .faults) = ap (λ (x : Summary). x .faults) same in
-    let at : 4 + 5 * summary .rules + 5 * summary .faults ≡ length (machineBytes sh) = omega (arith, machine-length sh) in
-    let bytes : drop (4 + 5 * summary .rules + 5 * summary .faults) s ≡ testBytes (sh .tests) ++ 6 ∷ [] = rw (at, ← encoded s sh e) (tests-from sh) in
-    let k : length s - (4 + 5 * summary .rules + 5 * summary .faults) ≡ length (testBytes (sh .tests)) + 1 =
-    sym (length-drop (4 + 5 * summary .rules + 5 * summary .faults) s) ∙ (ap length bytes ∙ length-append (testBytes (sh .tests)) (6 ∷ [])) in
-    record { is = e; same = same; tests = ap (λ (x : Summary). x .tests) same; place = at; room = omega arith; bytes = bytes; short = short-enough s sh e }
-
-pub placed : (s : List ℕ) (r : ReadAnswer) (summary : Summary) → r ≡ readAnswer (reading s) → r ≡ read.Accepted summary → (sh : Sheet) × Placed s summary sh
-placed s r summary e a = go (accepted-as (reading s) summary (sym a ∙ e))
+-- what an accepted reading tells
+pub told : (s : List ℕ) (r : ReadAnswer) (summary : Summary) → r ≡ readAnswer (reading s) → r ≡ read.Accepted summary → (sh : Sheet) × Told s summary sh
+told s r summary e a = go (accepted-as (reading s) summary (sym a ∙ e))
   where
-    go : (sh : Sheet) × (reading s ≡ accepted sh) × (summary ≡ summaryOf sh) → (sh : Sheet) × Placed s summary sh
-    go t = (t .0, located s summary (t .0) (t .1) (t .2))
+    go : (sh : Sheet) × (reading s ≡ accepted sh) × (summary ≡ summaryOf sh) → (sh : Sheet) × Told s summary sh
+    go t = (t .0, record { is = t .1; same = t .2 })
+
+row-digits : (z : Size) → SizeIn z → (r : Row) → RowIn z r → Digits r
+row-digits z h r i =
+    let a = h .states .few in
+    let b = h .inputs .few in
+    let c = h .outputs .few in
+    record { source = omega (arith, i .source); input = omega (arith, i .input); output = omega (arith, i .output); target = omega (arith, i .target) }
+
+module _ {s : List ℕ} {m : Summary} {sh : Sheet} (h : Told s m sh) where
+  pub rules-are : m .rules ≡ length (sh .rules)
+  unfolding summaryOf
+  rules-are = ap (λ (x : Summary). x .rules) (h .same)
+
+  pub faults-are : m .faults ≡ length (sh .faults)
+  unfolding summaryOf
+  faults-are = ap (λ (x : Summary). x .faults) (h .same)
+
+  pub tests-are : m .tests ≡ length (sh .tests)
+  unfolding summaryOf
+  tests-are = ap (λ (x : Summary). x .tests) (h .same)
+
+  pub size-is : sizeIn m ≡ sh .size
+  unfolding summaryOf
+  size-is = ap sizeIn (h .same)
+
+  pub formed : WellFormed sh
+  formed = well-formed s sh (h .is)
+
+  starts-at : drop (4 + 5 * m .rules + 5 * m .faults) s ≡ startsOn sh
+  starts-at = rw (rules-are, faults-are, ← encoded s sh (h .is)) (starts-from sh)
+
+  -- the STARTs begin within the sheet, which is short
+  pub starts-room : (4 + 5 * m .rules + 5 * m .faults ≤ length s) × (length s ≤ 16384)
+  starts-room =
+      let k : length s - (4 + 5 * m .rules + 5 * m .faults) ≡ length (startsOn sh) = sym (length-drop (4 + 5 * m .rules + 5 * m .faults) s) ∙ ap length starts-at in
+      let some : 1 ≤ length (startsOn sh) = simp length-append (omega arith) in
+      (omega arith, short-enough s sh (h .is))
+
+  pub laid-out : (n : ℕ) → OperandsFrom s 7 (4 + 5 * m .rules + 5 * m .faults) n
+      → LaidOut s sh (record {
+        faults = 4 + 5 * m .rules;
+        starts = 4 + 5 * m .rules + 5 * m .faults;
+        waking = n;
+        tests = 4 + 5 * m .rules + 5 * m .faults + 2 * n;
+      })
+  laid-out n o =
+      let w = formed in
+      let e = encoded s sh (h .is) in
+      let many : n ≡ length (sh .starts) = o .counted (sh .starts) (testsOn sh) starts-at (calm-starts (sh .tests)) in
+      record {
+        faults = record {
+          rest = startsOn sh;
+          bytes = rw (rules-are, ← e) (faults-from sh);
+          digits = all-map (RowIn (sh .size)) Digits (row-digits (sh .size) (w .size)) (sh .faults) (w .faults);
+          few = w .few-faults;
+        };
+        starts = record { rest = testsOn sh; bytes = starts-at; few = few-starts w };
+        waking = many;
+        tests = record { bytes = rw (rules-are, faults-are, many, ← e) (tests-from sh); few = w .few-tests; short = short-enough s sh (h .is) };
+        begin = rw (rules-are, faults-are, many) (sym (machine-length sh));
+      }
 
 pub span-refused : (s : List ℕ) (i : ℕ) (r : ReadAnswer) (number place : ℕ) → r ≡ readAnswer (reading s) → r ≡ read.Refused number place → part.Refused number place ≡ partAnswer (parting s i)
 unfolding parting
@@ -66,22 +114,22 @@ span-refused s i r number place e a = go (reading s) e
         let ep : place ≡ p = cc in
         ap₂ part.Refused en ep
 
-module _ (s : List ℕ) (i : ℕ) (summary : Summary) (sh : Sheet) (p : Placed s summary sh) where
+pub same-span : (s : List ℕ) (i : ℕ) (sh : Sheet) (l : Layout) → LaidOut s sh l → spanFrom (l .tests) (sh .tests) i ≡ spanOf sh i
+unfolding spanOf
+same-span s i sh l p =
+    ap (λ (n : ℕ). record { start = n; length = 2 * length (getD (sh .tests) i []) })
+    (simp length-append (omega (arith, p .begin)))
+
+module _ (s : List ℕ) (i : ℕ) (summary : Summary) (sh : Sheet) (t : Told s summary sh) where
   pub span-none : summary .tests ≤ i → part.Refused 17 0 ≡ partAnswer (parting s i)
   unfolding parting
-  span-none h = rw (p .is, le-leb (length (sh .tests)) i (omega (arith, p .tests)))
+  span-none h = rw (t .is, le-leb (length (sh .tests)) i (omega (arith, tests-are t)))
 
-  pub same-span : spanFrom (4 + 5 * summary .rules + 5 * summary .faults) (sh .tests) i ≡ spanOf sh i
-  unfolding spanOf
-  same-span =
-      ap (λ (n : ℕ). record { start = n; length = 2 * length (getD (sh .tests) i []) })
-      (simp length-append (omega (arith, p .place)))
-
-  pub span-is : i < summary .tests → (r : Span) → TestFrom s (4 + 5 * summary .rules + 5 * summary .faults) i r → part.At r ≡ partAnswer (parting s i)
+  pub span-is : i < summary .tests → (l : Layout) → LaidOut s sh l → (r : Span) → TestFrom s (l .tests) i r → part.At r ≡ partAnswer (parting s i)
   unfolding parting
-  span-is h r t =
-      rw (p .is, lt-leb (length (sh .tests)) i (omega (arith, p .tests)))
-      (ap (λ (x : Span). part.At x) (t .found (sh .tests) (p .bytes) (omega (arith, p .tests)) ∙ same-span))
+  span-is h l p r f =
+      rw (t .is, lt-leb (length (sh .tests)) i (omega (arith, tests-are t)))
+      (ap (λ (x : Span). part.At x) (f .found (sh .tests) (p .tests .bytes) (omega (arith, tests-are t)) ∙ same-span s i sh l p))
 
 -- the tests before the end take no more bytes than all
 tests-take : (l : List (List ℕ)) (k : ℕ) → length (testBytes (take k l)) ≤ length (testBytes l)

@@ -1,12 +1,14 @@
 -- The whole state after a command.
 use Prim.Native.Nat.{ℕ, zero, suc, _+_, _<_, _≤_}
-use mathlib.Core.Path.{_≡_, refl, ap}
+use mathlib.Core.Path.{_≡_, refl, ap, sym, _∙_}
 use mathlib.Core.Bool.{Bool, true, false}
+use mathlib.Core.Option.{Option, none, some}
 use mathlib.Core.List.{List, [], _∷_, _++_}
+use native.Mathlib.Numerals.{add-one}
 use native.Mathlib.Omega.{arith}
-use lib.Dec.{leb}
+use lib.Dec.{leb, ltb}
 use lib.ListN.{length}
-use borrow.Author.Tests.{le-leb, lt-leb, leb-true, leb-false, ne-eqb}
+use borrow.Author.Tests.{le-leb, lt-leb, le-ltb, lt-ltb, leb-true, leb-false, eq-eqb, ne-eqb}
 use Rattle.sheet.specs.declared.Row.{Row}
 use Rattle.sheet.specs.declared.Size.{Size}
 use Rattle.sheet.specs.declared.rules.Ruled.{Ruled}
@@ -14,12 +16,13 @@ use Rattle.sheet.specs.declared.rules.Faulted.{Faulted}
 use Rattle.sheet.specs.declared.rules.Pressed.{Pressed}
 use Rattle.sheet.specs.declared.rules.Tests.{Tests}
 use Rattle.sheet.specs.declared.rules.State.{State}
-use Rattle.lists.specs.Lists.{last}
+use Rattle.lists.specs.Lists.{maybe, last}
 use Rattle.sheet.specs.Sheet.{after}
-use Rattle.sheet.specs.Reading.{Progress, size, rule, fault, test, press, inOneTo16, sizeInRange, allowed, lastTest, firstBroken, refusal, advance}
+use Rattle.sheet.specs.Reading.{Progress, size, rule, fault, start, test, press, inOneTo16, sizeInRange, allowed, rises, lastTest, firstBroken, refusal, advance}
 use Rattle.lists.specs.laws.TestLaw.{both, never}
 use Rattle.sheet.specs.laws.PhaseLaw.{press-length}
-use Rattle.sheet.specs.words.Held.{TestsHold, RuleMeets, FaultMeets, PressMeets, Holds, Applies}
+use Rattle.sheet.specs.laws.RowLaw.{last-snoc}
+use Rattle.sheet.specs.words.Held.{nextKey, TestsHold, RuleMeets, FaultMeets, PressMeets, Holds, Applies}
 use Rattle.sheet.proofs.RowTableLaw.{length-snoc}
 use Rattle.sheet.proofs.PressLaw.{lastTest-snoc}
 
@@ -35,6 +38,24 @@ untested {t} {rs} {l} qs e h = record {
   state = rw e (rw e at (h .state));
 }
 
+-- a START's state rises exactly if it is not below the next one
+module _ (l : List ℕ) (t : ℕ) where
+  rises-true : nextKey (λ s. s) (last l) ≤ t → rises l t ≡ true
+  unfolding rises
+  rises-true h = go (last l) h
+    where
+      go : (o : Option ℕ) → nextKey (λ s. s) o ≤ t → maybe o true (λ s. ltb s t) ≡ true
+      go none k = refl
+      go (some s) k = lt-ltb s t k
+
+  rises-false : t < nextKey (λ s. s) (last l) → rises l t ≡ false
+  unfolding rises
+  rises-false h = go (last l) h
+    where
+      go : (o : Option ℕ) → t < nextKey (λ s. s) o → maybe o true (λ s. ltb s t) ≡ false
+      go none k = absurd (omega arith)
+      go (some s) k = le-ltb s t (omega arith)
+
 at-most-16 : (n : ℕ) → inOneTo16 n ≡ true → n ≤ 16
 at-most-16 n e = leb-true _ _ (both (leb 1 n) (leb n 16) e .1)
 
@@ -49,18 +70,21 @@ module _ (phase b : ℕ) where
   pub allowed-fault : b ≡ 3 → allowed phase b ≡ true → phase ≤ 3
   allowed-fault e h = leb-true phase 3 (both (leb 1 phase) (leb phase 3) (rw e at h) .1)
 
-  pub allowed-press : b ≡ 5 → allowed phase b ≡ true → 4 ≤ phase
-  allowed-press e h = leb-true 4 phase (both (leb 4 phase) (leb phase 4) (rw e at h) .0)
+  pub allowed-press : b ≡ 5 → allowed phase b ≡ true → 5 ≤ phase
+  allowed-press e h = leb-true 5 phase (both (leb 5 phase) (leb phase 5) (rw e at h) .0)
 
--- a command byte that may stand somewhere is one of the six
-pub known : (phase b : ℕ) → allowed phase b ≡ true → (1 ≤ b) × (b ≤ 6)
+  pub allowed-start : b ≡ 7 → allowed phase b ≡ true → phase ≤ 4
+  allowed-start e h = leb-true phase 4 (both (leb 1 phase) (leb phase 4) (rw e at h) .1)
+
+-- a command byte that may stand somewhere is one of the seven
+pub known : (phase b : ℕ) → allowed phase b ≡ true → (1 ≤ b) × (b ≤ 7)
 known phase zero h = never (cc)
-known phase (suc b) h = (omega arith, top (leb (suc b) 6) refl)
+known phase (suc b) h = (omega arith, top (leb (suc b) 7) refl)
   where
-    top : (t : Bool) → leb (suc b) 6 ≡ t → suc b ≤ 6
-    top true e = leb-true (suc b) 6 e
+    top : (t : Bool) → leb (suc b) 7 ≡ t → suc b ≤ 7
+    top true e = leb-true (suc b) 7 e
     top false e =
-        let k = leb-false (suc b) 6 e in
+        let k = leb-false (suc b) 7 e in
         let no : allowed phase (suc b) ≡ false = simp (
           ne-eqb (suc b) 1 (λ q. omega arith),
           ne-eqb (suc b) 2 (λ q. omega arith),
@@ -68,12 +92,23 @@ known phase (suc b) h = (omega arith, top (leb (suc b) 6) refl)
           ne-eqb (suc b) 4 (λ q. omega arith),
           ne-eqb (suc b) 5 (λ q. omega arith),
           ne-eqb (suc b) 6 (λ q. omega arith),
+          ne-eqb (suc b) 7 (λ q. omega arith),
         ) in
         never (cc)
 
+-- a byte that is none of the others is that of START
+above : (b n : ℕ) → n ≤ b → (b ≡ n → ⊥) → suc n ≤ b
+above b n h k = omega arith
+
+same : (b n : ℕ) → n ≤ b → b ≤ n → b ≡ n
+same b n h k = omega arith
+
+pub start-left : (b : ℕ) → (1 ≤ b) × (b ≤ 7) × (b ≡ 6 → ⊥) → (b ≡ 1 → ⊥) → (b ≡ 2 → ⊥) → (b ≡ 3 → ⊥) → (b ≡ 4 → ⊥) → (b ≡ 5 → ⊥) → b ≡ 7
+start-left b h k₁ k₂ k₃ k₄ k₅ = same b 7 (above b 6 (above b 5 (above b 4 (above b 3 (above b 2 (above b 1 (h .0) k₁) k₂) k₃) k₄) k₅) (h .2)) (h .1)
+
 module _ (c : State) (os ts ms : List ℕ) (p : Progress) (h : Holds c os ts ms p) where
   pub state-rule : (row : Row) (a : Ruled) (os' ts' : List ℕ) → p .phase ≤ 2 → RuleMeets (p .sheet) row a os' ts'
-      → Applies p 2 (rule row) (record { number = a .number; state = record { phase = 2; size = c .size; rules = a .rules; faults = c .faults; tests = c .tests } }) os' ts' ms
+      → Applies p 2 (rule row) (record { number = a .number; state = record { phase = 2; size = c .size; rules = a .rules; faults = c .faults; starts = c .starts; tests = c .tests } }) os' ts' ms
   unfolding advance
   state-rule row a os' ts' o m = record {
     number = m .number;
@@ -83,10 +118,12 @@ module _ (c : State) (os ts ms : List ℕ) (p : Progress) (h : Holds c os ts ms 
       bounds = h .bounds;
       rules = m .rules q;
       faults = h .faults;
+      starts = h .starts;
       tests = untested (p .sheet .rules ++ row ∷ []) (h .ordered .tests (omega arith)) (h .tests);
       ordered = record {
         rules = λ k. absurd (omega arith);
         faults = λ _. h .ordered .faults o;
+        starts = λ _. h .ordered .starts (omega arith);
         tests = λ _. h .ordered .tests (omega arith);
         begun = λ k. absurd (omega arith);
       };
@@ -94,7 +131,7 @@ module _ (c : State) (os ts ms : List ℕ) (p : Progress) (h : Holds c os ts ms 
   }
 
   pub state-fault : (row : Row) (a : Faulted) (ms' : List ℕ) → p .phase ≤ 3 → FaultMeets (p .sheet) row a ms'
-      → Applies p 3 (fault row) (record { number = a .number; state = record { phase = 3; size = c .size; rules = c .rules; faults = a .faults; tests = c .tests } }) os ts ms'
+      → Applies p 3 (fault row) (record { number = a .number; state = record { phase = 3; size = c .size; rules = c .rules; faults = a .faults; starts = c .starts; tests = c .tests } }) os ts ms'
   unfolding advance
   state-fault row a ms' o m = record {
     number = m .number;
@@ -104,18 +141,68 @@ module _ (c : State) (os ts ms : List ℕ) (p : Progress) (h : Holds c os ts ms 
       bounds = h .bounds;
       rules = h .rules;
       faults = m .faults q;
+      starts = h .starts;
       tests = h .tests;
       ordered = record {
         rules = λ k. absurd (omega arith);
         faults = λ k. absurd (omega arith);
+        starts = λ _. h .ordered .starts o;
+        tests = λ _. h .ordered .tests (omega arith);
+        begun = λ k. absurd (omega arith);
+      };
+    };
+  }
+
+  pub state-start : (t : ℕ) → p .phase ≤ 4 → t < c .size .states → c .starts ≤ t → (t ≡ 0 → ⊥)
+      → Applies p 7 (start t) (record { number = 0; state = record { phase = 4; size = c .size; rules = c .rules; faults = c .faults; starts = t + 1; tests = c .tests } }) os ts ms
+  unfolding refusal firstBroken advance
+  state-start t o m k n = record {
+    number = simp (lt-leb (p .sheet .size .states) t (rw (← h .size) m), rises-true (p .sheet .starts) t (omega (arith, h .starts .key)), ne-eqb t 0 n);
+    state = λ q. record {
+      phase = refl;
+      size = h .size;
+      bounds = h .bounds;
+      rules = h .rules;
+      faults = h .faults;
+      starts = record {
+        key = add-one t ∙ sym (ap (nextKey (λ s. s)) (last-snoc (p .sheet .starts) t));
+        most = omega (arith, h .bounds .states);
+      };
+      tests = h .tests;
+      ordered = record {
+        rules = λ k. absurd (omega arith);
+        faults = λ k. absurd (omega arith);
+        starts = λ k. absurd (omega arith);
         tests = λ _. h .ordered .tests o;
         begun = λ k. absurd (omega arith);
       };
     };
   }
 
-  pub state-press : (x : ℕ) (a : Pressed) → 4 ≤ p .phase → PressMeets (p .sheet) x a
-      → Applies p 5 (press x) (record { number = a .number; state = record { phase = 4; size = c .size; rules = c .rules; faults = c .faults; tests = a .tests } }) os ts ms
+  -- 5, 6 or 7
+  pub state-outside : (t : ℕ) → c .size .states ≤ t → Applies p 7 (start t) (record { number = 5; state = c }) os ts ms
+  unfolding refusal firstBroken
+  state-outside t m = record {
+    number = simp (le-leb (p .sheet .size .states) t (rw (← h .size) m));
+    state = λ q. let w : _≡_ {A = ℕ} 5 0 = q in absurd (omega arith);
+  }
+
+  pub state-unordered : (t : ℕ) → t < c .size .states → t < c .starts → Applies p 7 (start t) (record { number = 6; state = c }) os ts ms
+  unfolding refusal firstBroken
+  state-unordered t m k = record {
+    number = simp (lt-leb (p .sheet .size .states) t (rw (← h .size) m), rises-false (p .sheet .starts) t (omega (arith, h .starts .key)));
+    state = λ q. let w : _≡_ {A = ℕ} 6 0 = q in absurd (omega arith);
+  }
+
+  pub state-awake : (t : ℕ) → t < c .size .states → c .starts ≤ t → t ≡ 0 → Applies p 7 (start t) (record { number = 7; state = c }) os ts ms
+  unfolding refusal firstBroken
+  state-awake t m k e = record {
+    number = simp (lt-leb (p .sheet .size .states) t (rw (← h .size) m), rises-true (p .sheet .starts) t (omega (arith, h .starts .key)), eq-eqb t 0 e);
+    state = λ q. let w : _≡_ {A = ℕ} 7 0 = q in absurd (omega arith);
+  }
+
+  pub state-press : (x : ℕ) (a : Pressed) → 5 ≤ p .phase → PressMeets (p .sheet) x a
+      → Applies p 5 (press x) (record { number = a .number; state = record { phase = 5; size = c .size; rules = c .rules; faults = c .faults; starts = c .starts; tests = a .tests } }) os ts ms
   unfolding advance
   state-press x a o m = record {
     number = m .number;
@@ -125,10 +212,12 @@ module _ (c : State) (os ts ms : List ℕ) (p : Progress) (h : Holds c os ts ms 
       bounds = h .bounds;
       rules = h .rules;
       faults = h .faults;
+      starts = h .starts;
       tests = m .tests q;
       ordered = record {
         rules = λ k. absurd (omega arith);
         faults = λ k. absurd (omega arith);
+        starts = λ k. absurd (omega arith);
         tests = λ k. absurd (omega arith);
         begun = λ k. rw (press-length (p .sheet .tests) x) (h .ordered .begun o);
       };
@@ -139,10 +228,11 @@ module _ (c : State) (os ts ms : List ℕ) (p : Progress) (h : Holds c os ts ms 
       → Applies p 4 test (record {
         number = 0;
         state = record {
-          phase = 4;
+          phase = 5;
           size = c .size;
           rules = c .rules;
           faults = c .faults;
+          starts = c .starts;
           tests = record { count = c .tests .count + 1; inputs = 0; state = 0 };
         };
       }) os ts ms
@@ -155,6 +245,7 @@ module _ (c : State) (os ts ms : List ℕ) (p : Progress) (h : Holds c os ts ms 
       bounds = h .bounds;
       rules = h .rules;
       faults = h .faults;
+      starts = h .starts;
       tests = record {
         count = rw (length-snoc (p .sheet .tests) []) (ap (λ (n : ℕ). n + 1) (h .tests .count));
         most = omega arith;
@@ -166,6 +257,7 @@ module _ (c : State) (os ts ms : List ℕ) (p : Progress) (h : Holds c os ts ms 
       ordered = record {
         rules = λ k. absurd (omega arith);
         faults = λ k. absurd (omega arith);
+        starts = λ k. absurd (omega arith);
         tests = λ k. absurd (omega arith);
         begun = λ k. rw (length-snoc (p .sheet .tests) []) (omega arith);
       };
@@ -180,7 +272,7 @@ module _ (c : State) (os ts ms : List ℕ) (p : Progress) (h : Holds c os ts ms 
   }
 
   pub state-size : (z : Size) → p .phase ≡ 0 → inOneTo16 (z .states) ≡ true → inOneTo16 (z .inputs) ≡ true → inOneTo16 (z .outputs) ≡ true
-      → Applies p 1 (size z) (record { number = 0; state = record { phase = 1; size = z; rules = c .rules; faults = c .faults; tests = c .tests } }) os ts ms
+      → Applies p 1 (size z) (record { number = 0; state = record { phase = 1; size = z; rules = c .rules; faults = c .faults; starts = c .starts; tests = c .tests } }) os ts ms
   unfolding refusal firstBroken advance
   state-size z o en ek em = record {
     number = simp (en, ek, em);
@@ -190,10 +282,12 @@ module _ (c : State) (os ts ms : List ℕ) (p : Progress) (h : Holds c os ts ms 
       bounds = record { states = at-most-16 (z .states) en; inputs = at-most-16 (z .inputs) ek; outputs = at-most-16 (z .outputs) em };
       rules = h .rules;
       faults = h .faults;
+      starts = h .starts;
       tests = h .tests;
       ordered = record {
         rules = λ _. h .ordered .rules (omega arith);
         faults = λ _. h .ordered .faults (omega arith);
+        starts = λ _. h .ordered .starts (omega arith);
         tests = λ _. h .ordered .tests (omega arith);
         begun = λ k. absurd (omega arith);
       };

@@ -10,9 +10,17 @@ unfoldable pub rowBytes : ℕ → List Row → List ℕ
 rowBytes b [] = []
 rowBytes b (r ∷ rs) = b ∷ r .source ∷ r .input ∷ r .output ∷ r .target ∷ rowBytes b rs
 
-unfoldable pub pressBytes : List ℕ → List ℕ
-pressBytes [] = []
-pressBytes (x ∷ xs) = 5 ∷ x ∷ pressBytes xs
+-- a command with one operand for each number
+unfoldable pub operandBytes : ℕ → List ℕ → List ℕ
+operandBytes b [] = []
+operandBytes b (x ∷ xs) = b ∷ x ∷ operandBytes b xs
+
+-- a START for each state, a PRESS for each input
+abbrev pub startBytes : List ℕ → List ℕ
+startBytes ts = operandBytes 7 ts
+
+abbrev pub pressBytes : List ℕ → List ℕ
+pressBytes xs = operandBytes 5 xs
 
 unfoldable pub testBytes : List (List ℕ) → List ℕ
 testBytes [] = []
@@ -23,7 +31,7 @@ sizeBytes z = 1 ∷ z .states ∷ z .inputs ∷ z .outputs ∷ []
 
 -- all before the tests
 unfoldable pub machineBytes : Sheet → List ℕ
-machineBytes sh = sizeBytes (sh .size) ++ (rowBytes 2 (sh .rules) ++ rowBytes 3 (sh .faults))
+machineBytes sh = sizeBytes (sh .size) ++ (rowBytes 2 (sh .rules) ++ (rowBytes 3 (sh .faults) ++ startBytes (sh .starts)))
 
 -- all but the END
 unfoldable pub body : Sheet → List ℕ

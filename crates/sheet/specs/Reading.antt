@@ -9,7 +9,7 @@ use Rattle.sheet.specs.declared.Row.{Row}
 use Rattle.sheet.specs.declared.Size.{Size}
 use Rattle.sheet.specs.declared.Summary.{Summary}
 use Rattle.lists.specs.Lists.{maybe, isNone, last, precedes}
-use Rattle.sheet.specs.Sheet.{Sheet, pairOf, rowOf, ruleAt, after, allReached, openPairs}
+use Rattle.sheet.specs.Sheet.{Sheet, pairOf, rowOf, ruleAt, after, allReached, openSlots}
 
 -- an answer, or a refusal's number and place
 pub data Result (A : Type 0) : Type 0 where
@@ -23,6 +23,7 @@ pub data Command : Type 0 where
   size : Size → Command
   rule : Row → Command
   fault : Row → Command
+  start : ℕ → Command
   test : Command
   press : ℕ → Command
   end : Command
@@ -40,17 +41,20 @@ ruled = 2
 abbrev pub faulted : ℕ
 faulted = 3
 
+abbrev pub started : ℕ
+started = 4
+
 abbrev pub testing : ℕ
-testing = 4
+testing = 5
 
 -- the phase that a command but END leads to, by its byte
 abbrev pub phaseAfter : ℕ → ℕ
-phaseAfter b = cond (eqb b 1) sized (cond (eqb b 2) ruled (cond (eqb b 3) faulted testing))
+phaseAfter b = cond (eqb b 1) sized (cond (eqb b 2) ruled (cond (eqb b 3) faulted (cond (eqb b 7) started testing)))
 
 abbrev pub during : ℕ → ℕ → ℕ → Bool
 during earliest latest phase = leb earliest phase && leb phase latest
 
--- one SIZE, RULEs, FAULTs, tests (a TEST with its PRESSes), one END: the phases in which a command byte may stand
+-- one SIZE, RULEs, FAULTs, STARTs, tests (a TEST with its PRESSes), one END: the phases in which a command byte may stand
 abbrev pub allowed : ℕ → ℕ → Bool
 allowed phase b =
     cond (eqb b 1) (during unsized unsized phase)
@@ -59,11 +63,12 @@ allowed phase b =
     (cond (eqb b 4) (during sized testing phase)
     (cond (eqb b 5) (during testing testing phase)
     (cond (eqb b 6) (during sized testing phase)
-    false)))))
+    (cond (eqb b 7) (during sized started phase)
+    false))))))
 
 -- a command's bytes, its own byte among them
 abbrev pub width : ℕ → ℕ
-width b = cond (eqb b 1) 4 (cond (eqb b 2) 5 (cond (eqb b 3) 5 (cond (eqb b 5) 2 1)))
+width b = cond (eqb b 1) 4 (cond (eqb b 2) 5 (cond (eqb b 3) 5 (cond (eqb b 5) 2 (cond (eqb b 7) 2 1))))
 
 abbrev pub rowAt : List ℕ → ℕ → Row
 rowAt s at =
@@ -80,7 +85,8 @@ commandOf b s at =
     (cond (eqb b 3) (fault (rowAt s at))
     (cond (eqb b 4) test
     (cond (eqb b 5) (press (getD s (at + 1) 0))
-    end))))
+    (cond (eqb b 7) (start (getD s (at + 1) 0))
+    end)))))
 
 -- of tests in order, each with its number, the number of the first that is true; 0 for none
 unfoldable pub firstBroken : List (Bool × ℕ) → ℕ
@@ -100,6 +106,10 @@ inRange z r =
 -- the row stands after the last of the rows
 unfoldable pub ascends : (Row → List ℕ) → List Row → Row → Bool
 ascends key rows r = maybe (last rows) true (λ q. precedes (key q) (key r))
+
+-- the state stands after the last of the states
+unfoldable pub rises : List ℕ → ℕ → Bool
+rises starts t = maybe (last starts) true (λ s. ltb s t)
 
 -- the RULE is there and is another
 abbrev pub isOther : Option Row → Row → Bool
@@ -124,6 +134,8 @@ refusal sh (fault r) =
     ∷ (not (isOther (ruleAt (sh .rules) (r .source) (r .input)) r), 7)
     ∷ (leb 256 (length (sh .faults)), 8)
     ∷ [])
+refusal sh (start t) =
+    firstBroken ((leb (sh .size .states) t, 5) ∷ (not (rises (sh .starts) t), 6) ∷ (eqb t 0, 7) ∷ [])
 refusal sh test = firstBroken ((leb 256 (length (sh .tests)), 8) ∷ [])
 refusal sh (press x) =
     firstBroken
@@ -141,22 +153,26 @@ addPress (xs ∷ ys ∷ l) x = xs ∷ addPress (ys ∷ l) x
 
 -- the sheet with a part replaced
 abbrev pub withSize : Sheet → Size → Sheet
-withSize sh z = record { size = z; rules = sh .rules; faults = sh .faults; tests = sh .tests }
+withSize sh z = record { size = z; rules = sh .rules; faults = sh .faults; starts = sh .starts; tests = sh .tests }
 
 abbrev pub withRules : Sheet → List Row → Sheet
-withRules sh rules = record { size = sh .size; rules = rules; faults = sh .faults; tests = sh .tests }
+withRules sh rules = record { size = sh .size; rules = rules; faults = sh .faults; starts = sh .starts; tests = sh .tests }
 
 abbrev pub withFaults : Sheet → List Row → Sheet
-withFaults sh faults = record { size = sh .size; rules = sh .rules; faults = faults; tests = sh .tests }
+withFaults sh faults = record { size = sh .size; rules = sh .rules; faults = faults; starts = sh .starts; tests = sh .tests }
+
+abbrev pub withStarts : Sheet → List ℕ → Sheet
+withStarts sh starts = record { size = sh .size; rules = sh .rules; faults = sh .faults; starts = starts; tests = sh .tests }
 
 abbrev pub withTests : Sheet → List (List ℕ) → Sheet
-withTests sh tests = record { size = sh .size; rules = sh .rules; faults = sh .faults; tests = tests }
+withTests sh tests = record { size = sh .size; rules = sh .rules; faults = sh .faults; starts = sh .starts; tests = tests }
 
 -- the sheet with one command more
 unfoldable pub advance : Sheet → Command → Sheet
 advance sh (size z) = withSize sh z
 advance sh (rule r) = withRules sh (sh .rules ++ r ∷ [])
 advance sh (fault r) = withFaults sh (sh .faults ++ r ∷ [])
+advance sh (start t) = withStarts sh (sh .starts ++ t ∷ [])
 advance sh test = withTests sh (sh .tests ++ [] ∷ [])
 advance sh (press x) = withTests sh (addPress (sh .tests) x)
 advance sh end = sh
@@ -174,11 +190,11 @@ pub data Outcome : Type 0 where
 abbrev pub refuseOr : ℕ → ℕ → Reading → Reading
 refuseOr number at r = cond (eqb number 0) r (refused number at)
 
--- at END: nothing may follow, every state is reached, at most 32 pairs are open
+-- at END: nothing may follow, every state is reached, at most 32 pairs are open (02: where a board wakes counts as one)
 unfoldable pub finishing : Sheet → List ℕ → ℕ → Reading
 finishing sh s at =
     cond (ltb (at + 1) (length s)) (refused 10 (at + 1))
-    (refuseOr (firstBroken ((not (allReached sh), 11) ∷ (ltb 32 (openPairs sh), 12) ∷ [])) at (accepted sh))
+    (refuseOr (firstBroken ((not (allReached sh), 11) ∷ (ltb 32 (openSlots sh), 12) ∷ [])) at (accepted sh))
 
 -- a command whose byte may stand here and whose operands are there
 unfoldable pub doing : Progress → List ℕ → ℕ → ℕ → Outcome
@@ -210,7 +226,7 @@ unfoldable pub blank : Progress
 blank =
     record {
       phase = unsized;
-      sheet = record { size = record { states = 0; inputs = 0; outputs = 0 }; rules = []; faults = []; tests = [] };
+      sheet = record { size = record { states = 0; inputs = 0; outputs = 0 }; rules = []; faults = []; starts = []; tests = [] };
     }
 
 -- 01's Read: 1 before all else, then command by command
@@ -227,5 +243,5 @@ summaryOf sh =
       rules = length (sh .rules);
       faults = length (sh .faults);
       tests = length (sh .tests);
-      suspects = openPairs sh;
+      suspects = openSlots sh;
     }

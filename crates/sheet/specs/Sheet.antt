@@ -1,4 +1,4 @@
--- The sheet: a specified machine, its possible faults, a test suite; and what can be asked of its rules.
+-- The sheet: a specified machine, its possible faults, the states a mutant may wake in, a test suite; and what can be asked of its rules.
 use Prim.Native.Nat.{ℕ, zero, suc, _+_, _*_}
 use mathlib.Core.Bool.{Bool, false, _&&_, _||_, cond}
 use mathlib.Core.Option.{Option, none, some}
@@ -13,6 +13,7 @@ pub record Sheet : Type 0 where
   pub size : Size
   pub rules : List Row
   pub faults : List Row
+  pub starts : List ℕ
   pub tests : List (List ℕ)
 
 -- by these RULEs and FAULTs ascend
@@ -74,3 +75,19 @@ openBelow sh (suc s) = openBelow sh s + count (isOpen sh s) (sh .size .inputs)
 -- the number of open pairs
 unfoldable pub openPairs : Sheet → ℕ
 openPairs sh = openBelow sh (sh .size .states)
+
+-- the states in which a mutant may wake, in 02's order of choices: state 0, then the STARTs
+unfoldable pub wakings : Sheet → List ℕ
+wakings sh = 0 ∷ sh .starts
+
+-- how many choices a mutant has for them
+unfoldable pub wakingChoices : Sheet → ℕ
+wakingChoices sh = length (wakings sh)
+
+-- 1 if there is a choice among them, as it counts like an open pair
+unfoldable pub wakingSlots : Sheet → ℕ
+wakingSlots sh = cond (ltb 1 (wakingChoices sh)) 1 0
+
+-- how many choices make up a mutant: where it wakes, if there is a choice, and the open pairs
+unfoldable pub openSlots : Sheet → ℕ
+openSlots sh = wakingSlots sh + openPairs sh

@@ -14,7 +14,7 @@ use Rattle.sheet.specs.declared.Span.{Span}
 use Rattle.sheet.specs.declared.Tables.{Tables}
 use Rattle.sheet.specs.declared.Loaded.{Loaded}
 use Rattle.lists.specs.Lists.{maybe, isNone, first, upTo}
-use Rattle.sheet.specs.Sheet.{Sheet, isAt, rowsAt, ruleAt, choicesAt}
+use Rattle.sheet.specs.Sheet.{Sheet, isAt, rowsAt, ruleAt, choicesAt, wakings, wakingChoices}
 use Rattle.sheet.specs.Reading.{Result, accepted, refused, Reading, summaryOf}
 use Rattle.sheet.specs.Part.{spanOf}
 
@@ -51,7 +51,8 @@ firstFault faults s x = cond (isNone (first (rowsAt faults s x))) 0 (firstAt fau
 abbrev pub noRow : Row
 noRow = record { source = 0; input = 0; output = 0; target = 0 }
 
--- by pair for every state and input below 16, also beyond the sheet's own; by fault and by test, with 0 past the last
+-- by pair for every state and input below 16, also beyond the sheet's own; by fault, by choice of a waking state and by test, with 0
+-- past the last; and how many waking states there are
 unfoldable pub tablesOf : Sheet → Tables
 tablesOf sh =
     record {
@@ -61,6 +62,8 @@ tablesOf sh =
       first = byPair (firstFault (sh .faults));
       mutated = table (λ i. getD (sh .faults) i noRow .output);
       diverted = table (λ i. getD (sh .faults) i noRow .target);
+      wakings = map (λ i. getD (wakings sh) i 0) (upTo 16);
+      waking = wakingChoices sh;
       starts = table (λ i. cond (ltb i (length (sh .tests))) (spanOf sh i .start) 0);
       lengths = table (λ i. length (getD (sh .tests) i []));
     }
@@ -75,6 +78,8 @@ blankTables =
       first = replicate 256 0;
       mutated = replicate 256 0;
       diverted = replicate 256 0;
+      wakings = replicate 16 0;
+      waking = 0;
       starts = replicate 256 0;
       lengths = replicate 256 0;
     }

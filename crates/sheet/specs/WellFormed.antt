@@ -7,7 +7,7 @@ use lib.ListN.{length}
 use Rattle.sheet.specs.declared.Row.{Row}
 use Rattle.sheet.specs.declared.Size.{Size}
 use Rattle.lists.specs.Lists.{All, Ascending, Before}
-use Rattle.sheet.specs.Sheet.{Sheet, pairOf, rowOf, ruleAt, after, openPairs}
+use Rattle.sheet.specs.Sheet.{Sheet, pairOf, rowOf, ruleAt, after, openSlots}
 
 pub record OneTo16 (n : ℕ) : Type 0 where
   pub some : 1 ≤ n
@@ -30,6 +30,11 @@ pub record Mutates (rules : List Row) (r : Row) : Type 0 where
   pub there : ruleAt rules (r .source) (r .input) ≡ some rule
   pub other : r ≡ rule → ⊥
 
+-- a waking state is a state other than 0
+pub record StartIn (z : Size) (t : ℕ) : Type 0 where
+  pub some : 1 ≤ t
+  pub inside : t < z .states
+
 -- a test is a defined sequence of at most 256 inputs
 pub record TestIn (rules : List Row) (xs : List ℕ) : Type 0 where
   pub reached : ℕ
@@ -49,7 +54,9 @@ pub record WellFormed (sh : Sheet) : Type 0 where
   pub faults-ascend : Ascending (λ q r. Before (rowOf q) (rowOf r)) (sh .faults)
   pub faults-mutate : All (Mutates (sh .rules)) (sh .faults)
   pub few-faults : length (sh .faults) ≤ 256
+  pub starts : All (StartIn (sh .size)) (sh .starts)
+  pub starts-ascend : Ascending _<_ (sh .starts)
   pub few-tests : length (sh .tests) ≤ 256
   pub tests : All (TestIn (sh .rules)) (sh .tests)
   pub reached : (t : ℕ) → t < sh .size .states → Reachable sh t
-  pub few-open : openPairs sh ≤ 32
+  pub few-open : openSlots sh ≤ 32

@@ -13,3 +13,4 @@ pub mod RefusalLaw
 pub mod ProgressLaw
 pub mod AcceptsLaw
 pub mod TablesLaw
+pub mod WakingLaw

@@ -49,6 +49,9 @@ fn width_of(byte: u8) -> usize
     if byte == 5 {
         return 2;
     }
+    if byte == 7 {
+        return 2;
+    }
     1
 }
 

@@ -1,15 +1,15 @@
-// The tables of a sheet that was read before: one pass over its FAULTs, one over its tests, one over all pairs.
+// The tables of a sheet that was read before: one pass over its FAULTs, one over its STARTs, one over its tests, one over all pairs.
 ghost use mathlib.Core.Path.{_≡_};
 ghost use mathlib.Core.Bool.{cond};
 ghost use mathlib.Core.List.{List, [], _∷_, _++_};
 ghost use Prim.Native.Nat.{ℕ, _+_, _/_, _%_, _<_, _≤_};
 ghost use lib.Dec.{ltb, eqb};
-ghost use lib.ListN.{length};
+ghost use lib.ListN.{length, getD};
 ghost use Rattle.sheet.specs.Sheet.{Sheet, choicesAt};
 ghost use Rattle.sheet.specs.words.Fetch.{rowFrom};
 ghost use Rattle.sheet.specs.Tables.{tablesOf, blankTables};
 ghost use Rattle.sheet.specs.words.Held.{Digits, Within16};
-ghost use Rattle.sheet.specs.words.Places.{FaultsFrom, TestsFrom, Table, FaultTables, TestTables, Countable, Fillable};
+ghost use Rattle.sheet.specs.words.Places.{FaultsFrom, StartsFrom, TestsFrom, Table, FaultTables, TestTables, sizeIn, Countable, Fillable};
 use crate::Row;
 use crate::Size;
 use crate::Summary;
@@ -17,6 +17,7 @@ use crate::Tables;
 use crate::fetch::Item;
 use crate::fetch::fetch_from;
 use crate::fetch::item_in;
+use crate::part::layout_of;
 use crate::part::test_at;
 
 fn row_of(item: Item) -> Row
@@ -112,7 +113,7 @@ fn choices_of(faults: u16, next: u8, unruled: u16) -> u16
 fn count_choices(size: Size, target: &[u8; 256], choices: &mut [u16; 256])
     requires { ⌜ Within16 size × ((sh : Sheet) × Countable size (now target) (now choices) sh) ⌝ }
     ensures { λ _. ⌜ ((sh : Sheet) → Countable size (now (target .entry)) (now (choices .entry)) sh
-        → Table (now (choices .exit)) (λ i. choicesAt sh (i / 16) (i % 16))) ⌝ }
+        → Table 256 (now (choices .exit)) (λ i. choicesAt sh (i / 16) (i % 16))) ⌝ }
 {
     let unruled = (size.outputs as u16) * (size.states as u16);
     let mut p: usize = 0;
@@ -122,6 +123,26 @@ fn count_choices(size: Size, target: &[u8; 256], choices: &mut [u16; 256])
         choices[p] = choices_of(n, t, unruled);
         p += 1;
     }
+}
+
+// The waking states: state 0, then those of the STARTs, which stand from a place on.
+fn wakings_from(sheet: &[u8], place: usize, starts: usize) -> [u8; 16]
+    requires { ⌜ ((l : List ℕ) × StartsFrom (now sheet) place l × (starts ≡ length l)) ⌝ }
+    ensures { λ r. ⌜ ((l : List ℕ) → StartsFrom (now (sheet .entry)) place l → starts ≡ length l → Table 16 r (λ i. getD (0 ∷ l) i 0)) ⌝ }
+{
+    let mut wakings = [0u8; 16];
+    let mut at = place;
+    let mut i: usize = 0;
+    while i < starts {
+        let f = fetch_from(sheet, at);
+        let next = f.next;
+        let taken = f.taken;
+        let item = item_in(taken);
+        i += 1;
+        wakings[i] = item.first;
+        at = next;
+    }
+    wakings
 }
 
 // All tests: they stand from a place on.
@@ -148,6 +169,16 @@ fn fill_tests(
     }
 }
 
+fn size_of(summary: Summary) -> Size
+    ensures { λ r. ⌜ r ≡ sizeIn summary ⌝ }
+{
+    Size {
+        states: summary.states,
+        inputs: summary.inputs,
+        outputs: summary.outputs,
+    }
+}
+
 // All tables of an accepted sheet, with those of its rules.
 pub(crate) fn fill(sheet: &[u8], summary: Summary, output: [u8; 256], target: [u8; 256]) -> Tables
     requires { ⌜ ((sh : Sheet) × Fillable (now sheet) summary output target sh) ⌝ }
@@ -159,24 +190,26 @@ pub(crate) fn fill(sheet: &[u8], summary: Summary, output: [u8; 256], target: [u
     let mut diverted = [0u8; 256];
     let mut starts = [0u16; 256];
     let mut lengths = [0u16; 256];
-    let size = Size {
-        states: summary.states,
-        inputs: summary.inputs,
-        outputs: summary.outputs,
-    };
-    let faults = 4 + 5 * summary.rules;
-    let tests = faults + 5 * summary.faults;
+    let layout = layout_of(sheet, summary);
     fill_faults(
         sheet,
-        faults,
+        layout.faults,
         summary.faults,
         &mut choices,
         &mut first,
         &mut mutated,
         &mut diverted,
     );
-    count_choices(size, &target, &mut choices);
-    fill_tests(sheet, tests, summary.tests, &mut starts, &mut lengths);
+    count_choices(size_of(summary), &target, &mut choices);
+    let wakings = wakings_from(sheet, layout.starts, layout.waking);
+    let waking = (layout.waking + 1) as u8;
+    fill_tests(
+        sheet,
+        layout.tests,
+        summary.tests,
+        &mut starts,
+        &mut lengths,
+    );
     Tables {
         output,
         target,
@@ -184,6 +217,8 @@ pub(crate) fn fill(sheet: &[u8], summary: Summary, output: [u8; 256], target: [u
         first,
         mutated,
         diverted,
+        wakings,
+        waking,
         starts,
         lengths,
     }
@@ -199,6 +234,8 @@ pub(crate) fn blank() -> Tables
     let first = [0u16; 256];
     let mutated = [0u8; 256];
     let diverted = [0u8; 256];
+    let wakings = [0u8; 16];
+    let waking = 0u8;
     let starts = [0u16; 256];
     let lengths = [0u16; 256];
     Tables {
@@ -208,6 +245,8 @@ pub(crate) fn blank() -> Tables
         first,
         mutated,
         diverted,
+        wakings,
+        waking,
         starts,
         lengths,
     }

@@ -1,17 +1,17 @@
-// At END: nothing follows, every state is reached, at most 32 pairs are open.
+// At END: nothing follows, every state is reached, at most 32 pairs are open (where a mutant wakes counts as one).
 ghost use mathlib.Core.Path.{_≡_};
 ghost use mathlib.Core.Bool.{Bool, _||_, _&&_};
 ghost use mathlib.Core.List.{List};
 ghost use Prim.Native.Nat.{ℕ, _<_, _≤_};
 ghost use lib.ListN.{length};
 ghost use Rattle.lists.specs.Lists.{any, all, count};
-ghost use Rattle.sheet.specs.Sheet.{Sheet, leads, allReached, isOpen, openPairs};
+ghost use Rattle.sheet.specs.Sheet.{Sheet, leads, allReached, isOpen, wakingSlots, openSlots};
 ghost use Rattle.sheet.specs.Reading.{finishing};
-ghost use Rattle.sheet.specs.words.Held.{Within16, Leads, Marks, Follows, Linked, endOf};
+ghost use Rattle.sheet.specs.words.Held.{Within16, Leads, Marks, Follows, Linked, StartsHold, endOf};
 use crate::Row;
 use crate::Size;
 
-// How a reading ends: the number of open pairs, or a refusal's number and place.
+// How a reading ends: how many choices make up a mutant, or a refusal's number and place.
 pub(crate) enum End {
     Accepted(usize),
     Refused(u8, usize),
@@ -49,12 +49,22 @@ fn open_at(size: Size, target: &[u8; 256], faulty: &[u8; 256], s: usize) -> usiz
     n
 }
 
-fn open_pairs(size: Size, target: &[u8; 256], faulty: &[u8; 256]) -> usize
+// Is there a choice where a mutant wakes? 1 if there is: it counts as an open pair.
+fn waking_slots(starts: usize) -> usize
+    ensures few { λ r. ⌜ r ≤ 1 ⌝ }
+    ensures counted { λ r. ⌜ ((sh : Sheet) → StartsHold starts (sh .starts) → r ≡ wakingSlots sh) ⌝ }
+{
+    if starts == 0 { 0 } else { 1 }
+}
+
+// How many choices make up a mutant: where it wakes, and the open pairs.
+fn open_slots(size: Size, starts: usize, target: &[u8; 256], faulty: &[u8; 256]) -> usize
     requires { ⌜ Within16 size ⌝ }
-    ensures { λ r. ⌜ ((sh : Sheet) → Linked size (now (target .entry)) (now (faulty .entry)) sh → r ≡ openPairs sh) ⌝ }
+    ensures { λ r. ⌜ ((sh : Sheet) → Linked size (now (target .entry)) (now (faulty .entry)) sh → StartsHold starts (sh .starts)
+        → r ≡ openSlots sh) ⌝ }
 {
     let m = size.states as usize;
-    let mut n: usize = 0;
+    let mut n = waking_slots(starts);
     let mut s: usize = 0;
     while s < m {
         n += open_at(size, target, faulty, s);
@@ -148,20 +158,21 @@ pub(crate) fn finish(
     sheet: &[u8],
     at: usize,
     size: Size,
+    starts: usize,
     target: &[u8; 256],
     faulty: &[u8; 256],
 ) -> End
     requires { ⌜ (at < length (now sheet)) × Within16 size ⌝ }
-    ensures { λ r. ⌜ ((sh : Sheet) → Linked size (now (target .entry)) (now (faulty .entry)) sh
+    ensures { λ r. ⌜ ((sh : Sheet) → Linked size (now (target .entry)) (now (faulty .entry)) sh → StartsHold starts (sh .starts)
         → r ≡ endOf (finishing sh (now (sheet .entry)) at)) ⌝ }
 {
     if at + 1 < sheet.len() {
         return End::Refused(10, at + 1);
     }
     if all_reached(size, target) {
-        let pairs = open_pairs(size, target, faulty);
-        if pairs <= 32 {
-            End::Accepted(pairs)
+        let slots = open_slots(size, starts, target, faulty);
+        if slots <= 32 {
+            End::Accepted(slots)
         } else {
             End::Refused(12, at)
         }

@@ -29,7 +29,8 @@ pub struct Row {
     pub target: u8,
 }
 
-// What reading a sheet tells (01: n, k, m and the numbers of RULEs, FAULTs, TESTs and open pairs).
+// What reading a sheet tells (01: n, k, m and the numbers of RULEs, FAULTs, TESTs and open pairs; 02: where a board wakes, if
+// there is a START, counts as one of these).
 pub struct Summary {
     pub states: u8,
     pub inputs: u8,
@@ -66,7 +67,7 @@ pub enum Parting {
 
 // What the layer above needs of an accepted sheet. By pair, at state * 16 + input: the rule's output and next state (255
 // where there is no rule), the number of choices, and the index of the first fault. By fault: its output and next state. By
-// test: where its PRESS commands start, and how many they are.
+// choice: the waking states, and how many there are. By test: where its PRESS commands start, and how many they are.
 pub struct Tables {
     pub output: [u8; 256],
     pub target: [u8; 256],
@@ -74,6 +75,8 @@ pub struct Tables {
     pub first: [u16; 256],
     pub mutated: [u8; 256],
     pub diverted: [u8; 256],
+    pub wakings: [u8; 16],
+    pub waking: u8,
     pub starts: [u16; 256],
     pub lengths: [u16; 256],
 }
@@ -117,7 +120,8 @@ pub fn test_span(sheet: &[u8], i: usize) -> Parting
         return Parting::Refused(why.number, why.place);
     };
     if i < summary.tests {
-        let place = 4 + 5 * summary.rules + 5 * summary.faults;
+        let layout = part::layout_of(sheet, summary);
+        let place = layout.tests;
         let span = part::test_from(sheet, place, i);
         Parting::At(span)
     } else {

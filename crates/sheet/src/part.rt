@@ -1,15 +1,27 @@
-// Where the PRESS commands of a test stand, in a sheet that was read before.
+// Where the parts of a sheet that was read before stand, and the PRESS commands of a test.
+ghost use mathlib.Core.Path.{_≡_};
 ghost use Prim.Native.Nat.{_≤_};
 ghost use lib.ListN.{length};
-ghost use Rattle.sheet.specs.words.Places.{PressesFrom, TestAt, TestFrom};
+ghost use Rattle.sheet.specs.Sheet.{Sheet};
+ghost use Rattle.sheet.specs.Reading.{width};
+ghost use Rattle.sheet.specs.words.Places.{OperandsFrom, TestAt, TestFrom, Told, LaidOut};
 use crate::Span;
+use crate::Summary;
 use crate::fetch::fetch_from;
 use crate::fetch::item_in;
 
-// How many PRESS commands stand from a place on.
-fn presses_from(sheet: &[u8], place: usize) -> usize
-    requires { ⌜ place ≤ length (now sheet) ⌝ }
-    ensures { λ r. ⌜ PressesFrom (now (sheet .entry)) place r ⌝ }
+// Where the FAULTs, the STARTs and the tests begin, and how many STARTs there are.
+pub(crate) struct Layout {
+    pub(crate) faults: usize,
+    pub(crate) starts: usize,
+    pub(crate) waking: usize,
+    pub(crate) tests: usize,
+}
+
+// How many commands with this byte and one operand stand from a place on.
+fn operands_from(sheet: &[u8], byte: u8, place: usize) -> usize
+    requires { ⌜ (place ≤ length (now sheet)) × (1 ≤ byte) × (width byte ≡ 2) ⌝ }
+    ensures { λ r. ⌜ OperandsFrom (now (sheet .entry)) byte place r ⌝ }
 {
     let mut n: usize = 0;
     let mut at = place;
@@ -18,12 +30,29 @@ fn presses_from(sheet: &[u8], place: usize) -> usize
         let next = f.next;
         let taken = f.taken;
         let item = item_in(taken);
-        if item.byte == 5 {
+        if item.byte == byte {
             n += 1;
             at = next;
         } else {
             return n;
         }
+    }
+}
+
+// The parts of an accepted sheet.
+pub(crate) fn layout_of(sheet: &[u8], summary: Summary) -> Layout
+    requires { ⌜ ((sh : Sheet) × Told (now sheet) summary sh) ⌝ }
+    ensures { λ r. ⌜ ((sh : Sheet) → Told (now (sheet .entry)) summary sh → LaidOut (now (sheet .entry)) sh r) ⌝ }
+{
+    let faults = 4 + 5 * summary.rules;
+    let starts = faults + 5 * summary.faults;
+    let waking = operands_from(sheet, 7, starts);
+    let tests = starts + 2 * waking;
+    Layout {
+        faults,
+        starts,
+        waking,
+        tests,
     }
 }
 
@@ -34,7 +63,7 @@ pub(crate) fn test_at(sheet: &[u8], at: usize) -> Span
 {
     let f = fetch_from(sheet, at);
     let start = f.next;
-    let n = presses_from(sheet, start);
+    let n = operands_from(sheet, 5, start);
     Span {
         start,
         length: 2 * n,

@@ -34,12 +34,13 @@ pub(crate) struct Tests {
     pub(crate) state: usize,
 }
 
-// What is read so far, but for the tables.
+// What is read so far, but for the tables. `starts` is one more than the last START's state, 0 before the first.
 pub(crate) struct State {
     pub(crate) phase: u8,
     pub(crate) size: Size,
     pub(crate) rules: Rules,
     pub(crate) faults: Faults,
+    pub(crate) starts: usize,
     pub(crate) tests: Tests,
 }
 
@@ -87,12 +88,15 @@ pub(crate) fn may_stand(phase: u8, byte: u8) -> bool
         return is_during(1, 3, phase);
     }
     if byte == 4 {
-        return is_during(1, 4, phase);
+        return is_during(1, 5, phase);
     }
     if byte == 5 {
-        return is_during(4, 4, phase);
+        return is_during(5, 5, phase);
     }
     if byte == 6 {
+        return is_during(1, 5, phase);
+    }
+    if byte == 7 {
         return is_during(1, 4, phase);
     }
     false
@@ -138,6 +142,7 @@ fn do_size(state: State, size: Size) -> Applied
                         size,
                         rules,
                         faults,
+                        starts: state.starts,
                         tests,
                     },
                 };
@@ -197,6 +202,7 @@ fn do_rule(state: State, row: Row, output: &mut [u8; 256], target: &mut [u8; 256
             size,
             rules: added,
             faults,
+            starts: state.starts,
             tests,
         },
     }
@@ -282,6 +288,38 @@ fn do_fault(
             size,
             rules,
             faults: added,
+            starts: state.starts,
+            tests,
+        },
+    }
+}
+
+// A START: 5 out of range, 6 not ascending, 7 state 0.
+fn do_start(state: State, t: u8) -> Applied
+    requires { ⌜ ((os ts ms : List ℕ) × (p : Progress) × Holds state os ts ms p) ⌝ }
+    ensures { λ r. ⌜ ((os ts ms : List ℕ) (p : Progress) → p .phase ≤ 4 → Holds state os ts ms p → Applies p 7 (reading.start t) r os ts ms) ⌝ }
+{
+    let size = state.size;
+    let rules = state.rules;
+    let faults = state.faults;
+    let tests = state.tests;
+    if size.states <= t {
+        return Applied { number: 5, state };
+    }
+    if (t as usize) < state.starts {
+        return Applied { number: 6, state };
+    }
+    if t == 0 {
+        return Applied { number: 7, state };
+    }
+    Applied {
+        number: 0,
+        state: State {
+            phase: 4,
+            size,
+            rules,
+            faults,
+            starts: (t as usize) + 1,
             tests,
         },
     }
@@ -305,10 +343,11 @@ fn do_test(state: State) -> Applied
         Applied {
             number: 0,
             state: State {
-                phase: 4,
+                phase: 5,
                 size,
                 rules,
                 faults,
+                starts: state.starts,
                 tests: added,
             },
         }
@@ -349,7 +388,7 @@ fn add_press(size: Size, tests: Tests, x: u8, target: &[u8; 256]) -> Pressed
 
 fn do_press(state: State, x: u8, target: &[u8; 256]) -> Applied
     requires { ⌜ ((os ms : List ℕ) × (p : Progress) × Holds state os (now target) ms p) ⌝ }
-    ensures { λ r. ⌜ ((os ms : List ℕ) (p : Progress) → 4 ≤ p .phase → Holds state os (now (target .entry)) ms p
+    ensures { λ r. ⌜ ((os ms : List ℕ) (p : Progress) → 5 ≤ p .phase → Holds state os (now (target .entry)) ms p
         → Applies p 5 (reading.press x) r os (now (target .entry)) ms) ⌝ }
 {
     let size = state.size;
@@ -361,10 +400,11 @@ fn do_press(state: State, x: u8, target: &[u8; 256]) -> Applied
     Applied {
         number: a.number,
         state: State {
-            phase: 4,
+            phase: 5,
             size,
             rules,
             faults,
+            starts: state.starts,
             tests: added,
         },
     }
@@ -378,7 +418,7 @@ pub(crate) fn apply(
     target: &mut [u8; 256],
     faulty: &mut [u8; 256],
 ) -> Applied
-    requires { ⌜ ((1 ≤ item .byte) × (item .byte ≤ 5)) × ((p : Progress) × Holds state (now output) (now target) (now faulty) p) ⌝ }
+    requires { ⌜ ((1 ≤ item .byte) × (item .byte ≤ 7) × (item .byte ≡ 6 → ⊥)) × ((p : Progress) × Holds state (now output) (now target) (now faulty) p) ⌝ }
     ensures { λ r. ⌜ ((p : Progress) → allowed (p .phase) (item .byte) ≡ true
         → Holds state (now (output .entry)) (now (target .entry)) (now (faulty .entry)) p
         → Applies p (item .byte) (commandFrom item) r (now (output .exit)) (now (target .exit)) (now (faulty .exit))) ⌝ }
@@ -406,5 +446,8 @@ pub(crate) fn apply(
     if item.byte == 4 {
         return do_test(state);
     }
-    do_press(state, item.first, &*target)
+    if item.byte == 5 {
+        return do_press(state, item.first, &*target);
+    }
+    do_start(state, item.first)
 }

@@ -71,7 +71,7 @@ fn obey(
 {
     if item.byte == 6 {
         let size = state.size;
-        let end = finish(sheet, at, size, &*target, &*faulty);
+        let end = finish(sheet, at, size, state.starts, &*target, &*faulty);
         let verdict = Verdict::Stop(end);
         Step { verdict, state }
     } else {
@@ -156,6 +156,7 @@ fn fresh() -> State
         size,
         rules,
         faults,
+        starts: 0,
         tests,
     }
 }

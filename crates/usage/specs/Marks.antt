@@ -6,15 +6,15 @@ use mathlib.Core.List.{List}
 use lib.Dec.{ltb}
 use lib.ListN.{getD}
 use Rattle.model.specs.Machine.{Action}
-use Rattle.block.specs.Layout.{pair, siteAt}
-
--- the slot that says where a mutant starts
-unfoldable pub startSlotOf : List ℕ → Option ℕ
-startSlotOf m = none
+use Rattle.block.specs.Layout.{pair, waking, siteAt}
 
 -- the slot that the pair k uses
 unfoldable pub slotAt : List ℕ → ℕ → Option ℕ
 slotAt m k = cond (ltb (siteAt m k) 32) (some (siteAt m k)) none
+
+-- the slot that says where a mutant starts
+abbrev pub startSlotOf : List ℕ → Option ℕ
+startSlotOf m = slotAt m waking
 
 -- the steps of a machine by its table of next states, at any state and input; its outputs do not matter here
 unfoldable pub actsIn : List ℕ → List ℕ → ℕ → ℕ → Action

@@ -5,14 +5,8 @@ ghost use lib.Bits.{bitOr};
 ghost use Rattle.model.specs.Used.{mark};
 ghost use Rattle.usage.specs.Marks.{slotAt, startSlotOf};
 use block::BLOCK;
+use block::WAKING;
 use block::site;
-
-// What is used before the first step: the slot that says where a mutant starts, if there is one.
-pub fn start_set(block: &[u8; BLOCK]) -> u32
-    ensures { λ r. ⌜ r ≡ mark 0 (startSlotOf (now (block .entry))) ⌝ }
-{
-    0
-}
 
 fn with(set: u32, i: u8) -> u32
     requires { ⌜ i < 32 ⌝ }
@@ -23,7 +17,7 @@ fn with(set: u32, i: u8) -> u32
 
 // The set with the slot that the pair k uses, if it uses one.
 pub fn marked(block: &[u8; BLOCK], set: u32, k: usize) -> u32
-    requires { ⌜ k < 256 ⌝ }
+    requires { ⌜ k < 257 ⌝ }
     ensures { λ r. ⌜ r ≡ mark set (slotAt (now (block .entry)) k) ⌝ }
 {
     let i = site(block, k);
@@ -31,4 +25,11 @@ pub fn marked(block: &[u8; BLOCK], set: u32, k: usize) -> u32
         return with(set, i);
     }
     set
+}
+
+// What is used before the first step: the slot that says where a mutant starts, if there is one.
+pub fn start_set(block: &[u8; BLOCK]) -> u32
+    ensures { λ r. ⌜ r ≡ mark 0 (startSlotOf (now (block .entry))) ⌝ }
+{
+    marked(block, 0, WAKING)
 }

@@ -9,8 +9,8 @@ use borrow.Author.Count.{below-more}
 use lib.ListN.{length, getD, set, replicate, length-set, length-replicate, getD-replicate, List·getD-eq-default}
 use lib.Seq.{getD-set-same, getD-set-other}
 use Rattle.model.specs.Machine.{Move}
-use Rattle.block.specs.Layout.{pair, ruleOutput, ruleTarget, statesOf, inputsOf}
-use Rattle.block.specs.Tabulated.{Wf, choiceOf, chosen, stepOf, startOf}
+use Rattle.block.specs.Layout.{pair, waking, ruleOutput, ruleTarget, statesOf, inputsOf}
+use Rattle.block.specs.Tabulated.{Wf, Ranged, choiceOf, chosen, stepOf, startOf}
 use Rattle.block.specs.declared.layout.Step.{Step}
 use Rattle.block.specs.laws.ChoiceLaw.{step-inside, start-low}
 use Rattle.cubes.specs.Sets.{Has, HasAll, Joined, Grows}
@@ -18,9 +18,9 @@ use Rattle.cubes.specs.Cube.{CellOk, Conform}
 use Rattle.cubes.specs.laws.SetLaw.{nothing, alone, put-one, grows-none, grows-more}
 use Rattle.cubes.specs.laws.ConformLaw.{cell-none, step-low, conforms}
 use Rattle.walks.specs.Walks.{Agrees, Settled}
-use Rattle.walks.specs.Reaching.{Met, Further, CellKnown, CellReached, RowReached, AllWithin}
+use Rattle.walks.specs.Reaching.{Met, Further, StartReached, CellKnown, CellReached, RowReached, AllWithin}
 use Rattle.walks.specs.declared.reach.Reach.{Reach}
-use Rattle.walks.proofs.StandLaw.{agrees-fewer, start-same}
+use Rattle.walks.proofs.StandLaw.{agrees-fewer, start-settled}
 
 -- ---- a pair is met
 pub met-out : {rows : List ℕ} {s q : ℕ} → 16 ≤ q → Met rows rows s q
@@ -51,6 +51,19 @@ cell-wider gr more ok = record { out = λ t b w g. ok .out t b w (agrees-fewer m
 
 known-further : {m p old new : List ℕ} {before after : Reach} {k x : ℕ} → Further old new before after → CellKnown m p old before k x → CellKnown m p new after k x
 known-further f known = record { at = λ e l. cell-wider (f .grows) (f .used) (known .at (f .free e) l) }
+
+-- ---- the start
+pub start-stopped : {m p rows : List ℕ} {r : Reach} → r .count ≡ 0 → (r .stop ≡ 255 → ⊥) → StartReached m p rows rows r
+start-stopped e n = record { grows = grows-none; few = omega (arith, e); start = λ f. absurd (n f) }
+
+pub start-met : {m p old new : List ℕ} {used count : ℕ} {step : Step} → Wf m → Settled m p used waking step → Met old new 0 (step .target) → count ≤ 256 → StartReached m p old new (record { used = used; count = count; stop = 255 })
+start-met {m} {new = new} wf se met few = record {
+  grows = met .grows;
+  few = few;
+  start = λ f b w g.
+      let e = start-settled se w g in
+      subst (λ (q : ℕ). Has (getD new 0 0) q) (sym e) (met .here (omega (arith, e, start-low wf w, wf .few-states)));
+}
 
 -- ---- one input
 pub cell-undefined : {m p rows : List ℕ} {r : Reach} {k x : ℕ} → ruleTarget m (pair (k / 16) x) ≡ 255 → CellReached m p rows rows r r k x
@@ -110,18 +123,18 @@ pub record Spreading (m p rows done : List ℕ) (r : Reach) : Type 0 where
   pub long : length rows ≡ 16
   pub done-long : length done ≡ 16
   pub few : r .count ≤ 256
-  pub start : startOf m p < 16 → Has (getD rows 0 0) (startOf m p)
+  pub start : r .stop ≡ 255 → (b : List ℕ) → Ranged m b → Agrees p (r .used) b → Has (getD rows 0 0) (startOf m b)
   pub known : (s q x : ℕ) → Has (getD done s 0) q → x < inputsOf m → r .stop ≡ 255 → q < statesOf m → CellOk m (Agrees p (r .used)) rows s q x
 
 none-there : (n s : ℕ) → _≡_ {A = ℕ} (getD (replicate n 0) s 0) 0
 none-there n s = by-cases (decLt s n) (λ l. getD-replicate n s 0 0 l) (λ g. List·getD-eq-default (replicate n 0) 0 (omega (arith, length-replicate {A = ℕ} n 0)))
 
-pub spreading-none : {m p rows : List ℕ} {r : Reach} {v : ℕ} → v ≡ startOf m p → Met (replicate 16 0) rows 0 v → r .count ≤ 256 → Spreading m p rows (replicate 16 0) r
-spreading-none {rows = rows} ev met few = record {
-  long = met .grows .long;
+pub spreading-none : {m p rows : List ℕ} {r : Reach} → StartReached m p (replicate 16 0) rows r → Spreading m p rows (replicate 16 0) r
+spreading-none st = record {
+  long = st .grows .long;
   done-long = refl;
-  few = few;
-  start = λ l. subst (λ (n : ℕ). Has (getD rows 0 0) n) ev (met .here (omega (arith, ev, l)));
+  few = st .few;
+  start = st .start;
   known = λ s q x h. absurd (nothing q (subst (λ (n : ℕ). Has n q) (none-there 16 s) h));
 }
 
@@ -131,7 +144,7 @@ spreading-more {m} {p} {rows} {done} {more} {r} {t} {k} {j} {e} {u} ej lj sp row
   long = row .further .grows .long ∙ sp .long;
   done-long = length-set done j u ∙ sp .done-long;
   few = row .further .few (sp .few);
-  start = λ l. row .further .grows .more 0 (startOf m p) (sp .start l);
+  start = λ f b w g. row .further .grows .more 0 (startOf m b) (sp .start (row .further .free f) b w (agrees-fewer (row .further .used) g));
   known = λ s q x h. go s q x (ℕ-discrete s j) h;
 }
   where
@@ -154,4 +167,4 @@ spreading-all {m} {p} {rows} wf sp within e =
     conforms {a = statesOf m} wf
     (record { at = λ s ls. record { at = λ q lq. record { at = λ has x lx. sp .known s q x (within .at s ls q has) lx e lq } } })
     (omega arith)
-    (λ b w g. let same = start-same m b p in subst (λ (q : ℕ). Has (getD rows 0 0) q) (sym same) (sp .start (omega (arith, same, start-low wf w, wf .few-states))))
+    (sp .start e)

@@ -1,30 +1,30 @@
 -- Mutants that have the choices settled at some suspects, along a log.
-use mathlib.Core.Path.{_≡_, refl, sym, ap, _∙_, subst}
-use mathlib.Core.List.{List}
+use mathlib.Core.Path.{_≡_, sym, ap, _∙_, subst}
+use mathlib.Core.List.{List, [], _∷_}
 use Prim.Native.Nat.{ℕ, _+_, _/_, _%_, _^_, _<_}
 use native.Mathlib.Omega.{arith}
 use lib.ListN.{length, getD, drop}
 use Rattle.model.specs.Log.{GivesFrom}
 use Rattle.model.specs.Machine.{Move}
-use Rattle.block.specs.Layout.{pair, siteAt, statesOf, inputsOf}
+use Rattle.block.specs.Layout.{pair, waking, siteAt, statesOf, inputsOf}
 use Rattle.block.specs.Tabulated.{Wf, Ranged, StepIs, choicesAt, choiceOf, chosen, stepOf, startOf}
-use Rattle.block.specs.Logged.{observations, GivesOf}
+use Rattle.block.specs.Logged.{observation, observations, GivesOf}
 use Rattle.block.specs.declared.layout.Step.{Step}
-use Rattle.block.specs.laws.ChoiceLaw.{chosen-none, chosen-some, chosen-low, step-inside, start-low}
+use Rattle.block.specs.laws.ChoiceLaw.{chosen-none, chosen-some, chosen-low, step-inside, start-is, start-low}
 use Rattle.cubes.specs.Sets.{Has, HasAll, Joined}
 use Rattle.cubes.specs.Cube.{Sought}
 use Rattle.cubes.specs.declared.goal.Goal.{Goal}
 use Rattle.cubes.specs.laws.ConformLaw.{step-low}
 use Rattle.cubes.specs.laws.SetLaw.{one-same}
 use Rattle.cubes.specs.laws.WalkLaw.{later-part, after-reset, after-seen}
-use Rattle.walks.specs.Walks.{Agrees, NoneBy, Settled, Here, Stands}
+use Rattle.walks.specs.Walks.{Agrees, NoneBy, Settled, Begins, Here, Stands}
 use Rattle.walks.specs.declared.walk.Place.{Place}
 
 pub agrees-fewer : {p b : List ℕ} {used wider : ℕ} → HasAll used wider → Agrees p wider b → Agrees p used b
 agrees-fewer more g = record { at = λ j h. g .at j (more j h) }
 
 -- ---- one step
-settled-by : {m p : List ℕ} {used k c : ℕ} {step : Step} → Wf m → k < 256 → StepIs m k c step → ((b : List ℕ) → Agrees p used b → chosen m b k ≡ c) → Settled m p used k step
+settled-by : {m p : List ℕ} {used k c : ℕ} {step : Step} → Wf m → k < 257 → StepIs m k c step → ((b : List ℕ) → Agrees p used b → chosen m b k ≡ c) → Settled m p used k step
 settled-by {m} {p} {used} {k} {c} {step} wf lk is same = record {
   output = λ b w g. is .output wf (low b w g) ∙ ap (λ (d : ℕ). choiceOf m k d .output) (sym (same b g));
   target = λ b w g. is .target wf (low b w g) ∙ ap (λ (d : ℕ). choiceOf m k d .target) (sym (same b g));
@@ -34,11 +34,11 @@ settled-by {m} {p} {used} {k} {c} {step} wf lk is same = record {
     low b w g = subst (λ (d : ℕ). d < choicesAt m k) (same b g) (chosen-low wf w k lk)
 
 -- at a pair that is no suspect
-pub settled-lone : {m p : List ℕ} {used k : ℕ} {step : Step} → Wf m → k < 256 → siteAt m k ≡ 255 → StepIs m k 0 step → Settled m p used k step
+pub settled-lone : {m p : List ℕ} {used k : ℕ} {step : Step} → Wf m → k < 257 → siteAt m k ≡ 255 → StepIs m k 0 step → Settled m p used k step
 settled-lone {m} {k = k} wf lk e is = settled-by wf lk is (λ b g. chosen-none m b k e)
 
 -- at a settled suspect, which is used
-pub settled-at : {m p : List ℕ} {used k i c : ℕ} {step : Step} → Wf m → k < 256 → i ≡ siteAt m k → (i ≡ 255 → ⊥) → c ≡ getD p i 0 → (c ≡ 256 → ⊥) → Has used i → StepIs m k c step → Settled m p used k step
+pub settled-at : {m p : List ℕ} {used k i c : ℕ} {step : Step} → Wf m → k < 257 → i ≡ siteAt m k → (i ≡ 255 → ⊥) → c ≡ getD p i 0 → (c ≡ 256 → ⊥) → Has used i → StepIs m k c step → Settled m p used k step
 settled-at {m} {p} {used} {k} {i} {c} wf lk ei ni ec nc has is =
     settled-by wf lk is (λ b g. chosen-some m b k (λ z. ni (ei ∙ z)) ∙ ap (λ (j : ℕ). getD b j 0) (sym ei) ∙ g .at i has (λ z. nc (ec ∙ z)) ∙ sym ec)
 
@@ -47,27 +47,30 @@ pub joined-has : {before used i : ℕ} → i < 32 → Joined before (2 ^ (i % 32
 joined-has {before} {used} {i} l jo = jo .right i (subst (λ (n : ℕ). Has (2 ^ n) i) (omega arith) (one-same i))
 
 -- ---- the walk
--- every mutant starts alike
-pub start-same : (m b p : List ℕ) → startOf m b ≡ startOf m p
-unfolding startOf
-start-same m b p = refl
+-- the transition of the waking state leads to the start
+pub start-settled : {m p b : List ℕ} {used : ℕ} {step : Step} → Settled m p used waking step → Ranged m b → Agrees p used b → startOf m b ≡ step .target
+start-settled {m} {b = b} se w g = start-is m b ∙ sym (se .target b w g)
 
-here-start : {m b : List ℕ} {v : ℕ} (p left : List ℕ) → Wf m → Ranged m b → v ≡ startOf m p → GivesFrom (stepOf m b) (startOf m b) (startOf m b) (observations left) → Here m b v left
-here-start {m} {b} {v} p left wf w ev y =
-    let e : startOf m b ≡ v = start-same m b p ∙ sym ev in
-    record { low = subst (λ (q : ℕ). q < statesOf m) e (start-low wf w); goes = subst (λ (q : ℕ). GivesFrom (stepOf m b) (startOf m b) q (observations left)) e y }
+from-any : (move : ℕ → ℕ → Move) (start s q : ℕ) (log : List ℕ) → Begins log → GivesFrom move start s (observations log) → GivesFrom move start q (observations log)
+unfolding GivesFrom observation
+from-any move start s q [] be g = tt
+from-any move start s q (v ∷ log) be g = let e : v ≡ 256 = be .at (omega arith) in rw e (rw e at g)
 
-pub stands-start : {m log p : List ℕ} {v : ℕ} → Wf m → v ≡ startOf m p → Stands m log p (record { at = 0; state = v; used = 0 })
+pub stands-start : {m log p : List ℕ} → Wf m → Begins log → Stands m log p (record { at = 0; state = 0; used = 0 })
 unfolding GivesOf
-stands-start {m} {log} {p} wf ev = record { at = λ b w g y. here-start p log wf w ev y }
+stands-start {m} {log} wf be = record { at = λ b w g y. record { low = wf .some-states; goes = from-any (stepOf m b) (startOf m b) (startOf m b) 0 log be y } }
 
 -- after a reset what was before does not matter
-pub stands-reset : {m log p : List ℕ} {at v : ℕ} → Wf m → at < length log → getD log at 0 ≡ 256 → v ≡ startOf m p → Stands m log p (record { at = at + 1; state = v; used = 0 })
+pub stands-reset : {m log p : List ℕ} {at used : ℕ} {step : Step} → Wf m → at < length log → getD log at 0 ≡ 256 → Settled m p used waking step → Stands m log p (record { at = at + 1; state = step .target; used = used })
 unfolding GivesOf
-stands-reset {m} {log} {p} {at} wf l e ev = record {
+stands-reset {m} {log} {p} {at} wf l e se = record {
   at = λ b w g y.
       let h = later-part (stepOf m b) (startOf m b) log at (startOf m b) y in
-      here-start p (drop (at + 1) log) wf w ev (after-reset (stepOf m b) (startOf m b) log at (h .0) l e (h .1));
+      let here = start-settled se w g in
+      record {
+        low = subst (λ (q : ℕ). q < statesOf m) here (start-low wf w);
+        goes = subst (λ (q : ℕ). GivesFrom (stepOf m b) (startOf m b) q (observations (drop (at + 1) log))) here (after-reset (stepOf m b) (startOf m b) log at (h .0) l e (h .1));
+      };
 }
 
 -- an input x with the output o, where the step is settled

@@ -4,6 +4,7 @@ use mathlib.Core.List.{List}
 use Prim.Native.Nat.{ℕ, _/_, _%_, _<_, _≤_}
 use lib.ListN.{getD}
 use Rattle.block.specs.Layout.{statesOf}
+use Rattle.block.specs.Tabulated.{Ranged, startOf}
 use Rattle.cubes.specs.Sets.{Has, HasAll, Grows}
 use Rattle.cubes.specs.Cube.{CellOk}
 use Rattle.walks.specs.Walks.{Agrees}
@@ -20,6 +21,12 @@ pub record Further (old new : List ℕ) (before after : Reach) : Type 0 where
   pub used : HasAll (before .used) (after .used)
   pub few : before .count ≤ 256 → after .count ≤ 256
   pub free : after .stop ≡ 255 → before .stop ≡ 255
+
+-- the pair of the specification's start and the mutant's, with the mutants that have the choices settled at the suspects used
+pub record StartReached (m p old new : List ℕ) (r : Reach) : Type 0 where
+  pub grows : Grows old new
+  pub few : r .count ≤ 256
+  pub start : r .stop ≡ 255 → (b : List ℕ) → Ranged m b → Agrees p (r .used) b → Has (getD new 0 0) (startOf m b)
 
 -- the pair of states k / 16 and k % 16, with the mutants that have the choices settled at the suspects used, on the input x
 pub record CellKnown (m p rows : List ℕ) (r : Reach) (k x : ℕ) : Type 0 where

@@ -3,7 +3,7 @@ use mathlib.Core.Path.{_≡_}
 use mathlib.Core.Bool.{true}
 use mathlib.Core.List.{List}
 use Prim.Native.Nat.{ℕ, _<_}
-use lib.ListN.{getD, drop}
+use lib.ListN.{length, getD, drop}
 use Rattle.model.specs.Log.{GivesFrom}
 use Rattle.block.specs.Layout.{statesOf, choicesOf}
 use Rattle.block.specs.Tabulated.{Ranged, choiceOf, chosen, stepOf, startOf}
@@ -41,6 +41,10 @@ TakenOk m p k before (Waits i) = Unit {0}
 pub record Here (m b : List ℕ) (q : ℕ) (left : List ℕ) : Type 0 where
   pub low : q < statesOf m
   pub goes : GivesFrom (stepOf m b) (startOf m b) q (observations left)
+
+-- nothing is seen before the first reset: a mutant gives the log from any state
+pub record Begins (log : List ℕ) : Type 0 where
+  pub at : 0 < length log → getD log 0 0 ≡ 256
 
 -- a mutant that has the choices settled at the suspects used and gives the log is at the place after the observations before it
 pub record Stands (m log p : List ℕ) (place : Place) : Type 0 where

@@ -8,14 +8,16 @@ mod steps;
 mod walk;
 
 use block::BLOCK;
-use block::initial;
 use cubes::goal::Goal;
 pub use effort::spent;
 use leaves::witnessed;
 use refute::refute;
 use walk::Place;
+ghost use mathlib.Core.Path.{_≡_};
+ghost use mathlib.Core.Bool.{true};
 ghost use Rattle.block.specs.Tabulated.{Wf};
 ghost use Rattle.cubes.specs.Cube.{NoneIf};
+ghost use Rattle.walks.specs.Walks.{Begins};
 
 // Whether to try is of no use.
 fn hopeless(notes: &[u16], prefix: &[u16; 32]) -> bool {
@@ -23,6 +25,16 @@ fn hopeless(notes: &[u16], prefix: &[u16; 32]) -> bool {
         return true;
     }
     witnessed(notes, prefix)
+}
+
+// Whether a log has nothing before its first reset: then any state will do to begin with.
+fn begins(log: &[u16]) -> bool
+    ensures { λ r. ⌜ (r ≡ true → Begins (now (log .entry))) ⌝ }
+{
+    if log.len() == 0 {
+        return true;
+    }
+    log[0] == 256
 }
 
 // Whether no mutant with all the choices of the prefix is sought; false promises nothing.
@@ -39,9 +51,12 @@ pub fn none_from(
     if hopeless(notes, prefix) {
         return false;
     }
+    if !begins(log) {
+        return false;
+    }
     let start = Place {
         at: 0,
-        state: initial(block, prefix),
+        state: 0,
         used: 0,
     };
     let told = refute(block, log, goal, notes, *prefix, start, 33);

@@ -2,7 +2,7 @@
 use crate::steps::Taken;
 use crate::steps::take;
 use block::BLOCK;
-use block::initial;
+use block::WAKING;
 use block::inputs;
 use block::place;
 use block::rule_output;
@@ -22,7 +22,7 @@ ghost use Rattle.block.specs.Layout.{inputsOf};
 ghost use Rattle.block.specs.Tabulated.{Wf};
 ghost use Rattle.cubes.specs.Cube.{Conform};
 ghost use Rattle.walks.specs.Walks.{Agrees};
-ghost use Rattle.walks.specs.Reaching.{Met, CellReached, RowReached, AllWithin};
+ghost use Rattle.walks.specs.Reaching.{Met, StartReached, CellReached, RowReached, AllWithin};
 
 // Nothing stops the pairs so far: no wrong output, no unsettled suspect.
 pub(crate) const CLOSED: u8 = 255;
@@ -113,6 +113,27 @@ fn cell(
     }
 }
 
+// The pair of the states after a reset, or the unsettled suspect that stops it.
+fn start(block: &[u8; BLOCK], p: &[u16; 32], rows: &mut [u16; 16], queue: &mut [u8; 256]) -> Reach
+    requires { ⌜ Wf (now block) × (length (now rows) ≡ 16) ⌝ }
+    ensures { λ r. ⌜ StartReached (now (block .entry)) (now (p .entry)) (now (rows .entry)) (now (rows .exit)) r ⌝ }
+{
+    let none = Reach {
+        used: 0,
+        count: 0,
+        stop: CLOSED,
+    };
+    let taken = take(block, p, WAKING, 0);
+    match taken {
+        Taken::Waits(i) => stopped(none, i),
+        Taken::Takes(step, used) => Reach {
+            used,
+            count: meet(rows, queue, 0, step.target, 0),
+            stop: CLOSED,
+        },
+    }
+}
+
 // Every input at a pair of states, up to a wrong output.
 fn row(
     block: &[u8; BLOCK],
@@ -169,11 +190,7 @@ pub(crate) fn spread(block: &[u8; BLOCK], p: &[u16; 32]) -> Reach
     let mut rows = [0u16; 16];
     let mut done = [0u16; 16];
     let mut queue = [0u8; 256];
-    let mut reach = Reach {
-        used: 0,
-        count: meet(&mut rows, &mut queue, 0, initial(block, p), 0),
-        stop: CLOSED,
-    };
+    let mut reach = start(block, p, &mut rows, &mut queue);
     let mut n: usize = 0;
     while n < wide16(reach.count) {
         let k = queue[n];

@@ -1,4 +1,4 @@
-// What the settled choices do at a pair of a state and an input.
+// What the settled choices do at a pair of a state and an input, or into the waking state.
 use block::BLOCK;
 use block::Step;
 use block::site;
@@ -16,7 +16,7 @@ pub(crate) enum Taken {
 }
 
 pub(crate) fn take(block: &[u8; BLOCK], p: &[u16; 32], k: usize, used: u32) -> Taken
-    requires { ⌜ Wf (now block) × (k < 256) ⌝ }
+    requires { ⌜ Wf (now block) × (k < 257) ⌝ }
     ensures { λ r. ⌜ TakenOk (now (block .entry)) (now (p .entry)) k used r ⌝ }
 {
     let i = site(block, k);

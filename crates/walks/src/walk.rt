@@ -2,13 +2,14 @@
 use crate::steps::Taken;
 use crate::steps::take;
 use block::BLOCK;
-use block::initial;
+use block::WAKING;
 use block::inputs;
 use block::some_place;
 use cubes::failing::input_of;
 use cubes::failing::output_of;
+ghost use mathlib.Core.Path.{_≡_};
 ghost use Prim.Native.Nat.{_+_, _<_};
-ghost use lib.ListN.{length};
+ghost use lib.ListN.{length, getD};
 ghost use Rattle.block.specs.Tabulated.{Wf};
 ghost use Rattle.cubes.specs.declared.goal.Goal.{Goal};
 ghost use Rattle.walks.specs.Walks.{Stands, Halts, GoesTo};
@@ -28,6 +29,22 @@ pub(crate) enum Halt {
     Lost,
 }
 
+// A reset: what was before does not matter, but at an unsettled suspect the walk waits before it.
+fn reset(block: &[u8; BLOCK], log: &[u16], p: &[u16; 32], place: Place) -> Halt
+    requires { ⌜ Wf (now block) × Stands (now block) (now log) (now p) place × (place .at < length (now log)) × (getD (now log) (place .at) 0 ≡ 256) ⌝ }
+    ensures { λ r. ⌜ ((goal : Goal) → Halts goal (now (block .entry)) (now (log .entry)) (now (p .entry)) r) × GoesTo (place .at + 1) r ⌝ }
+{
+    let taken = take(block, p, WAKING, 0);
+    match taken {
+        Taken::Waits(i) => Halt::Waits(i, place),
+        Taken::Takes(step, used) => Halt::Ends(Place {
+            at: place.at + 1,
+            state: step.target,
+            used,
+        }),
+    }
+}
+
 // One observation: `Ends` tells where the walk stands after it.
 fn observe(block: &[u8; BLOCK], log: &[u16], p: &[u16; 32], place: Place) -> Halt
     requires { ⌜ Wf (now block) × Stands (now block) (now log) (now p) place × (place .at < length (now log)) ⌝ }
@@ -36,11 +53,7 @@ fn observe(block: &[u8; BLOCK], log: &[u16], p: &[u16; 32], place: Place) -> Hal
     let at = place.at;
     let v = log[at];
     if v == 256 {
-        return Halt::Ends(Place {
-            at: at + 1,
-            state: initial(block, p),
-            used: 0,
-        });
+        return reset(block, log, p, place);
     }
     if v > 256 {
         return Halt::Lost;

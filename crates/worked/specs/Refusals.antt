@@ -5,9 +5,9 @@ use mathlib.Core.Path.{_≡_, refl}
 use mathlib.Core.List.{List, [], _∷_, _++_, map}
 use lib.ListN.{replicate}
 use Rattle.lists.specs.Lists.{last, precedes, count, any, all, upTo, joined}
-use Rattle.sheet.specs.Sheet.{rowsAt, ruleAt, after, leads, reachedWithin, allReached, unruledChoices, choicesAt, isOpen, openBelow, openPairs}
-use Rattle.sheet.specs.Reading.{refused, firstBroken, ascends, lastTest, ruleAfter, refusal, addPress, advance, finishing, doing, oneCommand, from, blank, reading}
-use Rattle.sheet.specs.Encode.{pressBytes}
+use Rattle.sheet.specs.Sheet.{rowsAt, ruleAt, after, leads, reachedWithin, allReached, unruledChoices, choicesAt, isOpen, openBelow, openPairs, wakings, wakingChoices, wakingSlots, openSlots}
+use Rattle.sheet.specs.Reading.{refused, firstBroken, ascends, rises, lastTest, ruleAfter, refusal, addPress, advance, finishing, doing, oneCommand, from, blank, reading}
+use Rattle.sheet.specs.Encode.{operandBytes, pressBytes}
 
 -- a sheet, and the number and place that it is refused with
 pub record Refusal : Type 0 where
@@ -33,17 +33,23 @@ refusals =
     -- 2: no command byte is there, told at the sheet's length; operands are missing, told at the command
     row (0x01 ∷ 1 ∷ 1 ∷ 1 ∷ []) 2 4
     ∷ row (0x01 ∷ 1 ∷ 1 ∷ 1 ∷ 0x02 ∷ 0 ∷ []) 2 4
-    -- 3: an unknown byte; no SIZE, a second one, PRESS before TEST, RULE after FAULT, FAULT after TEST; before missing operands
-    ∷ row (0x01 ∷ 1 ∷ 1 ∷ 1 ∷ 0x07 ∷ []) 3 4
+    ∷ row (0x01 ∷ 1 ∷ 1 ∷ 1 ∷ 0x07 ∷ []) 2 4
+    -- 3: an unknown byte; no SIZE, a second one, PRESS before TEST, RULE after FAULT, FAULT after TEST; before missing operands; START
+    -- before SIZE and after TEST, RULE and FAULT after START
+    ∷ row (0x01 ∷ 1 ∷ 1 ∷ 1 ∷ 0x09 ∷ []) 3 4
     ∷ row (0x02 ∷ 0 ∷ 0 ∷ 0 ∷ 0 ∷ []) 3 0
     ∷ row (0x01 ∷ 1 ∷ 1 ∷ 1 ∷ 0x01 ∷ []) 3 4
     ∷ row (0x01 ∷ 1 ∷ 1 ∷ 1 ∷ 0x05 ∷ 0 ∷ 0x06 ∷ []) 3 4
     ∷ row (0x01 ∷ 1 ∷ 1 ∷ 2 ∷ 0x02 ∷ 0 ∷ 0 ∷ 0 ∷ 0 ∷ 0x03 ∷ 0 ∷ 0 ∷ 1 ∷ 0 ∷ 0x02 ∷ 0 ∷ 0 ∷ 0 ∷ 0 ∷ []) 3 14
     ∷ row (0x01 ∷ 1 ∷ 1 ∷ 1 ∷ 0x02 ∷ 0 ∷ 0 ∷ 0 ∷ 0 ∷ 0x04 ∷ 0x03 ∷ 0 ∷ 0 ∷ 1 ∷ 0 ∷ []) 3 10
+    ∷ row (0x07 ∷ 1 ∷ []) 3 0
+    ∷ row (0x01 ∷ 2 ∷ 1 ∷ 1 ∷ 0x04 ∷ 0x07 ∷ 1 ∷ []) 3 5
+    ∷ row (0x01 ∷ 2 ∷ 1 ∷ 1 ∷ 0x07 ∷ 1 ∷ 0x02 ∷ 0 ∷ 0 ∷ 0 ∷ 1 ∷ []) 3 6
+    ∷ row (0x01 ∷ 2 ∷ 1 ∷ 1 ∷ 0x02 ∷ 0 ∷ 0 ∷ 0 ∷ 1 ∷ 0x07 ∷ 1 ∷ 0x03 ∷ 0 ∷ 0 ∷ 0 ∷ 0 ∷ []) 3 11
     -- 4: a size of 0 or 17
     ∷ row (0x01 ∷ 1 ∷ 0 ∷ 1 ∷ 0x06 ∷ []) 4 0
     ∷ row (0x01 ∷ 1 ∷ 1 ∷ 17 ∷ 0x06 ∷ []) 4 0
-    -- 5: each operand of a row and of a PRESS; before 6, 7 and 9
+    -- 5: each operand of a row, of a PRESS and of a START; before 6, 7 and 9
     ∷ row (0x01 ∷ 1 ∷ 1 ∷ 1 ∷ 0x02 ∷ 1 ∷ 0 ∷ 0 ∷ 0 ∷ []) 5 4
     ∷ row (0x01 ∷ 1 ∷ 1 ∷ 1 ∷ 0x02 ∷ 0 ∷ 1 ∷ 0 ∷ 0 ∷ []) 5 4
     ∷ row (0x01 ∷ 1 ∷ 1 ∷ 1 ∷ 0x02 ∷ 0 ∷ 0 ∷ 1 ∷ 0 ∷ []) 5 4
@@ -51,12 +57,17 @@ refusals =
     ∷ row (0x01 ∷ 1 ∷ 1 ∷ 1 ∷ 0x02 ∷ 0 ∷ 0 ∷ 0 ∷ 0 ∷ 0x02 ∷ 0 ∷ 0 ∷ 0 ∷ 1 ∷ []) 5 9
     ∷ row (0x01 ∷ 1 ∷ 1 ∷ 1 ∷ 0x03 ∷ 0 ∷ 0 ∷ 1 ∷ 0 ∷ []) 5 4
     ∷ row (0x01 ∷ 1 ∷ 1 ∷ 1 ∷ 0x04 ∷ 0x05 ∷ 1 ∷ []) 5 5
-    -- 6: the same pair again, a smaller press, the same FAULT again; before 7
+    ∷ row (0x01 ∷ 2 ∷ 1 ∷ 1 ∷ 0x07 ∷ 2 ∷ []) 5 4
+    ∷ row (0x01 ∷ 2 ∷ 1 ∷ 1 ∷ 0x07 ∷ 1 ∷ 0x07 ∷ 2 ∷ []) 5 6
+    -- 6: the same pair again, a smaller press, the same FAULT again, the same START again; before 7
     ∷ row (0x01 ∷ 1 ∷ 1 ∷ 1 ∷ 0x02 ∷ 0 ∷ 0 ∷ 0 ∷ 0 ∷ 0x02 ∷ 0 ∷ 0 ∷ 0 ∷ 0 ∷ []) 6 9
     ∷ row (0x01 ∷ 1 ∷ 2 ∷ 1 ∷ 0x02 ∷ 0 ∷ 1 ∷ 0 ∷ 0 ∷ 0x02 ∷ 0 ∷ 0 ∷ 0 ∷ 0 ∷ []) 6 9
     ∷ row (0x01 ∷ 1 ∷ 1 ∷ 2 ∷ 0x02 ∷ 0 ∷ 0 ∷ 0 ∷ 0 ∷ 0x03 ∷ 0 ∷ 0 ∷ 1 ∷ 0 ∷ 0x03 ∷ 0 ∷ 0 ∷ 1 ∷ 0 ∷ []) 6 14
     ∷ row (0x01 ∷ 1 ∷ 1 ∷ 2 ∷ 0x02 ∷ 0 ∷ 0 ∷ 0 ∷ 0 ∷ 0x03 ∷ 0 ∷ 0 ∷ 1 ∷ 0 ∷ 0x03 ∷ 0 ∷ 0 ∷ 0 ∷ 0 ∷ []) 6 14
-    -- 7: a FAULT with no RULE at its pair; one that equals it
+    ∷ row (0x01 ∷ 2 ∷ 1 ∷ 1 ∷ 0x07 ∷ 1 ∷ 0x07 ∷ 1 ∷ []) 6 6
+    ∷ row (0x01 ∷ 2 ∷ 1 ∷ 1 ∷ 0x07 ∷ 1 ∷ 0x07 ∷ 0 ∷ []) 6 6
+    -- 7: a FAULT with no RULE at its pair; one that equals it; START 0
+    ∷ row (0x01 ∷ 1 ∷ 1 ∷ 1 ∷ 0x07 ∷ 0 ∷ []) 7 4
     ∷ row (0x01 ∷ 1 ∷ 1 ∷ 2 ∷ 0x03 ∷ 0 ∷ 0 ∷ 1 ∷ 0 ∷ []) 7 4
     ∷ row (0x01 ∷ 1 ∷ 1 ∷ 1 ∷ 0x02 ∷ 0 ∷ 0 ∷ 0 ∷ 0 ∷ 0x03 ∷ 0 ∷ 0 ∷ 0 ∷ 0 ∷ []) 7 9
     -- 8: the 257th PRESS of a test, also where no RULE is there, after 5; the 257th FAULT, after 7 and 6
@@ -76,5 +87,5 @@ refusals =
     ∷ []
 
 pub refusals-told : map (λ (r : Refusal). reading (r .sheet)) refusals ≡ map (λ (r : Refusal). refused (r .number) (r .place)) refusals
-unfolding refusals presses faults last precedes count any all upTo joined rowsAt ruleAt after leads reachedWithin allReached unruledChoices choicesAt isOpen openBelow openPairs firstBroken ascends lastTest ruleAfter refusal addPress advance finishing doing oneCommand from blank reading pressBytes
+unfolding refusals presses faults last precedes count any all upTo joined rowsAt ruleAt after leads reachedWithin allReached unruledChoices choicesAt isOpen openBelow openPairs wakings wakingChoices wakingSlots openSlots firstBroken ascends rises lastTest ruleAfter refusal addPress advance finishing doing oneCommand from blank reading operandBytes
 refusals-told = refl

@@ -9,9 +9,9 @@ use lib.ListN.{length, replicate}
 use Rattle.sheet.specs.declared.Summary.{Summary}
 use Rattle.sheet.specs.declared.Span.{Span}
 use Rattle.lists.specs.Lists.{last, precedes, count, any, all, upTo, joined}
-use Rattle.sheet.specs.Sheet.{Sheet, rowsAt, ruleAt, after, leads, reachedWithin, allReached, unruledChoices, choicesAt, isOpen, openBelow, openPairs}
-use Rattle.sheet.specs.Reading.{Result, accepted, refused, firstBroken, ascends, lastTest, ruleAfter, refusal, addPress, advance, finishing, doing, oneCommand, from, blank, reading, summaryOf}
-use Rattle.sheet.specs.Encode.{rowBytes, pressBytes, testBytes, sizeBytes, machineBytes}
+use Rattle.sheet.specs.Sheet.{Sheet, rowsAt, ruleAt, after, leads, reachedWithin, allReached, unruledChoices, choicesAt, isOpen, openBelow, openPairs, wakings, wakingChoices, wakingSlots, openSlots}
+use Rattle.sheet.specs.Reading.{Result, accepted, refused, firstBroken, ascends, rises, lastTest, ruleAfter, refusal, addPress, advance, finishing, doing, oneCommand, from, blank, reading, summaryOf}
+use Rattle.sheet.specs.Encode.{rowBytes, operandBytes, testBytes, sizeBytes, machineBytes}
 use Rattle.sheet.specs.Part.{spanOf, parting}
 use Rattle.sheet.specs.laws.AcceptedLaw.{well-formed}
 use lib.Count.{ones}
@@ -23,7 +23,7 @@ use Rattle.model.specs.Suite.{Judgement, complete, survivor, wrongFrom, wrongIn
 use Rattle.model.specs.Operations.{reads, firstHigh, firstOver, withMutant, Response, responseOf, running, failing, comparing, judging, runOn, compareOn, judgeOn}
 use Rattle.model.specs.laws.UsedBitLaw.{ones-count}
 use Rattle.model.specs.laws.QuickJudgeLaw.{tabulate, cellAt, rounds, compareQuick, firstQuick, judgeQuick, quick}
-use Rattle.worked.specs.Sheets.{p1machine, p1, p2, p3, emptyTest, p4machine, p4, p5, p6, p9machine, bababa, p9, p10, stuck, chain, open32, open33, manyTests}
+use Rattle.worked.specs.Sheets.{p1machine, p1, p2, p3, emptyTest, p4machine, p4, p5, p6, p9machine, bababa, p9, p10, stuck, chain, open32, open33, manyTests, p1start, onlyStart, equalStart, start31, start32}
 
 -- the sheet that was read
 abbrev sheetOf : Result Sheet → Sheet
@@ -156,12 +156,38 @@ touching =
     ∷ failed p10 (6 ∷ 0 ∷ 0 ∷ 1 ∷ []) (place 0 4 3 13)
     ∷ []
 
+-- 02, Point 5: where a mutant wakes is its first choice, counts toward the 32 and in every length, is always used and moves the
+-- other slots up by one; a mutant that wakes elsewhere fails at once, conforms, or has a sequence of one input; 13, 14 and 16 with it
+unfoldable pub waking : List Row
+waking =
+    read p1start (summary 2 2 2 4 1 1 2)
+    ∷ open-pairs p1start (accepted (pair 1 1 ∷ []))
+    ∷ choices p1start (accepted (2 ∷ 2 ∷ []))
+    ∷ part p1start 0 (accepted (record { start = 32; length = 4 }))
+    ∷ run p1start (1 ∷ 0 ∷ []) [] 0 (ran [] 1 1)
+    ∷ run p1start (1 ∷ 1 ∷ []) (1 ∷ 0 ∷ []) 2 (ran (1 ∷ 0 ∷ []) 2 3)
+    ∷ run p1start (0 ∷ 1 ∷ []) (0 ∷ 1 ∷ 0 ∷ []) 3 (ran (1 ∷ 1 ∷ 0 ∷ []) 2 3)
+    ∷ run p1start (1 ∷ []) [] 0 (refused 13 0)
+    ∷ run p1start (2 ∷ 2 ∷ []) [] 0 (refused 14 0)
+    ∷ failed p1start (1 ∷ 0 ∷ []) (place 0 0 1 1)
+    ∷ failed p1start (0 ∷ 1 ∷ []) (passed 2 3)
+    ∷ failed onlyStart (1 ∷ []) (passed 1 1)
+    ∷ compared p1start (1 ∷ 0 ∷ []) 4 (accepted (some (0 ∷ [])))
+    ∷ compared equalStart (1 ∷ []) 4 (accepted none)
+    ∷ judged p1start 2 4 (accepted (survivor (0 ∷ 1 ∷ []) (0 ∷ 1 ∷ 0 ∷ [])))
+    ∷ judged p1start 1 4 (refused 16 0)
+    ∷ judged onlyStart 1 4 (accepted (survivor (1 ∷ []) (0 ∷ [])))
+    ∷ judged equalStart 1 4 (accepted complete)
+    ∷ read start31 (summary 2 16 1 1 0 0 32)
+    ∷ read start32 (refused 12 16)
+    ∷ []
+
 unfoldable pub rows : List Row
-rows = listed ++ (judged p10 4 16 (accepted complete) ∷ (further ++ touching))
+rows = listed ++ (judged p10 4 16 (accepted complete) ∷ (further ++ (touching ++ waking)))
 
 -- the definitions that the rows compute with, by one name: to unfold it is to unfold them
 computing : Unit {0}
-unfolding p1machine p1 p2 p3 emptyTest p4machine p4 p5 p6 p9machine bababa p9 p10 stuck chain open32 open33 manyTests last precedes count any all upTo joined rowsAt ruleAt after leads reachedWithin allReached unruledChoices choicesAt isOpen openBelow openPairs firstBroken ascends lastTest ruleAfter refusal addPress advance finishing doing oneCommand from blank reading summaryOf rowBytes pressBytes testBytes sizeBytes machineBytes spanOf parting outputsFrom rule unruled transitions suspects slots siteIn siteOf choiceLists mutants acts step initial startSlot outputs has markFrom markAll usedOn least shows within best shortest distance compareFrom comparePair wrongFrom wrongIn firstFailedIn firstFailedOf findingOf compareOf survivorAmong judgeOf firstHigh firstOver withMutant responseOf runOn running failing compareOn comparing judgeOn judging
+unfolding p1machine p1 p2 p3 emptyTest p4machine p4 p5 p6 p9machine bababa p9 p10 stuck chain open32 open33 manyTests p1start onlyStart equalStart start31 start32 last precedes count any all upTo joined rowsAt ruleAt after leads reachedWithin allReached unruledChoices choicesAt isOpen openBelow openPairs wakings wakingChoices wakingSlots openSlots firstBroken ascends rises lastTest ruleAfter refusal addPress advance finishing doing oneCommand from blank reading summaryOf rowBytes operandBytes testBytes sizeBytes machineBytes spanOf parting outputsFrom rule unruled transitions suspects slots siteIn siteOf choiceLists mutants acts step initial startSlot outputs has markFrom markAll usedOn least shows within best shortest distance compareFrom comparePair wrongFrom wrongIn firstFailedIn firstFailedOf findingOf compareOf survivorAmong judgeOf firstHigh firstOver withMutant responseOf runOn running failing compareOn comparing judgeOn judging
 computing = tt
 
 -- P10's eight conforming mutants that pass are compared over all sequences of 16 inputs: a quicker judgement, proved to be
@@ -192,5 +218,5 @@ _&_ : {A B : Type 0} → A → B → A × B
 a & b = (a, b)
 
 pub rows-hold : AllHold rows
-unfolding computing ones rows listed further touching Holds AllHold
-rows-hold = refl & refl & refl & refl & refl & refl & refl & refl & refl & refl & refl & refl & refl & refl & refl & refl & refl & refl & refl & refl & refl & refl & refl & p10-holds & refl & refl & refl & refl & refl & refl & refl & refl & refl & refl & refl & refl & refl & refl & refl & refl & refl & refl & refl & refl & refl & refl & refl & refl & refl & refl & refl & refl & refl & refl & refl & refl & refl & refl & refl & refl & refl & open32-holds & refl & refl & refl & refl & tt
+unfolding computing ones rows listed further touching waking Holds AllHold
+rows-hold = refl & refl & refl & refl & refl & refl & refl & refl & refl & refl & refl & refl & refl & refl & refl & refl & refl & refl & refl & refl & refl & refl & refl & p10-holds & refl & refl & refl & refl & refl & refl & refl & refl & refl & refl & refl & refl & refl & refl & refl & refl & refl & refl & refl & refl & refl & refl & refl & refl & refl & refl & refl & refl & refl & refl & refl & refl & refl & refl & refl & refl & refl & open32-holds & refl & refl & refl & refl & refl & refl & refl & refl & refl & refl & refl & refl & refl & refl & refl & refl & refl & refl & refl & refl & refl & refl & refl & refl & tt

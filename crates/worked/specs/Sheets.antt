@@ -124,3 +124,28 @@ open33 =
 -- P6 with n tests without a PRESS
 unfoldable pub manyTests : ℕ → List ℕ
 manyTests n = 0x01 ∷ 1 ∷ 1 ∷ 1 ∷ replicate n 0x04 ++ 0x06 ∷ []
+
+-- P1 with START 1 (02, Point 5)
+unfoldable pub p1start : List ℕ
+p1start = p1machine ++ 0x07 ∷ 1 ∷ 0x04 ∷ 0x05 ∷ 0 ∷ 0x05 ∷ 1 ∷ 0x06 ∷ []
+
+-- P1's RULEs, START 1, nothing else: without START complete, as there is one mutant only
+unfoldable pub onlyStart : List ℕ
+onlyStart =
+    0x01 ∷ 2 ∷ 2 ∷ 2 ∷
+    0x02 ∷ 0 ∷ 0 ∷ 1 ∷ 1 ∷
+    0x02 ∷ 0 ∷ 1 ∷ 0 ∷ 0 ∷
+    0x02 ∷ 1 ∷ 0 ∷ 0 ∷ 1 ∷
+    0x02 ∷ 1 ∷ 1 ∷ 1 ∷ 0 ∷
+    0x07 ∷ 1 ∷ 0x06 ∷ []
+
+-- two states that give the same outputs, and START 1
+unfoldable pub equalStart : List ℕ
+equalStart = 0x01 ∷ 2 ∷ 1 ∷ 1 ∷ 0x02 ∷ 0 ∷ 0 ∷ 0 ∷ 1 ∷ 0x02 ∷ 1 ∷ 0 ∷ 0 ∷ 0 ∷ 0x07 ∷ 1 ∷ 0x06 ∷ []
+
+-- 31 and 32 open pairs, and START 1
+unfoldable pub start31 : List ℕ
+start31 = 0x01 ∷ 2 ∷ 16 ∷ 1 ∷ 0x02 ∷ 0 ∷ 0 ∷ 0 ∷ 1 ∷ 0x07 ∷ 1 ∷ 0x06 ∷ []
+
+unfoldable pub start32 : List ℕ
+start32 = 0x01 ∷ 2 ∷ 16 ∷ 1 ∷ 0x02 ∷ 0 ∷ 0 ∷ 0 ∷ 1 ∷ 0x03 ∷ 0 ∷ 0 ∷ 0 ∷ 0 ∷ 0x07 ∷ 1 ∷ 0x06 ∷ []

@@ -8,7 +8,7 @@ use lib.Dec.{eqb}
 use lib.ListN.{length, getD, take, drop, length-drop, drop-of-length-le}
 use lib.Seq.{drop-drop, drop-cons}
 use borrow.Author.Tests.{eq-eqb, ne-eqb}
-use Rattle.sheet.specs.Encode.{rowBytes, pressBytes, testBytes}
+use Rattle.sheet.specs.Encode.{rowBytes, operandBytes, pressBytes, testBytes}
 use Rattle.writing.specs.Drawing.{rowsOf, testsOf, total}
 use Rattle.writing.specs.laws.SpelledLaw.{Next}
 
@@ -48,14 +48,13 @@ module _ (b : ℕ) (l : List ℕ) (i : ℕ) where
   pub rows-none : length l - i < 4 → rowBytes b (rowsOf (drop i l)) ≡ []
   rows-none h = rows-short b (drop i l) (rw (length-drop i l) h)
 
-module _ (l : List ℕ) (i : ℕ) where
-  pub presses-next : i < length l → Next (pressBytes (drop i l)) (5 ∷ part l i 1) (pressBytes (drop (i + 1) l))
-  unfolding pressBytes
-  presses-next h = record { is = rw (part-is l i 1, first l i h) refl }
+  pub operands-next : i < length l → Next (operandBytes b (drop i l)) (b ∷ part l i 1) (operandBytes b (drop (i + 1) l))
+  unfolding operandBytes
+  operands-next h = record { is = rw (part-is l i 1, first l i h) refl }
 
-  pub presses-none : length l ≤ i → pressBytes (drop i l) ≡ []
-  unfolding pressBytes
-  presses-none h = rw (drop-of-length-le l h)
+  pub operands-none : length l ≤ i → operandBytes b (drop i l) ≡ []
+  unfolding operandBytes
+  operands-none h = rw (drop-of-length-le l h)
 
 module _ (ns xs : List ℕ) (i start : ℕ) where
   pub tests-next : (n : ℕ) → n ≡ getD ns i 0 → i < length ns → Next (testBytes (testsOf (drop i ns) (drop start xs)))

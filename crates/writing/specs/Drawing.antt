@@ -9,16 +9,18 @@ use Rattle.sheet.specs.declared.Size.{Size}
 use Rattle.lists.specs.Lists.{joined}
 use Rattle.sheet.specs.Sheet.{Sheet, rowOf}
 
--- rules and faults four bytes a row (s x o t); the lengths of the tests, and their inputs end to end
+-- rules and faults four bytes a row (s x o t); the STARTs' states; the lengths of the tests, and their inputs end to end
 pub record Drawing : Type 0 where
   pub size : Size
   pub rules : List ℕ
   pub faults : List ℕ
+  pub starts : List ℕ
   pub lengths : List ℕ
   pub presses : List ℕ
 
-abbrev pub drawing : Size → List ℕ → List ℕ → List ℕ → List ℕ → Drawing
-drawing size rules faults lengths presses = record { size = size; rules = rules; faults = faults; lengths = lengths; presses = presses }
+abbrev pub drawing : Size → List ℕ → List ℕ → List ℕ → List ℕ → List ℕ → Drawing
+drawing size rules faults starts lengths presses =
+    record { size = size; rules = rules; faults = faults; starts = starts; lengths = lengths; presses = presses }
 
 -- the whole rows of a table
 unfoldable pub rowsOf : List ℕ → List Row
@@ -42,7 +44,14 @@ isCut d = not (eqb (length (d .rules) % 4) 0 && (eqb (length (d .faults) % 4) 0 
 
 -- the sheet of tables that are not cut
 unfoldable pub sheetOf : Drawing → Sheet
-sheetOf d = record { size = d .size; rules = rowsOf (d .rules); faults = rowsOf (d .faults); tests = testsOf (d .lengths) (d .presses) }
+sheetOf d =
+    record {
+      size = d .size;
+      rules = rowsOf (d .rules);
+      faults = rowsOf (d .faults);
+      starts = d .starts;
+      tests = testsOf (d .lengths) (d .presses);
+    }
 
 -- the tables of a sheet
 unfoldable pub drawingOf : Sheet → Drawing
@@ -51,6 +60,7 @@ drawingOf sh =
       size = sh .size;
       rules = joined rowOf (sh .rules);
       faults = joined rowOf (sh .faults);
+      starts = sh .starts;
       lengths = map length (sh .tests);
       presses = joined (λ xs. xs) (sh .tests);
     }

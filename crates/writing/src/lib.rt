@@ -2,6 +2,8 @@
 // Promises the sheet's bytes and length, or the refusal, and that a written sheet reads as the very tables it was made from.
 // Called by users, by `generator` and by `capi`.
 ghost use mathlib.Core.Path.{_≡_};
+ghost use Prim.Native.Nat.{ℕ};
+ghost use mathlib.Core.List.{List};
 ghost use lib.Dec.{eqb, ltb};
 ghost use lib.ListN.{length};
 ghost use Rattle.sheet.specs.declared.Size.{Size as Sizes};
@@ -42,7 +44,8 @@ fn adds_up(lengths: &[u16], presses: usize) -> bool
 }
 
 fn is_cut(rules: &[u8], faults: &[u8], lengths: &[u16], presses: &[u8]) -> bool
-    ensures { λ r. ⌜ ((size : Sizes) → r ≡ isCut (drawing size (now (rules .entry)) (now (faults .entry)) (now (lengths .entry)) (now (presses .entry)))) ⌝ }
+    ensures { λ r. ⌜ ((size : Sizes) (starts : List ℕ)
+        → r ≡ isCut (drawing size (now (rules .entry)) (now (faults .entry)) starts (now (lengths .entry)) (now (presses .entry)))) ⌝ }
 {
     if rules.len() % 4 != 0 {
         return true;
@@ -53,14 +56,17 @@ fn is_cut(rules: &[u8], faults: &[u8], lengths: &[u16], presses: &[u8]) -> bool
     !adds_up(lengths, presses.len())
 }
 
-// Whether the sheet of tables of so many bytes, tests and presses has over 16,384 bytes.
-fn is_long(rules: usize, faults: usize, tests: usize, presses: usize) -> bool
-    ensures { λ r. ⌜ r ≡ ltb 16384 (lengthOf rules faults tests presses) ⌝ }
+// Whether the sheet of tables of so many bytes, STARTs, tests and presses has over 16,384 bytes.
+fn is_long(rules: usize, faults: usize, starts: usize, tests: usize, presses: usize) -> bool
+    ensures { λ r. ⌜ r ≡ ltb 16384 (lengthOf rules faults starts tests presses) ⌝ }
 {
     if rules > 16384 {
         return true;
     }
     if faults > 16384 {
+        return true;
+    }
+    if starts > 16384 {
         return true;
     }
     if tests > 16384 {
@@ -69,7 +75,7 @@ fn is_long(rules: usize, faults: usize, tests: usize, presses: usize) -> bool
     if presses > 16384 {
         return true;
     }
-    5 + 5 * (rules / 4) + 5 * (faults / 4) + tests + 2 * presses > 16384
+    5 + 5 * (rules / 4) + 5 * (faults / 4) + 2 * starts + tests + 2 * presses > 16384
 }
 
 // A sheet to a buffer's front, where reading accepts it and there is room.
@@ -88,27 +94,34 @@ fn put(sheet: &[u8], buffer: &mut [u8]) -> Written
     Written::Done(spell::bytes(sheet, buffer, 0))
 }
 
-// The sheet of the tables at the buffer's front: rules and faults four bytes a row (s x o t), the lengths of the tests, and their
-// presses end to end.
+// The sheet of the tables at the buffer's front: rules and faults four bytes a row (s x o t), the STARTs' states, the lengths of the
+// tests, and their presses end to end.
 pub fn write(
     size: Size,
     rules: &[u8],
     faults: &[u8],
+    starts: &[u8],
     lengths: &[u16],
     presses: &[u8],
     buffer: &mut [u8],
 ) -> Written
-    ensures answer { λ r. ⌜ r ≡ writtenAnswer (writing (drawing size (now (rules .entry)) (now (faults .entry)) (now (lengths .entry)) (now (presses .entry))) (length (now (buffer .entry)))) ⌝ }
-    ensures bytes { λ r. ⌜ now (buffer .exit) ≡ overlay (sheetWrites (writing (drawing size (now (rules .entry)) (now (faults .entry)) (now (lengths .entry)) (now (presses .entry))) (length (now (buffer .entry))))) (now (buffer .entry)) ⌝ }
-    ensures told { λ r. ⌜ ToldWritten (drawing size (now (rules .entry)) (now (faults .entry)) (now (lengths .entry)) (now (presses .entry))) r (now (buffer .exit)) ⌝ }
+    ensures answer { λ r. ⌜ r ≡ writtenAnswer (writing (drawing size (now (rules .entry)) (now (faults .entry)) (now (starts .entry)) (now (lengths .entry)) (now (presses .entry))) (length (now (buffer .entry)))) ⌝ }
+    ensures bytes { λ r. ⌜ now (buffer .exit) ≡ overlay (sheetWrites (writing (drawing size (now (rules .entry)) (now (faults .entry)) (now (starts .entry)) (now (lengths .entry)) (now (presses .entry))) (length (now (buffer .entry))))) (now (buffer .entry)) ⌝ }
+    ensures told { λ r. ⌜ ToldWritten (drawing size (now (rules .entry)) (now (faults .entry)) (now (starts .entry)) (now (lengths .entry)) (now (presses .entry))) r (now (buffer .exit)) ⌝ }
 {
     if is_cut(rules, faults, lengths, presses) {
         return Written::Refused(2, 0);
     }
-    if is_long(rules.len(), faults.len(), lengths.len(), presses.len()) {
+    if is_long(
+        rules.len(),
+        faults.len(),
+        starts.len(),
+        lengths.len(),
+        presses.len(),
+    ) {
         return Written::Refused(1, 0);
     }
     let mut sheet = [0u8; 16384];
-    let end = spell::spell(size, rules, faults, lengths, presses, &mut sheet);
+    let end = spell::spell(size, rules, faults, starts, lengths, presses, &mut sheet);
     put(&sheet[..end], buffer)
 }

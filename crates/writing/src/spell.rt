@@ -3,7 +3,7 @@ ghost use mathlib.Core.Path.{_≡_};
 ghost use mathlib.Core.List.{[], _∷_};
 ghost use Prim.Native.Nat.{_+_, _≤_, _<_};
 ghost use lib.ListN.{length};
-ghost use Rattle.sheet.specs.Encode.{rowBytes, pressBytes, testBytes, encode};
+ghost use Rattle.sheet.specs.Encode.{rowBytes, operandBytes, pressBytes, testBytes, encode};
 ghost use Rattle.writing.specs.Drawing.{rowsOf, testsOf, total, drawing, sheetOf};
 ghost use Rattle.writing.specs.words.Spelled.{Spelled};
 use sheet::Size;
@@ -52,15 +52,16 @@ fn rows(b: u8, table: &[u8], sheet: &mut [u8], at: usize) -> usize
     to
 }
 
-fn presses(inputs: &[u8], sheet: &mut [u8], at: usize) -> usize
-    requires { ⌜ at + length (pressBytes (now inputs)) ≤ length (now sheet) ⌝ }
-    ensures { λ r. ⌜ Spelled (now (sheet .entry)) (now (sheet .exit)) at r (pressBytes (now (inputs .entry))) ⌝ }
+// A command with one operand for each number of a table.
+fn operands(b: u8, table: &[u8], sheet: &mut [u8], at: usize) -> usize
+    requires { ⌜ at + length (operandBytes b (now table)) ≤ length (now sheet) ⌝ }
+    ensures { λ r. ⌜ Spelled (now (sheet .entry)) (now (sheet .exit)) at r (operandBytes b (now (table .entry))) ⌝ }
 {
     let mut to = at;
     let mut i = 0;
-    while i < inputs.len() {
+    while i < table.len() {
         let end = i + 1;
-        to = command(5, &inputs[i..end], sheet, to);
+        to = command(b, &table[i..end], sheet, to);
         i = end;
     }
     to
@@ -71,7 +72,7 @@ fn test(inputs: &[u8], sheet: &mut [u8], at: usize) -> usize
     ensures { λ r. ⌜ Spelled (now (sheet .entry)) (now (sheet .exit)) at r (4 ∷ pressBytes (now (inputs .entry))) ⌝ }
 {
     let to = byte(4, sheet, at);
-    presses(inputs, sheet, to)
+    operands(5, inputs, sheet, to)
 }
 
 pub(crate) fn wide(n: u16) -> usize
@@ -103,18 +104,20 @@ pub(crate) fn spell(
     size: Size,
     rules: &[u8],
     faults: &[u8],
+    starts: &[u8],
     lengths: &[u16],
     inputs: &[u8],
     sheet: &mut [u8],
 ) -> usize
     requires { ⌜ total (now lengths) ≤ length (now inputs) ⌝ }
-    requires { ⌜ length (encode (sheetOf (drawing size (now rules) (now faults) (now lengths) (now inputs)))) ≤ length (now sheet) ⌝ }
-    ensures { λ r. ⌜ Spelled (now (sheet .entry)) (now (sheet .exit)) 0 r (encode (sheetOf (drawing size (now (rules .entry)) (now (faults .entry)) (now (lengths .entry)) (now (inputs .entry))))) ⌝ }
+    requires { ⌜ length (encode (sheetOf (drawing size (now rules) (now faults) (now starts) (now lengths) (now inputs)))) ≤ length (now sheet) ⌝ }
+    ensures { λ r. ⌜ Spelled (now (sheet .entry)) (now (sheet .exit)) 0 r (encode (sheetOf (drawing size (now (rules .entry)) (now (faults .entry)) (now (starts .entry)) (now (lengths .entry)) (now (inputs .entry))))) ⌝ }
 {
-    let operands = [size.states, size.inputs, size.outputs];
-    let ruled = command(1, &operands, sheet, 0);
+    let sizes = [size.states, size.inputs, size.outputs];
+    let ruled = command(1, &sizes, sheet, 0);
     let faulted = rows(2, rules, sheet, ruled);
-    let tested = rows(3, faults, sheet, faulted);
+    let started = rows(3, faults, sheet, faulted);
+    let tested = operands(7, starts, sheet, started);
     let ended = tests(lengths, inputs, sheet, tested);
     byte(6, sheet, ended)
 }

@@ -16,6 +16,8 @@ mod c {
             rules_length: usize,
             faults: *const u8,
             faults_length: usize,
+            starts: *const u8,
+            starts_length: usize,
             lengths: *const u16,
             lengths_length: usize,
             presses: *const u8,
@@ -41,6 +43,7 @@ pub fn write(
     [states, inputs, outputs]: [u8; 3],
     rules: &[u8],
     faults: &[u8],
+    starts: &[u8],
     lengths: &[u16],
     presses: &[u8],
     buffer: &mut [u8],
@@ -56,6 +59,8 @@ pub fn write(
             rules.len(),
             faults.as_ptr(),
             faults.len(),
+            starts.as_ptr(),
+            starts.len(),
             lengths.as_ptr(),
             lengths.len(),
             presses.as_ptr(),
@@ -70,6 +75,7 @@ pub fn write(
 /// The sheet of the tables, in a buffer of so many bytes.
 pub fn checked_write(tables: &Tables, room: usize) -> Result<Vec<u8>, Refusal> {
     let (rules, faults) = (bytes(&tables.rules), bytes(&tables.faults));
+    let starts = bytes(&tables.starts);
     let lengths = Guarded::new(&tables.lengths, GUARD_LENGTH);
     let presses = bytes(&tables.presses);
     let mut buffer = buffer(room);
@@ -78,12 +84,13 @@ pub fn checked_write(tables: &Tables, room: usize) -> Result<Vec<u8>, Refusal> {
         tables.size,
         rules.content(),
         faults.content(),
+        starts.content(),
         lengths.content(),
         presses.content(),
         buffer.content_mut(),
         answer.lend(),
     );
-    for table in [rules, faults, presses] {
+    for table in [rules, faults, starts, presses] {
         table.untouched();
     }
     lengths.untouched();

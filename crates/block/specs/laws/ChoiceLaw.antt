@@ -1,5 +1,5 @@
 -- The transitions of a pair, and the move of a mutant.
-use mathlib.Core.Path.{_≡_, ap, _∙_}
+use mathlib.Core.Path.{_≡_, refl, sym, ap, _∙_, subst}
 use mathlib.Core.Option.{some}
 use mathlib.Core.List.{List}
 use Prim.Native.Nat.{ℕ, _+_, _-_, _/_, _%_, _<_, _≤_}
@@ -7,25 +7,34 @@ use native.Mathlib.Omega.{arith}
 use native.Mathlib.Nat.{mod-lt}
 use native.Mathlib.Decide.{ℕ-discrete, decLt}
 use borrow.Author.Tests.{eq-eqb, ne-eqb, lt-ltb, le-ltb}
+use mathlib.Core.Bool.{false}
+use lib.Dec.{eqb}
 use lib.ListN.{getD}
 use Rattle.model.specs.Machine.{Move}
 use Rattle.lists.specs.laws.TestLaw.{never}
-use Rattle.block.specs.Layout.{pair, ruleOutput, ruleTarget, siteAt, firstFault, mutated, diverted, choicesOf, statesOf, inputsOf}
+use Rattle.block.specs.Layout.{pair, waking, ruleOutput, ruleTarget, siteAt, firstFault, mutated, diverted, choicesOf, statesOf, inputsOf, wakeAt}
 use Rattle.block.specs.Tabulated.{Wf, choicesAt, choiceOf, chosen, ruleOf, stepOf, startOf, Ranged, StepIs}
 use Rattle.block.specs.declared.layout.Step.{Step}
 
-pub choice-unruled : (m : List ℕ) (k c : ℕ) → ruleTarget m k ≡ 255 → choiceOf m k c ≡ record { output = c / statesOf m; target = c % statesOf m }
+pub choice-waking : (m : List ℕ) (c : ℕ) → choiceOf m waking c ≡ record { output = 0; target = wakeAt m c }
 unfolding choiceOf
-choice-unruled m k c e = rw (eq-eqb _ _ e)
+choice-waking m c = refl
 
-pub choice-rule : (m : List ℕ) (k : ℕ) → (ruleTarget m k ≡ 255 → ⊥) → choiceOf m k 0 ≡ record { output = ruleOutput m k; target = ruleTarget m k }
+not-waking : (k : ℕ) → k < 256 → eqb k waking ≡ false
+not-waking k l = ne-eqb k waking (λ z. omega (arith, l, z))
+
+pub choice-unruled : (m : List ℕ) (k c : ℕ) → k < 256 → ruleTarget m k ≡ 255 → choiceOf m k c ≡ record { output = c / statesOf m; target = c % statesOf m }
 unfolding choiceOf
-choice-rule m k n = rw (ne-eqb _ _ n)
+choice-unruled m k c l e = rw (not-waking k l, eq-eqb _ _ e)
 
-pub choice-fault : (m : List ℕ) (k c : ℕ) → (ruleTarget m k ≡ 255 → ⊥) → (c ≡ 0 → ⊥)
+pub choice-rule : (m : List ℕ) (k : ℕ) → k < 256 → (ruleTarget m k ≡ 255 → ⊥) → choiceOf m k 0 ≡ record { output = ruleOutput m k; target = ruleTarget m k }
+unfolding choiceOf
+choice-rule m k l n = rw (not-waking k l, ne-eqb _ _ n)
+
+pub choice-fault : (m : List ℕ) (k c : ℕ) → k < 256 → (ruleTarget m k ≡ 255 → ⊥) → (c ≡ 0 → ⊥)
     → choiceOf m k c ≡ record { output = mutated m (firstFault m k + c - 1); target = diverted m (firstFault m k + c - 1) }
 unfolding choiceOf
-choice-fault m k c n z = rw (ne-eqb _ _ n, ne-eqb _ _ z)
+choice-fault m k c l n z = rw (not-waking k l, ne-eqb _ _ n, ne-eqb _ _ z)
 
 pub choices-none : (m : List ℕ) (k : ℕ) → siteAt m k ≡ 255 → choicesAt m k ≡ 1
 unfolding choicesAt
@@ -44,20 +53,26 @@ unfolding chosen
 chosen-some m b k n = rw (ne-eqb _ _ n)
 
 -- ---- a choice in range
-pub choice-few : {m : List ℕ} (k c : ℕ) → Wf m → k < 256 → c < choicesAt m k → c < 256
+pub choice-few : {m : List ℕ} (k c : ℕ) → Wf m → k < 257 → c < choicesAt m k → c < 256
 choice-few {m} k c wf lk lc = go (ℕ-discrete (siteAt m k) 255)
   where
     go : Dec (siteAt m k ≡ 255) → c < 256
     go (yes e) = omega (arith, choices-none m k e)
     go (no n) = omega (arith, choices-some m k n, wf .choices (siteAt m k) (wf .sites k lk n))
 
-pub choice-low : {m : List ℕ} (k c : ℕ) → Wf m → k < 256 → c < choicesAt m k → choiceOf m k c .target < statesOf m
-choice-low {m} k c wf lk lc = go (ℕ-discrete (ruleTarget m k) 255) (ℕ-discrete c 0)
+pub choice-low : {m : List ℕ} (k c : ℕ) → Wf m → k < 257 → c < choicesAt m k → choiceOf m k c .target < statesOf m
+choice-low {m} k c wf lk lc = go (decLt k 256)
   where
-    go : Dec (ruleTarget m k ≡ 255) → Dec (c ≡ 0) → choiceOf m k c .target < statesOf m
-    go (yes e) z = rw (choice-unruled m k c e) (mod-lt c (wf .some-states))
-    go (no n) (yes z) = rw (z, choice-rule m k n) (wf .rules k lk n)
-    go (no n) (no z) = rw (choice-fault m k c n z) (wf .targets (firstFault m k + c - 1) (omega (arith, wf .faults k c lk n lc, z)))
+    at-pair : k < 256 → Dec (ruleTarget m k ≡ 255) → Dec (c ≡ 0) → choiceOf m k c .target < statesOf m
+    at-pair l (yes e) z = rw (choice-unruled m k c l e) (mod-lt c (wf .some-states))
+    at-pair l (no n) (yes z) = rw (z, choice-rule m k l n) (wf .rules k l n)
+    at-pair l (no n) (no z) = rw (choice-fault m k c l n z) (wf .targets (firstFault m k + c - 1) (omega (arith, wf .faults k c l n lc, z)))
+
+    go : Dec (k < 256) → choiceOf m k c .target < statesOf m
+    go (yes l) = at-pair l (ℕ-discrete (ruleTarget m k) 255) (ℕ-discrete c 0)
+    go (no n) =
+        let e : k ≡ waking = omega (arith, n, lk) in
+        rw (e, choice-waking m c) (wf .wakings c (subst (λ (j : ℕ). c < choicesAt m j) e lc))
 
 -- the choice of a pair that is no suspect
 pub choice-lone : (m : List ℕ) (k : ℕ) → siteAt m k ≡ 255 → 0 < choicesAt m k
@@ -68,7 +83,7 @@ pub choice-at : (m : List ℕ) (k i c : ℕ) → siteAt m k ≡ i → i < 32 →
 choice-at m k i c e l lc = rw (choices-some m k (λ z. omega (arith, e, z)), e) lc
 
 -- the choice of a mutant
-pub chosen-low : {m b : List ℕ} → Wf m → Ranged m b → (k : ℕ) → k < 256 → chosen m b k < choicesAt m k
+pub chosen-low : {m b : List ℕ} → Wf m → Ranged m b → (k : ℕ) → k < 257 → chosen m b k < choicesAt m k
 chosen-low {m} {b} wf r k l = go (ℕ-discrete (siteAt m k) 255)
   where
     go : Dec (siteAt m k ≡ 255) → chosen m b k < choicesAt m k
@@ -78,19 +93,25 @@ chosen-low {m} {b} wf r k l = go (ℕ-discrete (siteAt m k) 255)
 -- ---- what `transition` answers
 pub is-unruled : {m : List ℕ} (k c n : ℕ) (r : Step) → k < 256 → ruleTarget m k ≡ 255 → n ≡ statesOf m → (1 ≤ n → c < 256 → (r .output ≡ c / n) × (r .target ≡ c % n)) → StepIs m k c r
 is-unruled {m} k c n r lk e en f = record {
-  output = λ wf lc. rw (choice-unruled m k c e, ← en) (f (omega (arith, en, wf .some-states)) (choice-few k c wf lk lc) .0);
-  target = λ wf lc. rw (choice-unruled m k c e, ← en) (f (omega (arith, en, wf .some-states)) (choice-few k c wf lk lc) .1);
+  output = λ wf lc. rw (choice-unruled m k c lk e, ← en) (f (omega (arith, en, wf .some-states)) (choice-few k c wf (omega (arith, lk)) lc) .0);
+  target = λ wf lc. rw (choice-unruled m k c lk e, ← en) (f (omega (arith, en, wf .some-states)) (choice-few k c wf (omega (arith, lk)) lc) .1);
 }
 
-pub is-rule : {m : List ℕ} (k c : ℕ) (r : Step) → (ruleTarget m k ≡ 255 → ⊥) → c ≡ 0 → r .output ≡ ruleOutput m k → r .target ≡ ruleTarget m k → StepIs m k c r
-is-rule {m} k c r n z eo et = record { output = λ wf lc. rw (z, choice-rule m k n) eo; target = λ wf lc. rw (z, choice-rule m k n) et }
+pub is-rule : {m : List ℕ} (k c : ℕ) (r : Step) → k < 256 → (ruleTarget m k ≡ 255 → ⊥) → c ≡ 0 → r .output ≡ ruleOutput m k → r .target ≡ ruleTarget m k → StepIs m k c r
+is-rule {m} k c r l n z eo et = record { output = λ wf lc. rw (z, choice-rule m k l n) eo; target = λ wf lc. rw (z, choice-rule m k l n) et }
 
-pub is-fault : {m : List ℕ} (k c f : ℕ) (r : Step) → (ruleTarget m k ≡ 255 → ⊥) → (c ≡ 0 → ⊥) → f ≡ firstFault m k + c - 1 → r .output ≡ mutated m f → r .target ≡ diverted m f → StepIs m k c r
-is-fault {m} k c f r n z ef eo et = record { output = λ wf lc. rw (choice-fault m k c n z, ← ef) eo; target = λ wf lc. rw (choice-fault m k c n z, ← ef) et }
+pub is-fault : {m : List ℕ} (k c f : ℕ) (r : Step) → k < 256 → (ruleTarget m k ≡ 255 → ⊥) → (c ≡ 0 → ⊥) → f ≡ firstFault m k + c - 1 → r .output ≡ mutated m f → r .target ≡ diverted m f → StepIs m k c r
+is-fault {m} k c f r l n z ef eo et = record { output = λ wf lc. rw (choice-fault m k c l n z, ← ef) eo; target = λ wf lc. rw (choice-fault m k c l n z, ← ef) et }
 
 pub is-none : {m : List ℕ} (k c f : ℕ) (r : Step) → k < 256 → (ruleTarget m k ≡ 255 → ⊥) → (c ≡ 0 → ⊥) → f ≡ firstFault m k + c - 1 → 256 ≤ f → StepIs m k c r
 is-none {m} k c f r lk n z ef l = record
     { output = λ wf lc. absurd (omega (arith, wf .faults k c lk n lc)); target = λ wf lc. absurd (omega (arith, wf .faults k c lk n lc)) }
+
+pub is-waking : {m : List ℕ} (k c : ℕ) (r : Step) → k ≡ waking → r .output ≡ 0 → (c < 16 → r .target ≡ wakeAt m c) → StepIs m k c r
+is-waking {m} k c r e eo et = record {
+  output = λ wf lc. rw (e, choice-waking m c) eo;
+  target = λ wf lc. rw (e, choice-waking m c) (et (omega (arith, wf .few-wakings, subst (λ (j : ℕ). c < choicesAt m j) e lc)));
+}
 
 -- ---- the move of a mutant
 pub step-inside : (m b : List ℕ) (q x : ℕ) → q < statesOf m → x < inputsOf m → stepOf m b q x ≡ choiceOf m (pair q x) (chosen m b (pair q x))
@@ -126,6 +147,13 @@ rule-at m s x r e = go (decLt s (statesOf m)) (decLt x (inputsOf m)) (ℕ-discre
         record { low = l; input = lx; there = z; output = ap (λ (y : Move). y .output) g; target = ap (λ (y : Move). y .target) g }
 
 -- ---- the start of a mutant
-pub start-low : {m b : List ℕ} → Wf m → Ranged m b → startOf m b < statesOf m
+pub start-is : (m b : List ℕ) → startOf m b ≡ choiceOf m waking (chosen m b waking) .target
 unfolding startOf
-start-low wf r = omega (arith, wf .some-states)
+start-is m b = refl
+
+pub start-low : {m b : List ℕ} → Wf m → Ranged m b → startOf m b < statesOf m
+start-low {m} {b} wf r = rw (start-is m b) (choice-low waking (chosen m b waking) wf (omega arith) (chosen-low wf r waking (omega arith)))
+
+-- the waking state of its choice
+pub start-waked : (m b : List ℕ) (c t : ℕ) → Wf m → chosen m b waking ≡ c → (c < 16 → t ≡ wakeAt m c) → chosen m b waking < choicesAt m waking → t ≡ startOf m b
+start-waked m b c t wf e et l = et (omega (arith, wf .few-wakings, e)) ∙ sym (start-is m b ∙ rw (e, choice-waking m c) refl)

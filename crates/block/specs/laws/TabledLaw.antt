@@ -9,28 +9,29 @@ use mathlib.Core.Option.{Option, none, some}
 use mathlib.Core.List.{List, [], _∷_}
 use borrow.Author.Tests.{lt-ltb, ltb-true, ne-eqb}
 use lib.Dec.{eqb, ltb}
-use lib.ListN.{length, getD, List·getD-eq-default}
+use lib.ListN.{length, getD, replicate, List·getD-eq-default}
 use Rattle.sheet.specs.declared.Row.{Row}
 use Rattle.lists.specs.Lists.{maybe, isNone, first}
-use Rattle.sheet.specs.Sheet.{Sheet, rowsAt, ruleAt, unruledChoices, choicesAt as choicesIn}
+use Rattle.sheet.specs.Sheet.{Sheet, rowsAt, ruleAt, unruledChoices, choicesAt as choicesIn, wakingChoices, wakingSlots}
 use Rattle.sheet.specs.Tables.{firstAt, firstFault as firstRow, noRow}
 use Rattle.lists.specs.laws.TestLaw.{never}
 use Rattle.sheet.specs.laws.TablesLaw.{fault-at, fault-below}
+use Rattle.sheet.specs.laws.WakingLaw.{waking-in, most-wakings, some-waking}
 use Rattle.sheet.specs.WellFormed.{RowIn, WellFormed}
 use Rattle.model.specs.Machine.{Move}
-use Rattle.model.specs.Mutant.{moveOf, rule, transitions, Suspect, suspects, slots, siteOf, IsMutant, idle, step, initial, against}
+use Rattle.model.specs.Mutant.{moveOf, rule, transitions, Suspect, suspects, slots, siteOf, startSlot, IsMutant, idle, step, initial, against}
 use Rattle.model.specs.Log.{GivesLog}
-use Rattle.lists.specs.laws.AllLaw.{all-every, all-imp, all-map, all-getD}
+use Rattle.lists.specs.laws.AllLaw.{all-every, all-imp, all-map, all-append, all-replicate, all-getD}
 use Rattle.model.specs.laws.StaysLaw.{rule-row, rule-in}
-use Rattle.model.specs.laws.SuspectLaw.{slot-count, site-is, site-one, site-outside}
+use Rattle.model.specs.laws.SuspectLaw.{slot-count, site-is, site-one, site-outside, waking-slot, waking-apart}
 use Rattle.model.specs.laws.TransitionLaw.{rule-choice, fault-choice, unruled-choice, choices-few, choices-some as some-choice}
 use Rattle.model.specs.laws.OperationLaw.{mutant-length, in-range-at}
 use Rattle.model.specs.laws.StepLaw.{step-at, step-outside, choice-below, choiceOf as choiceAt}
-use Rattle.block.specs.Layout.{pair, ruleOutput, ruleTarget, siteAt, firstFault, mutated, diverted, choicesOf}
-use Rattle.block.specs.Tabulated.{choiceOf, chosen, ruleOf, stepOf, startOf, pairOf, Ranged, Wf}
+use Rattle.block.specs.Layout.{pair, waking, ruleOutput, ruleTarget, siteAt, firstFault, mutated, diverted, choicesOf}
+use Rattle.block.specs.Tabulated.{choicesAt, choiceOf, chosen, ruleOf, stepOf, startOf, pairOf, Ranged, Wf}
 use Rattle.block.specs.Logged.{GivesOf, observations}
 use Rattle.block.specs.Tabled.{Tabled}
-use Rattle.block.specs.laws.ChoiceLaw.{choice-unruled, choice-rule, choice-fault, choices-none, choices-some, chosen-none, chosen-some}
+use Rattle.block.specs.laws.ChoiceLaw.{choice-waking, choice-unruled, choice-rule, choice-fault, choices-none, choices-some, chosen-none, chosen-some, start-is}
 
 -- ---- numbers
 
@@ -55,22 +56,22 @@ module _ (sh : Sheet) (wf : WellFormed sh) where
   fault-few s x zero l = omega (arith, first-less s x)
   fault-few s x (suc c) l = omega (arith, fault-below s x wf c (omega arith), wf .few-faults)
 
+  -- what holds of the number of waking states and of the number of choices of each pair holds of those of a mutant's bytes
+  slot-each : (P : ℕ → Type 0) → P (wakingChoices sh) → ((s x : ℕ) → P (choicesIn sh s x)) → P 1 → (i : ℕ) → P (getD (slots sh) i 1)
+  unfolding slots
+  slot-each P w h o i =
+      all-getD P (slots sh) i 1
+      (all-append P (replicate (wakingSlots sh) (wakingChoices sh)) _ (all-replicate P (wakingSlots sh) (wakingChoices sh) w)
+      (all-map P (λ (u : Suspect). choicesIn sh (u .state) (u .input)) (suspects sh)
+      (all-every (λ (u : Suspect). P (choicesIn sh (u .state) (u .input))) (λ u. h (u .state) (u .input)) (suspects sh))))
+      o
+
   -- a byte of a mutant has at most 256 choices, and one at least
   pub slot-few : (i : ℕ) → getD (slots sh) i 1 ≤ 256
-  unfolding slots
-  slot-few i =
-      all-getD (λ (c : ℕ). c ≤ 256) (slots sh) i 1
-      (all-map (λ (c : ℕ). c ≤ 256) (λ (u : Suspect). choicesIn sh (u .state) (u .input)) (suspects sh)
-      (all-every (λ (u : Suspect). choicesIn sh (u .state) (u .input) ≤ 256) (λ u. choices-few sh wf (u .state) (u .input)) (suspects sh)))
-      (omega arith)
+  slot-few = slot-each (λ (c : ℕ). c ≤ 256) (omega (arith, most-wakings wf)) (choices-few sh wf) (omega arith)
 
   pub slot-some : (i : ℕ) → 1 ≤ getD (slots sh) i 1
-  unfolding slots
-  slot-some i =
-      all-getD (λ (c : ℕ). 1 ≤ c) (slots sh) i 1
-      (all-map (λ (c : ℕ). 1 ≤ c) (λ (u : Suspect). choicesIn sh (u .state) (u .input)) (suspects sh)
-      (all-every (λ (u : Suspect). 1 ≤ choicesIn sh (u .state) (u .input)) (λ u. some-choice sh wf (u .state) (u .input)) (suspects sh)))
-      (omega arith)
+  slot-some = slot-each (λ (c : ℕ). 1 ≤ c) (some-waking sh) (some-choice sh wf) (omega arith)
 
 module _ {sh : Sheet} {m : List ℕ} (bl : Tabled sh m) where
   wf : WellFormed sh
@@ -171,18 +172,48 @@ module _ {sh : Sheet} {m : List ℕ} (bl : Tabled sh m) where
     where
       ruled : (r : Row) → ruleAt (sh .rules) s x ≡ some r → (ruleTarget m (pair s x) ≡ 255 → ⊥) → (d : ℕ) → d < suc (length (rowsAt (sh .faults) s x)) →
           choiceOf m (pair s x) d ≡ getD (transitions sh s x) d idle
-      ruled r e ne zero k = choice-rule m (pair s x) ne ∙ rw (target-at s x h, output-at s x h, e) (sym (rule-choice sh s x r e))
+      ruled r e ne zero k = choice-rule m (pair s x) (h .low) ne ∙ rw (target-at s x h, output-at s x h, e) (sym (rule-choice sh s x r e))
       ruled r e ne (suc d) k =
           let h′ : d < length (rowsAt (sh .faults) s x) = omega arith in
           let f : firstFault m (pair s x) + suc d - 1 ≡ firstRow (sh .faults) s x + d = omega (arith, first-at s x h) in
-          choice-fault m (pair s x) (suc d) ne (λ z. omega arith)
+          choice-fault m (pair s x) (suc d) (h .low) ne (λ z. omega arith)
           ∙ rw f (fault-move (firstRow (sh .faults) s x + d) (omega (arith, fault-below s x wf d h′, wf .few-faults)))
           ∙ ap moveOf (sym (fault-at s x wf d h′)) ∙ sym (fault-choice sh s x d r e)
 
       go : (o : Option Row) → ruleAt (sh .rules) s x ≡ o → c < maybe o (sh .size .outputs * sh .size .states) (λ r. suc (length (rowsAt (sh .faults) s x))) →
           choiceOf m (pair s x) c ≡ getD (transitions sh s x) c idle
-      go none e k = choice-unruled m (pair s x) c (target-at s x h ∙ rw e refl) ∙ rw (bl .states) (sym (unruled-choice sh s x c e k))
+      go none e k = choice-unruled m (pair s x) c (h .low) (target-at s x h ∙ rw e refl) ∙ rw (bl .states) (sym (unruled-choice sh s x c e k))
       go (some r) e k = ruled r e (λ z. rule-target-low s x r e (sym (target-at s x h ∙ rw e refl) ∙ z)) c k
+
+  -- ---- the waking state
+
+  -- its byte, if it has one
+  waking-some : (siteAt m waking ≡ 255 → ⊥) → startSlot sh ≡ some (siteAt m waking)
+  waking-some ne = go (startSlot sh) refl
+    where
+      go : (o : Option ℕ) → startSlot sh ≡ o → o ≡ some (siteAt m waking)
+      go none e = absurd (ne (bl .waking-site ∙ rw e refl))
+      go (some i) e = ap (λ j. some j) (sym (bl .waking-site ∙ rw e refl))
+
+  -- and how many choices
+  waking-choices : choicesAt m waking ≤ wakingChoices sh
+  waking-choices = by-cases (ℕ-discrete (siteAt m waking) 255) (λ e. omega (arith, choices-none m waking e, some-waking sh)) (λ ne. several ne)
+    where
+      several : (siteAt m waking ≡ 255 → ⊥) → choicesAt m waking ≤ wakingChoices sh
+      several ne =
+          let i = siteAt m waking in
+          let is = waking-slot sh i (waking-some ne) in
+          let at : choicesOf m i ≡ wakingChoices sh = bl .choices i (omega (arith, is .0)) ∙ getD-default (slots sh) i 1 0 (is .1) ∙ is .2 in
+          omega (arith, choices-some m waking ne)
+
+  chosen-waking : (b : List ℕ) → chosen m b waking ≡ maybe (startSlot sh) zero (λ i. getD b i 0)
+  chosen-waking b = go (startSlot sh) refl
+    where
+      go : (o : Option ℕ) → startSlot sh ≡ o → chosen m b waking ≡ maybe o zero (λ i. getD b i 0)
+      go none e = chosen-none m b waking (bl .waking-site ∙ rw e refl)
+      go (some i) e =
+          let is : siteAt m waking ≡ i = bl .waking-site ∙ rw e refl in
+          chosen-some m b waking (λ z. omega (arith, waking-slot sh i e .0)) ∙ rw is refl
 
   module _ (b : List ℕ) (is : IsMutant sh b) where
     step-here : (s x : ℕ) → stepOf m b s x ≡ step sh b s x
@@ -204,9 +235,20 @@ module _ {sh : Sheet} {m : List ℕ} (bl : Tabled sh m) where
     pub step-same : stepOf m b ≡ step sh b
     step-same = fun-ext (λ s. fun-ext (λ x. step-here s x))
 
+    -- and wake where they wake
+    chosen-low : maybe (startSlot sh) zero (λ i. getD b i 0) < 16
+    unfolding IsMutant
+    chosen-low = go (startSlot sh) refl
+      where
+        go : (o : Option ℕ) → startSlot sh ≡ o → maybe o zero (λ i. getD b i 0) < 16
+        go none e = omega arith
+        go (some i) e =
+            let w = waking-slot sh i e in
+            omega (arith, in-range-at (slots sh) b is i (omega (arith, w .1, mutant-length sh b is)), w .2, most-wakings wf)
+
     pub start-same : startOf m b ≡ initial sh b
-    unfolding startOf initial
-    start-same = refl
+    unfolding initial
+    start-same = start-is m b ∙ rw (chosen-waking b, choice-waking m (maybe (startSlot sh) zero (λ i. getD b i 0))) (bl .wakings _ chosen-low)
 
     -- the same two machines are compared
     pub pair-same : pairOf m b ≡ against sh b
@@ -240,6 +282,35 @@ module _ {sh : Sheet} {m : List ℕ} (bl : Tabled sh m) where
       go none e = absurd (ne (bl .sites k l ∙ rw e refl))
       go (some i) e = ap (λ j. some j) (sym (bl .sites k l ∙ rw e refl))
 
+  -- its byte is one of a mutant's, and so is that of the waking state
+  pub slot-low : (k : ℕ) → k < 257 → (siteAt m k ≡ 255 → ⊥) → siteAt m k < length (slots sh)
+  slot-low k l ne =
+      by-cases (ℕ-discrete k waking)
+      (λ e. rw e (waking-slot sh (siteAt m waking) (waking-some (rw e at ne)) .1))
+      (λ n. site-is sh (k / 16) (k % 16) (siteAt m k) (site-some k (omega (arith, n, l)) ne) .0)
+
+  -- each belongs to one of them
+  slot-once : (k j : ℕ) → k < 257 → j < 257 → (siteAt m k ≡ 255 → ⊥) → siteAt m j ≡ siteAt m k → j ≡ k
+  slot-once k j lk lj ne e = go (ℕ-discrete k waking) (ℕ-discrete j waking)
+    where
+      nj : siteAt m j ≡ 255 → ⊥
+      nj f = ne (sym e ∙ f)
+
+      -- the waking state's is no pair's
+      apart : (i : ℕ) → i < 256 → (siteAt m i ≡ 255 → ⊥) → siteAt m waking ≡ siteAt m i → ⊥
+      apart i li ni f =
+          waking-apart sh (i / 16) (i % 16) (siteAt m i) (waking-some (λ z. ni (sym f ∙ z)) ∙ ap (λ v. some v) f) (site-some i li ni)
+
+      go : Dec (k ≡ waking) → Dec (j ≡ waking) → j ≡ k
+      go (yes ek) (yes ej) = ej ∙ sym ek
+      go (yes ek) (no j′) = absurd (apart j (omega (arith, j′, lj)) nj (rw ek at (sym e)))
+      go (no k′) (yes ej) = absurd (apart k (omega (arith, k′, lk)) ne (rw ej at e))
+      go (no k′) (no j′) =
+          let a = site-some k (omega (arith, k′, lk)) ne in
+          let b = site-some j (omega (arith, j′, lj)) nj in
+          let h = site-one sh (j / 16) (j % 16) (k / 16) (k % 16) (siteAt m k) (b ∙ ap (λ i. some i) e) a in
+          omega (arith, h .0, h .1)
+
   -- the block is what the functions ask
   pub well-formed : Wf m
   unfolding choicesIn
@@ -251,14 +322,12 @@ module _ {sh : Sheet} {m : List ℕ} (bl : Tabled sh m) where
         rules = λ k l ne. let h = ruled k l ne in rw (h .2, bl .states) (rule-row sh wf (k / 16) (k % 16) (h .0) (h .1) .row .target);
         targets = λ f l. rw (bl .fault-targets f l, bl .states) (all-getD (λ (r : Row). r .target < sh .size .states) (sh .faults) f noRow (all-imp _ (RowIn (sh .size)) (λ r h. h .target) (sh .faults) (wf .faults)) (wf .size .states .some));
         faults = λ k c l ne lc. rw (bl .firsts k l) (by-cases (ℕ-discrete (siteAt m k) 255) (λ e. single k c (rw (choices-none m k e) at lc)) (λ e. several k c l ne e (rw (choices-some m k e) at lc)));
-        sites = λ k l ne. site-low (k / 16) (k % 16) (siteAt m k) (site-some k l ne);
-        once = λ k j lk lj ne e.
-            let a = site-some k lk ne in
-            let b = site-some j lj (λ f. ne (sym e ∙ f)) in
-            let h = site-one sh (j / 16) (j % 16) (k / 16) (k % 16) (siteAt m k) (b ∙ ap (λ i. some i) e) a in
-            omega (arith, h .0, h .1);
+        sites = λ k l ne. omega (arith, slot-low k l ne, few-slots);
+        once = slot-once;
         choices = λ i l. rw (bl .choices i l) (slot-few sh wf i);
         inside = λ k l ne. rw (bl .states, bl .inputs) (site-in (k / 16) (k % 16) (siteAt m k) (site-some k l ne));
+        wakings = λ c l. rw (bl .wakings c (omega (arith, l, waking-choices, most-wakings wf)), bl .states) (waking-in wf c);
+        few-wakings = omega (arith, waking-choices, most-wakings wf);
       }
     where
       ruled : (k : ℕ) → k < 256 → (ruleTarget m k ≡ 255 → ⊥) → (r : Row) × (ruleAt (sh .rules) (k / 16) (k % 16) ≡ some r) × (ruleTarget m k ≡ r .target)

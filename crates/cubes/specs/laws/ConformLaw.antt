@@ -2,7 +2,7 @@
 use mathlib.Core.Path.{_≡_, refl, sym, ap, ap₂, _∙_, subst}
 use mathlib.Core.Option.{Option, none, some, Option·some-injective}
 use mathlib.Core.List.{List, [], _∷_}
-use Prim.Native.Nat.{ℕ, _+_, _*_, _<_, _≤_, _^_}
+use Prim.Native.Nat.{ℕ, _+_, _*_, _<_, _≤_}
 use native.Mathlib.Omega.{arith}
 use native.Mathlib.Decide.{ℕ-discrete}
 use borrow.Author.Count.{below-more}
@@ -18,12 +18,11 @@ use Rattle.block.specs.Tabulated.{StepIs}
 use Rattle.block.specs.declared.layout.Step.{Step}
 use Rattle.block.specs.laws.ChoiceLaw.{choice-at, choice-low, choice-lone, step-closed, step-open, RuleAt, rule-at, start-low}
 use Rattle.cubes.specs.Cube.{In, NoneIn, Conform, AllConform, Given, LoneOk, FreedOk, CellOk, RowOk, LineOk, Sought, StartsOk}
-use Rattle.cubes.specs.laws.SetLaw.{one-same}
 use Rattle.cubes.specs.laws.SuspectedLaw.{place-low, Suspected, suspected}
 
 -- ---- one input at a pair of states
 pub lone-low : {m : List ℕ} {k : ℕ} {r : Step} → Wf m → k < 256 → siteAt m k ≡ 255 → StepIs m k 0 r → r .target < 16
-lone-low {m} {k} wf lk e is = omega (arith, is .target wf (choice-lone m k e), choice-low k 0 wf lk (choice-lone m k e), wf .few-states)
+lone-low {m} {k} wf lk e is = omega (arith, is .target wf (choice-lone m k e), choice-low k 0 wf (omega (arith, lk)) (choice-lone m k e), wf .few-states)
 
 pub lone-ok : {m : List ℕ} {k o row : ℕ} {r : Step} → Wf m → siteAt m k ≡ 255 → StepIs m k 0 r → r .output ≡ o → Has row (r .target) → LoneOk m k o row
 lone-ok {m} {k} {o} {row} {r} wf e is eo h =
@@ -51,7 +50,7 @@ cell-freed {m} {facts} {cube} {pairs} {s} {q} {x} {i} {o} {l} {row} k gi lq lx e
       (subst (λ (y : ℕ). Has (getD facts (i * 16 + y) 0) (stepOf m b q x .target)) (out b r g) (sus b r g .at (λ j v. Has (getD facts (j * 16 + v .output) 0) (v .target)) (gi .tables .going))));
 }
   where
-    sus : (b : List ℕ) → Ranged m b → In m cube b → Suspected m b q x i l
+    sus : (b : List ℕ) → Ranged m b → In m cube b → Suspected m (stepOf m b q x) i l
     sus b r g = suspected k (gi .wf) lq lx ek ei ns el r g
 
     out : (b : List ℕ) → Ranged m b → In m cube b → stepOf m b q x .output ≡ o
@@ -135,8 +134,8 @@ press-given m b q x xs = refl
 pub step-low : {m b : List ℕ} {q x : ℕ} → Wf m → Ranged m b → q < statesOf m → x < inputsOf m → stepOf m b q x .target < statesOf m
 step-low {m} {b} {q} {x} wf r lq lx = go (ℕ-discrete (siteAt m (pair q x)) 255)
   where
-    lk : pair q x < 256
-    lk = place-low wf lq lx
+    lk : pair q x < 257
+    lk = omega (arith, place-low wf lq lx)
 
     go : Dec (siteAt m (pair q x) ≡ 255) → stepOf m b q x .target < statesOf m
     go (yes e) = rw (step-closed m b q x lq lx e) (choice-low (pair q x) 0 wf lk (choice-lone m (pair q x) e))
@@ -169,8 +168,3 @@ all-conform {m} wf r l starts more = record { at = conforms wf r l (λ b i g. mo
 pub conforms-none : {m log cube : List ℕ} → AllConform m cube → NoneIn Nonconforming m log cube
 unfolding Sought
 conforms-none f = record { at = λ b r g y. y .1 (f .at b r g) }
-
--- every mutant starts at 0
-pub starts-zero : {m cube : List ℕ} {r : ℕ} → r ≡ 2 ^ 0 → StartsOk m cube r
-unfolding startOf
-starts-zero e = record { at = λ b r g. rw e (one-same 0) }

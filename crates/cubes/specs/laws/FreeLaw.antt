@@ -24,12 +24,12 @@ choice-more g h = record { few = h .few; going = g .more _ _ (h .going); soundin
 pub entered-not : {m facts : List ℕ} {k c : ℕ} → Entered m facts facts k c false
 entered-not = record { grows = grows-none; has = λ e. never (cc) }
 
-pub step-few : {m : List ℕ} {k i c : ℕ} {r : Step} → Wf m → k < 256 → i ≡ siteAt m k → i < 32 → c < choicesOf m i → StepIs m k c r → r .target < 16
+pub step-few : {m : List ℕ} {k i c : ℕ} {r : Step} → Wf m → k < 257 → i ≡ siteAt m k → i < 32 → c < choicesOf m i → StepIs m k c r → r .target < 16
 step-few {m} {k} {i} {c} wf lk ei li lc is =
     let ok = choice-at m k i c (sym ei) li lc in
     omega (arith, is .target wf ok, choice-low k c wf lk ok, wf .few-states)
 
-pub entered : {m old mid new : List ℕ} {k i c : ℕ} {r : Step} (at j : ℕ) → Wf m → k < 256 → i ≡ siteAt m k → i < 32 → c < choicesOf m i → StepIs m k c r → r .output < 16 → at ≡ i * 16 + r .output → j ≡ 512 + i
+pub entered : {m old mid new : List ℕ} {k i c : ℕ} {r : Step} (at j : ℕ) → Wf m → k < 257 → i ≡ siteAt m k → i < 32 → c < choicesOf m i → StepIs m k c r → r .output < 16 → at ≡ i * 16 + r .output → j ≡ 512 + i
     → Put old mid at (r .target) → Put mid new j (r .output) → Entered m old new k c true
 entered {m} {old} {mid} {new} {k} {i} {c} {r} at j wf lk ei li lc is lo ea ej pf po =
     let ok = choice-at m k i c (sym ei) li lc in
@@ -82,7 +82,7 @@ all-more {k = k} r a en e = record {
 pub all-not : {m old new : List ℕ} {k : ℕ} (r : Bool) → AllTo m old k → PairEntered m old new k r → AllEntered m new false
 all-not r a en = record { long = en .grows .long ∙ a .long; has = λ e. never (cc) }
 
-pub all-all : {m facts : List ℕ} {k : ℕ} → AllTo m facts k → 256 ≤ k → AllEntered m facts true
+pub all-all : {m facts : List ℕ} {k : ℕ} → AllTo m facts k → 257 ≤ k → AllEntered m facts true
 all-all a l = record {
   long = a .long;
   has = λ e. record {

@@ -23,7 +23,7 @@ pub join-none : {goal : Goal} {m log all done : List ℕ} {k : ℕ} → ((o : �
 join-none {goal} {m} {log} {all} {done} {k} e = record { at = λ b r g h y. nothing (choiceOf m k (chosen m b k) .target) (subst (λ (n : ℕ). Has n (choiceOf m k (chosen m b k) .target)) (e (choiceOf m k (chosen m b k) .output)) h) }
 
 -- one more cube without mutant sought
-pub join-more : {goal : Goal} {m log all done cube more wider : List ℕ} {k : ℕ} → Wf m → k < 256 → (siteAt m k ≡ 255 → ⊥) → Joining goal m log all done k → NoneIn goal m log cube
+pub join-more : {goal : Goal} {m log all done cube more wider : List ℕ} {k : ℕ} → Wf m → k < 257 → (siteAt m k ≡ 255 → ⊥) → Joining goal m log all done k → NoneIn goal m log cube
     → MeetsAll all cube more → Adds done wider (getD cube (siteAt m k) 0) → Joining goal m log more wider k
 join-more {goal} {m} {log} {all} {done} {cube} {more} {wider} {k} wf lk nk jo ns me ad = record { at = λ b r g h y. ⊎-elim (λ old. jo .at b r (less b g) old y) (λ new. ns .at b r (inside b g new) y) (ad .at (choiceOf m k (chosen m b k)) h) }
   where
@@ -33,12 +33,12 @@ join-more {goal} {m} {log} {all} {done} {cube} {more} {wider} {k} wf lk nk jo ns
     inside : (b : List ℕ) → InBut m more b (siteAt m k) → Means (getD cube (siteAt m k) 0) (choiceOf m k (chosen m b k)) → In m cube b
     inside b g new = record { at = λ j lj nj. go j lj nj (ℕ-discrete (siteAt m j) (siteAt m k)) }
       where
-        go : (j : ℕ) → j < 256 → (siteAt m j ≡ 255 → ⊥) → Dec (siteAt m j ≡ siteAt m k) → Means (getD cube (siteAt m j) 0) (choiceOf m j (chosen m b j))
+        go : (j : ℕ) → j < 257 → (siteAt m j ≡ 255 → ⊥) → Dec (siteAt m j ≡ siteAt m k) → Means (getD cube (siteAt m j) 0) (choiceOf m j (chosen m b j))
         go j lj nj (yes e) = subst (λ (n : ℕ). Means (getD cube (siteAt m n) 0) (choiceOf m n (chosen m b n))) (sym (wf .once k j lk lj nk e)) new
         go j lj nj (no d) = me .at (siteAt m j) (wf .sites j lj nj) .right (choiceOf m j (chosen m b j)) (g .at j lj nj d)
 
 -- every choice is done
-pub join-all : {goal : Goal} {m log all done : List ℕ} {k : ℕ} → Wf m → k < 256 → (siteAt m k ≡ 255 → ⊥) → Joining goal m log all done k → Covers m done k → NoneIn goal m log (set all (siteAt m k) 4294967295)
+pub join-all : {goal : Goal} {m log all done : List ℕ} {k : ℕ} → Wf m → k < 257 → (siteAt m k ≡ 255 → ⊥) → Joining goal m log all done k → Covers m done k → NoneIn goal m log (set all (siteAt m k) 4294967295)
 join-all {goal} {m} {log} {all} {done} {k} wf lk nk jo co = record { at = λ b r g y. jo .at b r (but b g) (co .at (chosen m b k) (low b r)) y }
   where
     low : (b : List ℕ) → Ranged m b → chosen m b k < choicesOf m (siteAt m k)

@@ -52,12 +52,13 @@ slice-aggregate-write-2 c =
 
 returns : tie.Need-returns
 returns c =
-    let at-pairs-of = c .before .before .before .before .before .before .before .before .before in
+    let at-write = c .before .before in
+    let at-pairs-of = at-write .before .before .before .before .before .before .before .before in
     let at-put-pairs = at-pairs-of .before .before .before in
     let entry = at-put-pairs .before .before .before .before in
     let a = entry .args in
     let e = written-tables (a .seed) (a .size) (length (a .buffer .now)) (entry .pre .0) (entry .pre .1) (at-put-pairs .put-pairs .ensures) (at-pairs-of .pairs-of .result) (at-pairs-of .pairs-of .ensures) in
-    (c .before .before .write .ensures .0 ∙ ap writtenAnswer e, c .before .before .write .ensures .1 .0 ∙ ap (λ (x : Result (List ℕ)). overlay (sheetWrites x) (a .buffer .now)) e)
+    (at-write .write .ensures .0 ∙ ap writtenAnswer e, at-write .write .ensures .1 .0 ∙ ap (λ (x : Result (List ℕ)). overlay (sheetWrites x) (a .buffer .now)) e)
 
 pub spell-spec : {M : Type 1} → statement M
 spell-spec =
@@ -65,4 +66,4 @@ spell-spec =
     (tie.spec
     (λ c. search needs) (λ c. search needs) (λ c κs. search needs) (λ c κs. search needs) mul-ruled mul-faulted
     array-share-prefix-rules slice-aggregate-write array-share-prefix-faults slice-aggregate-write-2 (λ c. search needs)
-    (λ c. search needs) (λ c κs. search needs) (λ c. search needs) returns)
+    (λ c. search needs) (λ c. search needs) (λ c κs. search needs) (λ c. search needs) returns)

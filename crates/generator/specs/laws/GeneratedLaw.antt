@@ -12,12 +12,13 @@ use lib.ListN.{length}
 use borrow.Author.Tests.{eqb-true, eqb-false}
 use Rattle.sheet.specs.declared.Row.{Row}
 use Rattle.sheet.specs.declared.Size.{Size}
-use Rattle.lists.specs.Lists.{All}
-use Rattle.sheet.specs.Sheet.{Sheet, after}
+use Rattle.lists.specs.Lists.{All, Ascending}
+use Rattle.sheet.specs.Sheet.{Sheet, after, openSlots}
 use Rattle.sheet.specs.Reading.{accepted, reading}
-use Rattle.sheet.specs.Encode.{testBytes, encode}
+use Rattle.sheet.specs.Encode.{operandBytes, testBytes, encode}
 use Rattle.sheet.specs.WellFormed.{SizeIn, RowIn, Mutates, Reachable, WellFormed}
 use Rattle.sheet.specs.laws.RowLaw.{rule-has, after-snoc}
+use Rattle.sheet.specs.laws.WakingLaw.{no-choice, open-slots}
 use Rattle.sheet.specs.laws.AcceptsLaw.{accepts}
 use Rattle.writing.specs.laws.LengthLaw.{parts-length}
 use Rattle.generator.specs.Generating.{Draft, drafted, sheetFrom}
@@ -46,7 +47,7 @@ module _ (seed : ℕ) (z : Size) (w : SizeIn z) where
   draft = drafted z seed (z .states * z .inputs)
 
   abbrev sheet : Sheet
-  sheet = record { size = z; rules = draft .rules; faults = draft .faults; tests = [] }
+  sheet = record { size = z; rules = draft .rules; faults = draft .faults; starts = []; tests = [] }
 
   holds : Drafted z (z .states * z .inputs) draft
   holds = drafts z w seed (z .states * z .inputs) (omega arith)
@@ -82,7 +83,12 @@ module _ (seed : ℕ) (z : Size) (w : SizeIn z) where
   all-mutate [] h a = tt
   all-mutate (r ∷ l) h a = (mutates (h (omega arith)) r (a .0), all-mutate l (λ k. h (omega arith)) (a .1))
 
+  few-slots : openSlots sheet ≤ 32
+  few-slots =
+      omega (arith, open-slots sheet, no-choice sheet refl, holds .faults .few, few-open sheet (λ s x hs hx. let u = ruled s x hs hx in (u .rule, u .there)))
+
   well-formed : WellFormed sheet
+  unfolding Ascending
   well-formed =
       record {
         size = w;
@@ -92,14 +98,16 @@ module _ (seed : ℕ) (z : Size) (w : SizeIn z) where
         faults-ascend = holds .faults .ascend;
         faults-mutate = all-mutate (draft .faults) (holds .faults .several) (holds .faults .faulty);
         few-faults = omega (arith, holds .faults .few);
+        starts = tt;
+        starts-ascend = tt;
         few-tests = omega arith;
         tests = tt;
         reached = reached;
-        few-open = omega (arith, holds .faults .few, few-open sheet (λ s x hs hx. let u = ruled s x hs hx in (u .rule, u .there)));
+        few-open = few-slots;
       }
 
   pub short : length (encode (sheetFrom seed z)) ≤ 16384
-  unfolding sheetFrom testBytes
+  unfolding sheetFrom operandBytes testBytes
   short =
       omega (arith, parts-length sheet, rows-length 2 (draft .rules), rows-length 3 (draft .faults), holds .rules .many, holds .faults .few, few-pairs z w)
 
@@ -114,6 +122,7 @@ module _ (seed : ℕ) (z : Size) (w : SizeIn z) where
         sheet = sheet;
         reads = read-back;
         size = refl;
+        unstarted = refl;
         untested = refl;
         ruled = ruled;
         few = holds .faults .few;

@@ -4,7 +4,7 @@ use mathlib.Core.Path.{_≡_, sym, subst}
 use mathlib.Core.Logic.{⊎-elim}
 use mathlib.Core.Option.{some}
 use mathlib.Core.List.{List, [], _∷_, _++_, map, List·Memᴰ, List·Memᴰ·cases-cons, List·Memᴰ·not-nil}
-use lib.ListN.{getD}
+use lib.ListN.{getD, replicate}
 use Rattle.lists.specs.Lists.{first, All, joined}
 use Rattle.lists.specs.laws.TestLaw.{never}
 
@@ -37,6 +37,10 @@ module _ {A : Type 0} (P : A → Type 0) where
   all-append (x ∷ xs) ys a b = (a .0, all-append xs ys (a .1) b)
 
   -- of the element at a place, or of what stands in for it
+  pub all-replicate : (n : ℕ) (x : A) → P x → All P (replicate n x)
+  all-replicate zero x p = tt
+  all-replicate (suc n) x p = (p, all-replicate n x p)
+
   pub all-getD : (xs : List A) (i : ℕ) (d : A) → All P xs → P d → P (getD xs i d)
   all-getD [] i d a pd = pd
   all-getD (x ∷ xs) zero d a pd = a .0

@@ -1,11 +1,13 @@
 -- Laws of members of `map`, `joined` and `upTo`, and of lists that ascend.
-use Prim.Native.Nat.{ℕ, zero, suc, _<_, suc-le-suc}
+use Prim.Native.Nat.{ℕ, zero, suc, _+_, _<_, _≤_, suc-le-suc}
 use native.Mathlib.Nat.{not-suc-le-zero, le-of-suc-le-suc}
 use native.Mathlib.Omega.{arith}
 use mathlib.Core.Path.{_≡_, refl, ap, subst}
 use mathlib.Core.Logic.{⊎-elim}
 use mathlib.Core.List.{List, [], _∷_, _++_, map, List·Memᴰ, List·Memᴰ·head, List·Memᴰ·tail, Memᴰ·append-left, Memᴰ·append-right, List·Memᴰ·append-cases, List·Memᴰ·cases-cons, List·Memᴰ·not-nil}
+use lib.ListN.{length}
 use Rattle.lists.specs.Lists.{All, Ascending, upTo, joined}
+use Rattle.lists.specs.laws.ListLaw.{all-both}
 use Rattle.lists.specs.laws.AllLaw.{all-every, all-imp, all-append, all-map}
 
 module _ {A B : Type 0} where
@@ -80,3 +82,12 @@ upTo-ascending (suc n) = (
   all-map (λ (i : ℕ). 0 < i) (λ (i : ℕ). suc i) (upTo n) (all-every (λ (i : ℕ). 0 < suc i) (λ i. omega arith) (upTo n)),
   ascending-map _<_ _<_ (λ (i : ℕ). suc i) (λ i j l. suc-le-suc l) (upTo n) (upTo-ascending n),
 )
+
+-- ascending numbers from a up to below n are at most n - a
+pub ascending-few : (a n : ℕ) (xs : List ℕ) → a ≤ n → All (λ (x : ℕ). (a ≤ x) × (x < n)) xs → Ascending _<_ xs → a + length xs ≤ n
+unfolding Ascending
+ascending-few a n [] k h u = omega arith
+ascending-few a n (x ∷ xs) k h u =
+    let (low, high) = h .0 in
+    let rest = ascending-few (suc x) n xs high (all-both (λ (y : ℕ). (a ≤ y) × (y < n)) (λ (y : ℕ). x < y) _ (λ y i j. (j, i .1)) xs (h .1) (u .0)) (u .1) in
+    omega arith

@@ -12,7 +12,7 @@ use lib.ListN.{length, getD, length-append}
 use lib.Seq.{append-snoc, getD-append-add}
 use Rattle.sheet.specs.declared.Tables.{Tables}
 use Rattle.sheet.specs.Sheet.{Sheet}
-use Rattle.sheet.specs.Encode.{pressBytes, encode}
+use Rattle.sheet.specs.Encode.{operandBytes, pressBytes, encode}
 use Rattle.sheet.specs.Part.{spanOf}
 use Rattle.sheet.specs.Tables.{tablesOf}
 use Rattle.sheet.specs.WellFormed.{WellFormed}
@@ -39,7 +39,7 @@ tests-more sheet starts lengths t n l = let e : n - t ≡ suc (n - (t + 1)) = om
 
 -- the inputs of PRESS commands
 inputs-at : (front xs rest : List ℕ) (at : ℕ) → length front ≡ at → inputsAt (front ++ (pressBytes xs ++ rest)) at (length xs) ≡ xs
-unfolding inputsAt pressBytes
+unfolding inputsAt operandBytes
 inputs-at front [] rest at e = refl
 inputs-at front (x ∷ xs) rest at e =
     let f : at + 1 ≡ length front + 1 = omega arith in

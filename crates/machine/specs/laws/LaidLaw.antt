@@ -2,7 +2,7 @@
 use Prim.Native.Nat.{ℕ, _*_, _/_, _%_, _<_}
 use native.Mathlib.Decide.{ℕ-discrete}
 use native.Mathlib.Omega.{arith}
-use mathlib.Core.Path.{_≡_, refl, sym, _∙_, subst, fun-ext}
+use mathlib.Core.Path.{_≡_, refl, sym, ap, _∙_, subst, fun-ext}
 use mathlib.Core.Logic.{by-cases}
 use mathlib.Core.Bool.{Bool, true, false, cond, _&&_}
 use mathlib.Core.List.{List}
@@ -14,12 +14,11 @@ use Rattle.model.specs.Machine.{Move}
 use Rattle.model.specs.Mutant.{IsMutant, idle, step, initial, against}
 use Rattle.model.specs.laws.StaysLaw.{step-in}
 use Rattle.model.specs.laws.StepLaw.{step-outside}
-use Rattle.model.specs.laws.SuspectLaw.{site-is}
-use Rattle.block.specs.Layout.{pair, siteAt, statesOf, inputsOf}
+use Rattle.block.specs.Layout.{pair, waking, siteAt, statesOf, inputsOf}
 use Rattle.block.specs.Tabulated.{choiceOf, chosen, stepOf, startOf}
 use Rattle.block.specs.Tabled.{Tabled}
-use Rattle.block.specs.laws.ChoiceLaw.{chosen-none, chosen-some, chosen-low}
-use Rattle.block.specs.laws.TabledLaw.{rule-same, step-same, ranged, site-some, well-formed}
+use Rattle.block.specs.laws.ChoiceLaw.{chosen-none, chosen-some, chosen-low, start-is}
+use Rattle.block.specs.laws.TabledLaw.{rule-same, step-same, start-same, ranged, slot-low, well-formed}
 use Rattle.machine.specs.Laid.{Chosen, Settles, Moves}
 use Rattle.machine.specs.Rounds.{movesIn, tables, Valid}
 
@@ -31,18 +30,17 @@ move-at m outputs targets s x ls lx = rw (lt-ltb s (statesOf m) ls, lt-ltb x (in
 
 -- the choices of a mutant
 module _ {sh : Sheet} {m : List ℕ} (tb : Tabled sh m) {b : List ℕ} (is : IsMutant sh b) {p : List ℕ} (st : Settles sh p b) where
-  chosen-same : (k : ℕ) → k < 256 → chosen m p k ≡ chosen m b k
+  chosen-same : (k : ℕ) → k < 257 → chosen m p k ≡ chosen m b k
   chosen-same k l =
       by-cases (ℕ-discrete (siteAt m k) 255)
       (λ e. chosen-none m p k e ∙ sym (chosen-none m b k e))
-      (λ ne. chosen-some m p k ne ∙ st .at (siteAt m k) (site-is sh (k / 16) (k % 16) (siteAt m k) (site-some tb k l ne) .0) ∙ sym (chosen-some m b k ne))
+      (λ ne. chosen-some m p k ne ∙ st .at (siteAt m k) (slot-low tb k l ne) ∙ sym (chosen-some m b k ne))
 
   pub settled-chosen : Chosen m p
   settled-chosen = record { at = λ k l. rw (chosen-same k l) (chosen-low (well-formed tb) (ranged tb b is) k l) }
 
   pub settled-start : startOf m p ≡ initial sh b
-  unfolding startOf initial
-  settled-start = refl
+  settled-start = start-is m p ∙ ap (λ (c : ℕ). choiceOf m waking c .target) (chosen-same waking (omega arith)) ∙ sym (start-is m b) ∙ start-same tb b is
 
   step-there : (s x : ℕ) → stepOf m p s x ≡ stepOf m b s x
   unfolding stepOf

@@ -6,8 +6,10 @@ use mathlib.Core.Logic.{inl, inr, ⊎-elim}
 use mathlib.Core.Bool.{Bool, true, false, cond}
 use mathlib.Core.List.{List, [], _∷_, map, List·Memᴰ, List·Memᴰ·head, List·Memᴰ·cases-cons, List·Memᴰ·not-nil}
 use borrow.Author.Tests.{ltb-true}
+use lib.Dec.{ltb}
+use lib.ListN.{replicate}
 use Rattle.lists.specs.Lists.{All, Ascending, Before, upTo, joined}
-use Rattle.sheet.specs.Sheet.{Sheet, choicesAt, isOpen}
+use Rattle.sheet.specs.Sheet.{Sheet, choicesAt, isOpen, wakingChoices, wakingSlots}
 use Rattle.model.specs.Mutant.{Suspect, keepOpen, suspects, slots, choiceLists, mutants, InRange, IsMutant}
 use Rattle.lists.specs.laws.AllLaw.{all-every, all-append, all-mem, all-map, all-joined}
 use Rattle.lists.specs.laws.MemberLaw.{mem-map, map-mem, mem-joined, joined-mem, upTo-below, upTo-has, upTo-ascending, ascending-map, ascending-append}
@@ -86,11 +88,16 @@ open-choices sh s x e = ltb-true 1 (choicesAt sh s x) e
 
 -- each byte of a mutant has two choices at least
 pub slots-open : (sh : Sheet) → All (λ (c : ℕ). 1 < c) (slots sh)
-unfolding slots suspects
+unfolding slots suspects wakingSlots
 slots-open sh =
-    all-map (λ (c : ℕ). 1 < c) (λ (u : Suspect). choicesAt sh (u .state) (u .input)) (suspects sh)
-    (all-joined Open row (upTo (sh .size .states)) (all-every (λ (s : ℕ). All Open (row s)) in-row (upTo (sh .size .states))))
+    all-append (λ (c : ℕ). 1 < c) (replicate (wakingSlots sh) (wakingChoices sh)) _ (waking (wakingChoices sh) (ltb 1 (wakingChoices sh)) refl)
+    (all-map (λ (c : ℕ). 1 < c) (λ (u : Suspect). choicesAt sh (u .state) (u .input)) (suspects sh)
+    (all-joined Open row (upTo (sh .size .states)) (all-every (λ (s : ℕ). All Open (row s)) in-row (upTo (sh .size .states)))))
   where
+    waking : (c : ℕ) (b : Bool) → ltb 1 c ≡ b → All (λ (i : ℕ). 1 < i) (replicate (cond b 1 0) c)
+    waking c true e = (ltb-true 1 c e, tt)
+    waking c false e = tt
+
     Open : Suspect → Type 0
     Open u = 1 < choicesAt sh (u .state) (u .input)
 

@@ -13,9 +13,10 @@ use Rattle.sheet.specs.declared.Size.{Size}
 use Rattle.lists.specs.Lists.{maybe, All, upTo, joined}
 use Rattle.sheet.specs.Sheet.{Sheet, rowsAt, ruleAt}
 use Rattle.sheet.specs.WellFormed.{RowIn, WellFormed}
+use Rattle.sheet.specs.laws.WakingLaw.{waking-in}
 use Rattle.lists.specs.laws.TestLaw.{never}
 use Rattle.model.specs.Machine.{Move, Pair}
-use Rattle.model.specs.Mutant.{moveOf, rule, unruled, transitions, suspects, siteIn, idle, acts, step, initial, against}
+use Rattle.model.specs.Mutant.{moveOf, rule, unruled, transitions, suspects, siteIn, slotOf, idle, acts, step, startSlot, initial, against}
 use Rattle.lists.specs.laws.AllLaw.{all-imp, all-getD, all-first, all-map, all-joined}
 use Rattle.lists.specs.laws.MemberLaw.{upTo-below}
 
@@ -122,7 +123,7 @@ module _ (sh : Sheet) (wf : WellFormed sh) where
       idle-in = record { output = wf .size .outputs .some; target = some-state }
 
       i : ℕ
-      i = maybe (siteIn (suspects sh) s x) zero (λ i. getD b i 0)
+      i = maybe (slotOf sh (siteIn (suspects sh) s x)) zero (λ i. getD b i 0)
 
       go : (c : Bool) → MoveIn (sh .size) (cond c (getD (transitions sh s x) i idle) idle)
       go true = all-getD (MoveIn (sh .size)) (transitions sh s x) i idle (transitions-in s x) idle-in
@@ -140,4 +141,4 @@ closed sh b wf =
 -- a mutant starts at a state
 pub start-below : (sh : Sheet) (b : List ℕ) → WellFormed sh → initial sh b < sh .size .states
 unfolding initial
-start-below sh b wf = some-state sh wf
+start-below sh b wf = waking-in wf (maybe (startSlot sh) zero (λ i. getD b i 0))

@@ -12,7 +12,7 @@ use Rattle.lists.specs.Lists.{maybe}
 use Rattle.sheet.specs.Sheet.{Sheet, choicesAt, isOpen}
 use Rattle.sheet.specs.WellFormed.{WellFormed}
 use Rattle.model.specs.Mutant.{transitions, slots, siteOf, IsMutant, idle, acts, step}
-use Rattle.model.specs.laws.SuspectLaw.{openBefore, site-none, site-open, site-is}
+use Rattle.model.specs.laws.SuspectLaw.{slotsBefore, site-none, site-open, site-is}
 use Rattle.model.specs.laws.TransitionLaw.{choices-some}
 use Rattle.model.specs.laws.OperationLaw.{mutant-length, in-range-at}
 
@@ -28,7 +28,7 @@ module _ (sh : Sheet) (b : List ℕ) (s x : ℕ) where
 
   -- at an open pair the one of its byte
   pub step-open : s < sh .size .states → x < sh .size .inputs → isOpen sh s x ≡ true →
-      step sh b s x ≡ getD (transitions sh s x) (getD b (openBefore sh s x) 0) idle
+      step sh b s x ≡ getD (transitions sh s x) (getD b (slotsBefore sh s x) 0) idle
   step-open ls lx e = step-at ls lx ∙ rw (site-open sh s x ls lx e) refl
 
   -- otherwise the only one
@@ -36,7 +36,7 @@ module _ (sh : Sheet) (b : List ℕ) (s x : ℕ) where
   step-only ls lx e = step-at ls lx ∙ rw (site-none sh s x e) refl
 
   -- it uses the byte of an open pair, and none elsewhere
-  pub used-open : s < sh .size .states → x < sh .size .inputs → isOpen sh s x ≡ true → acts sh b s x .used ≡ some (openBefore sh s x)
+  pub used-open : s < sh .size .states → x < sh .size .inputs → isOpen sh s x ≡ true → acts sh b s x .used ≡ some (slotsBefore sh s x)
   unfolding acts siteOf
   used-open ls lx e = site-open sh s x ls lx e
 

@@ -1,17 +1,19 @@
--- The suspects of a sheet: how many there are, which states and inputs they are, and which byte of a mutant each uses.
+-- The suspects of a sheet: how many there are, which states and inputs they are, and which byte of a mutant each uses; and the byte of
+-- the waking state.
 use Prim.Native.Nat.{ℕ, zero, suc, _+_, _<_, suc-le-suc}
 use native.Mathlib.Omega.{arith}
 use mathlib.Core.Path.{_≡_, refl, sym, _∙_, ap}
 use mathlib.Core.Bool.{Bool, true, false, cond, _&&_}
 use mathlib.Core.Option.{Option, none, some}
-use mathlib.Core.List.{List, [], _∷_, _++_, append-assoc}
-use borrow.Author.Tests.{eqb-true, eq-eqb}
-use lib.Dec.{eqb}
-use lib.ListN.{length, getD, length-append, length-map}
-use Rattle.lists.specs.Lists.{All, count, upTo, joined}
-use Rattle.sheet.specs.Sheet.{Sheet, choicesAt, isOpen, openBelow, openPairs}
+use mathlib.Core.List.{List, [], _∷_, _++_, map, append-assoc}
+use borrow.Author.Tests.{eqb-true, eq-eqb, ltb-true, lt-ltb}
+use lib.Dec.{eqb, ltb}
+use lib.Seq.{getD-append-add}
+use lib.ListN.{length, getD, replicate, length-append, length-map, length-replicate}
+use Rattle.lists.specs.Lists.{maybe, All, count, upTo, joined}
+use Rattle.sheet.specs.Sheet.{Sheet, choicesAt, isOpen, openBelow, openPairs, wakings, wakingChoices, wakingSlots, openSlots}
 use Rattle.lists.specs.laws.TestLaw.{never}
-use Rattle.model.specs.Mutant.{Suspect, keepOpen, suspects, slots, later, siteIn, siteOf}
+use Rattle.model.specs.Mutant.{Suspect, keepOpen, suspects, slots, later, siteIn, slotOf, siteOf, startSlot}
 use Rattle.lists.specs.laws.TestLaw.{clash}
 use Rattle.lists.specs.laws.AllLaw.{all-imp, all-append, all-joined}
 use Rattle.lists.specs.laws.MemberLaw.{upTo-below}
@@ -47,10 +49,29 @@ pub suspect-count : (sh : Sheet) → length (suspects sh) ≡ openPairs sh
 unfolding suspects suspectsBelow openPairs
 suspect-count sh = below-count sh (sh .size .states)
 
--- a mutant has one byte for each open pair
-pub slot-count : (sh : Sheet) → length (slots sh) ≡ openPairs sh
+-- the numbers of choices of the suspects
+abbrev pairChoices : Sheet → List ℕ
+pairChoices sh = map (λ (u : Suspect). choicesAt sh (u .state) (u .input)) (suspects sh)
+
+-- a mutant has one byte for where it wakes, if there is a choice, and one for each open pair
+pub slot-count : (sh : Sheet) → length (slots sh) ≡ openSlots sh
+unfolding slots openSlots
+slot-count sh =
+    length-append (replicate (wakingSlots sh) (wakingChoices sh)) (pairChoices sh)
+    ∙ rw (length-replicate (wakingSlots sh) (wakingChoices sh), length-map (suspects sh) (λ (u : Suspect). choicesAt sh (u .state) (u .input)), suspect-count sh)
+    refl
+
+-- the number of choices of a suspect's byte
+slot-at : (sh : Sheet) (j d : ℕ) → getD (slots sh) (wakingSlots sh + j) d ≡ getD (pairChoices sh) j d
 unfolding slots
-slot-count sh = length-map (suspects sh) (λ (u : Suspect). choicesAt sh (u .state) (u .input)) ∙ suspect-count sh
+slot-at sh j d =
+    let e = length-replicate (wakingSlots sh) (wakingChoices sh) in
+    ap (λ w. getD (slots sh) (w + j) d) (sym e) ∙ getD-append-add (replicate (wakingSlots sh) (wakingChoices sh)) (pairChoices sh) j d
+
+-- a byte that a suspect uses has the suspect's number, those before it counted
+slot-of : (sh : Sheet) (o : Option ℕ) (i : ℕ) → slotOf sh o ≡ some i → (j : ℕ) × (o ≡ some j) × (wakingSlots sh + j ≡ i)
+slot-of sh none i e = never (cc)
+slot-of sh (some j) i e = (j, refl, cc)
 
 -- a state and an input of the sheet, and open
 pub record IsSuspect (sh : Sheet) (u : Suspect) : Type 0 where
@@ -144,9 +165,12 @@ site-after (u ∷ us) vs s x a = go (eqb (u .state) s) refl (eqb (u .input) x) r
     go true eb false ec ih = rw ih refl
     go false eb c ec ih = rw ih refl
 
--- how many open pairs stand before (s, x)
+-- how many open pairs stand before (s, x); and how many bytes
 abbrev pub openBefore : Sheet → ℕ → ℕ → ℕ
 openBefore sh s x = openBelow sh s + count (isOpen sh s) x
+
+abbrev pub slotsBefore : Sheet → ℕ → ℕ → ℕ
+slotsBefore sh s x = wakingSlots sh + openBefore sh s x
 
 -- the suspects before an open pair, that pair, and others
 record Split (sh : Sheet) (s x : ℕ) : Type 0 where
@@ -183,44 +207,48 @@ module _ (sh : Sheet) (s x : ℕ) where
   pub site-none : isOpen sh s x ≡ false → siteOf sh s x ≡ none
   unfolding siteOf
   site-none e =
-      no-site (suspects sh) s x
+      ap (slotOf sh) (no-site (suspects sh) s x
       (all-imp (Other s x) (IsSuspect sh) (λ (u : Suspect) h es ex. clash (isOpen sh s x) (rw (es, ex) at (h .several)) e)
-      (suspects sh) (suspects-are sh))
+      (suspects sh) (suspects-are sh)))
 
   -- nor does a pair outside the sheet's states and inputs
   pub site-outside : (s < sh .size .states → x < sh .size .inputs → ⊥) → siteOf sh s x ≡ none
   unfolding siteOf
   site-outside out =
-      no-site (suspects sh) s x
+      ap (slotOf sh) (no-site (suspects sh) s x
       (all-imp (Other s x) (IsSuspect sh) (λ (u : Suspect) h es ex. out (rw es at (h .state)) (rw ex at (h .input)))
-      (suspects sh) (suspects-are sh))
+      (suspects sh) (suspects-are sh)))
 
-  -- an open pair uses the byte with the number of open pairs before it
-  pub site-open : s < sh .size .states → x < sh .size .inputs → isOpen sh s x ≡ true → siteOf sh s x ≡ some (openBefore sh s x)
+  -- an open pair uses the byte with the number of bytes before it
+  pub site-open : s < sh .size .states → x < sh .size .inputs → isOpen sh s x ≡ true → siteOf sh s x ≡ some (slotsBefore sh s x)
   unfolding siteOf
   site-open ls lx e =
       let d = split ls lx e in
-      rw (d .is) (site-after (d .earlier) (d .rest) s x (d .others) ∙ ap (λ i. some i) (d .many))
+      let at : siteIn (suspects sh) s x ≡ some (openBefore sh s x) =
+      rw (d .is) (site-after (d .earlier) (d .rest) s x (d .others) ∙ ap (λ i. some i) (d .many)) in
+      ap (slotOf sh) at
 
   -- which byte a pair of the sheet uses
-  pub site-number : s < sh .size .states → x < sh .size .inputs → siteOf sh s x ≡ cond (isOpen sh s x) (some (openBefore sh s x)) none
+  pub site-number : s < sh .size .states → x < sh .size .inputs → siteOf sh s x ≡ cond (isOpen sh s x) (some (slotsBefore sh s x)) none
   site-number ls lx = go (isOpen sh s x) refl
     where
-      go : (b : Bool) → isOpen sh s x ≡ b → siteOf sh s x ≡ cond b (some (openBefore sh s x)) none
+      go : (b : Bool) → isOpen sh s x ≡ b → siteOf sh s x ≡ cond b (some (slotsBefore sh s x)) none
       go true e = site-open ls lx e
       go false e = site-none e
 
   -- a byte that a pair uses is a byte of the mutant, has the pair's number of choices, and the pair is open
   pub site-is : (i : ℕ) → siteOf sh s x ≡ some i →
       (i < length (slots sh)) × (getD (slots sh) i 0 ≡ choicesAt sh s x) × (isOpen sh s x ≡ true)
-  unfolding siteOf slots
+  unfolding siteOf openSlots
   site-is i e =
       let f : Suspect → ℕ = λ u. choicesAt sh (u .state) (u .input) in
       let d : Suspect = record { state = s; input = x } in
-      let h = site-in (suspects sh) s x i d e in (
-        rw (length-map (suspects sh) f) (h .0),
-        getD-map-below f (suspects sh) i 0 d (h .0) ∙ ap f (h .1),
-        rw (h .1) at (all-at-index (IsSuspect sh) (suspects sh) i d (h .0) (suspects-are sh) .several),
+      let at = slot-of sh (siteIn (suspects sh) s x) i e in
+      let j = at .0 in
+      let h = site-in (suspects sh) s x j d (at .1) in (
+        omega (arith, slot-count sh, suspect-count sh, h .0, at .2),
+        ap (λ k. getD (slots sh) k 0) (sym (at .2)) ∙ slot-at sh j 0 ∙ getD-map-below f (suspects sh) j 0 d (h .0) ∙ ap f (h .1),
+        rw (h .1) at (all-at-index (IsSuspect sh) (suspects sh) j d (h .0) (suspects-are sh) .several),
       )
 
 -- each byte belongs to one pair
@@ -228,5 +256,42 @@ pub site-one : (sh : Sheet) (s x s′ x′ i : ℕ) → siteOf sh s x ≡ some i
 unfolding siteOf
 site-one sh s x s′ x′ i e e′ =
     let d : Suspect = record { state = 0; input = 0 } in
-    let same = sym (site-in (suspects sh) s x i d e .1) ∙ site-in (suspects sh) s′ x′ i d e′ .1 in
+    let at = slot-of sh (siteIn (suspects sh) s x) i e in
+    let at′ = slot-of sh (siteIn (suspects sh) s′ x′) i e′ in
+    let ej : at′ .0 ≡ at .0 = omega (arith, at .2, at′ .2) in
+    let same = sym (site-in (suspects sh) s x (at .0) d (at .1) .1) ∙ site-in (suspects sh) s′ x′ (at .0) d (rw ej at (at′ .1)) .1 in
     (ap (λ (u : Suspect). u .state) same, ap (λ (u : Suspect). u .input) same)
+
+-- ---- the byte of the waking state
+
+module _ (sh : Sheet) where
+  -- it is the first one and has a choice for each waking state, two at least
+  pub waking-slot : (i : ℕ) → startSlot sh ≡ some i →
+      (i ≡ 0) × (i < length (slots sh)) × (getD (slots sh) i 0 ≡ wakingChoices sh) × (1 < wakingChoices sh)
+  unfolding startSlot wakingSlots slots
+  waking-slot i e = go (wakingChoices sh) (ltb 1 (wakingChoices sh)) refl e
+    where
+      go : (c : ℕ) (b : Bool) → ltb 1 c ≡ b → cond b (some zero) none ≡ some i →
+          (i ≡ 0) × (i < length (replicate (cond b 1 0) c ++ pairChoices sh)) × (getD (replicate (cond b 1 0) c ++ pairChoices sh) i 0 ≡ c) × (1 < c)
+      go c true eb h = let z : 0 ≡ i = cc in rw (← z) (refl, omega arith, refl, ltb-true 1 c eb)
+      go c false eb h = never (cc)
+
+  -- without it state 0 is the only one
+  pub waking-none : startSlot sh ≡ none → wakings sh ≡ 0 ∷ []
+  unfolding startSlot wakingChoices wakings
+  waking-none e = go (sh .starts) e
+    where
+      go : (ts : List ℕ) → cond (ltb 1 (length (0 ∷ ts))) (some zero) none ≡ none → 0 ∷ ts ≡ 0 ∷ []
+      go [] h = refl
+      go (t ∷ ts) h = let more = lt-ltb 1 (length (0 ∷ t ∷ ts)) (omega arith) in never (cc)
+
+  -- it belongs to no pair
+  pub waking-apart : (s x i : ℕ) → startSlot sh ≡ some i → siteOf sh s x ≡ some i → ⊥
+  unfolding siteOf startSlot wakingSlots
+  waking-apart s x i e h =
+      let at = slot-of sh (siteIn (suspects sh) s x) i h in
+      go (ltb 1 (wakingChoices sh)) (at .0) e (at .2)
+    where
+      go : (b : Bool) (j : ℕ) → cond b (some zero) none ≡ some i → cond b 1 0 + j ≡ i → ⊥
+      go true j f g = let z : 0 ≡ i = cc in omega arith
+      go false j f g = never (cc)

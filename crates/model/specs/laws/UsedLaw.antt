@@ -14,7 +14,7 @@ use Rattle.model.specs.Mutant.{slots, siteOf, acts, initial, startSlot}
 use Rattle.model.specs.Used.{has, mark, markFrom, markAll, usedOn, UsesFrom, UsesIn, Uses}
 use Rattle.model.specs.Verdict.{UsedMeans}
 use Rattle.model.specs.laws.UsedBitLaw.{has-nothing, mark-keeps, mark-has, has-mark, mark-low, ones-count}
-use Rattle.model.specs.laws.SuspectLaw.{site-is}
+use Rattle.model.specs.laws.SuspectLaw.{site-is, waking-slot}
 
 module _ (act : ℕ → ℕ → Action) where
   from-keeps : (xs : List ℕ) (set s i : ℕ) → has set i ≡ true → has (markFrom act set s xs) i ≡ true
@@ -94,8 +94,7 @@ module _ (sh : Sheet) (b : List ℕ) where
   step-slot s x i e = site-is sh s x i e .0
 
   start-slot : (i : ℕ) → startSlot sh ≡ some i → i < length (slots sh)
-  unfolding startSlot
-  start-slot i e = never (cc)
+  start-slot i e = waking-slot sh i e .1
 
   uses-below : (ts : List (List ℕ)) (i : ℕ) → Uses sh b ts i → i < length (slots sh)
   unfolding Uses

@@ -1,14 +1,26 @@
 use borrow.Author.Needs.{needs}
+use borrow.Author.Tests.{not-false}
+use Rattle.store.specs.laws.ToldLaw.{void}
 use Rattle.refutation.proofs.FactsLaw.{prepared}
 use Rattle.refutation.proofs.prepare.Statement.{statement}
 use Rattle.refutation.proofs.prepare.Tie as tie
 
-returns : tie.Need-returns
-returns c =
-    let at-enter-all = c .before .before .before .before in
-    let at-entry = at-enter-all .before .before .before in
-    λ e. prepared (at-entry .pre .0) (at-enter-all .enter-all .ensures .has e) (c .before .before .exchange-all .ensures) (c .find-tests .ensures)
+exchange-all-requires : tie.Need-exchange-all-requires
+exchange-all-requires c κs =
+    let at-enter-all = c .before .before in
+    let entered = at-enter-all .enter-all .ensures in
+    (record { wf = at-enter-all .before .before .before .pre .0; tables = entered .has (not-false _ (c .before .if1 .left)) }, entered .long)
+
+returns-2 : tie.Need-returns-2
+returns-2 c =
+    let at-if1 = c .before .before .before .before in
+    let at-enter-all = at-if1 .before in
+    λ e. prepared (at-enter-all .before .before .before .pre .0) (at-enter-all .enter-all .ensures .has (not-false _ (at-if1 .if1 .left))) (c .before .before .exchange-all .ensures) (c .find-tests .ensures)
 
 pub prepare-spec : {M : Type 1} → statement M
 prepare-spec =
-    tie.close (tie.spec (λ c κs. search needs) (λ c κs. search needs) (λ c κs. search needs) returns)
+    tie.close
+    (tie.spec
+    (λ c κs. search needs)
+    (λ c. λ e. void e)
+    exchange-all-requires (λ c κs. search needs) returns-2)

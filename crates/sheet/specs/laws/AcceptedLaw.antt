@@ -3,7 +3,7 @@ use mathlib.Core.Path.{_≡_, refl}
 use mathlib.Core.Bool.{Bool, true, false, cond}
 use mathlib.Core.List.{List, [], _∷_, _++_}
 use mathlib.Core.Option.{some}
-use Prim.Native.Nat.{ℕ, _+_, _≤_}
+use Prim.Native.Nat.{ℕ, _+_, _<_, _≤_}
 use native.Mathlib.Omega.{arith}
 use lib.ListN.{length, getD, length-append}
 use lib.Dec.{ltb}
@@ -12,14 +12,14 @@ use Rattle.sheet.specs.declared.Row.{Row}
 use Rattle.lists.specs.Lists.{last, All, Ascending, Before}
 use Rattle.sheet.specs.Sheet.{Sheet, pairOf, rowOf, after}
 use Rattle.sheet.specs.Reading.{accepted, refused, from, Progress, rowAt, sizeAt, lastTest, addPress, advance, blank, reading}
-use Rattle.sheet.specs.WellFormed.{SizeIn, RowIn, Mutates, TestIn, WellFormed}
+use Rattle.sheet.specs.WellFormed.{SizeIn, RowIn, Mutates, StartIn, TestIn, WellFormed}
 use Rattle.lists.specs.laws.TestLaw.{never}
 use Rattle.lists.specs.laws.AllLaw.{all-snoc, all-none}
-use Rattle.sheet.specs.laws.ReadingLaw.{Moves, by-size, by-rule, by-fault, by-test, by-press, accepting}
+use Rattle.sheet.specs.laws.ReadingLaw.{Moves, by-size, by-rule, by-fault, by-start, by-test, by-press, accepting}
 use Rattle.sheet.specs.laws.PhaseLaw.{Ordered, ordered-blank, ordered-on, press-length}
 use Rattle.sheet.specs.laws.RowLaw.{before-trans, ascending-snoc}
 use Rattle.sheet.specs.laws.ReachedLaw.{reached-each}
-use Rattle.sheet.specs.laws.CommandLaw.{size-right, rule-right, fault-right, test-right, press-right}
+use Rattle.sheet.specs.laws.CommandLaw.{size-right, rule-right, fault-right, start-right, test-right, press-right}
 
 -- what is read so far is well formed
 record Good (p : Progress) : Type 0 where
@@ -31,6 +31,8 @@ record Good (p : Progress) : Type 0 where
   faults-ascend : Ascending (λ q r. Before (rowOf q) (rowOf r)) (p .sheet .faults)
   faults-mutate : All (Mutates (p .sheet .rules)) (p .sheet .faults)
   few-faults : length (p .sheet .faults) ≤ 256
+  starts : All (StartIn (p .sheet .size)) (p .sheet .starts)
+  starts-ascend : Ascending _<_ (p .sheet .starts)
   few-tests : length (p .sheet .tests) ≤ 256
   tests : All (TestIn (p .sheet .rules)) (p .sheet .tests)
 
@@ -60,6 +62,8 @@ good-blank =
       faults-ascend = tt;
       faults-mutate = tt;
       few-faults = omega arith;
+      starts = tt;
+      starts-ascend = tt;
       few-tests = omega arith;
       tests = tt;
     }
@@ -77,6 +81,8 @@ module _ {p : Progress} {s : List ℕ} {at : ℕ} (g : Good p) where
         faults-ascend = g .faults-ascend;
         faults-mutate = g .faults-mutate;
         few-faults = g .few-faults;
+        starts = all-none _ (p .sheet .starts) (g .ordered .starts (omega arith));
+        starts-ascend = g .starts-ascend;
         few-tests = g .few-tests;
         tests = g .tests;
       }
@@ -91,6 +97,8 @@ module _ {p : Progress} {s : List ℕ} {at : ℕ} (g : Good p) where
         faults-ascend = g .faults-ascend;
         faults-mutate = all-none _ (p .sheet .faults) (g .ordered .faults (m .late));
         few-faults = g .few-faults;
+        starts = g .starts;
+        starts-ascend = g .starts-ascend;
         few-tests = g .few-tests;
         tests = all-none _ (p .sheet .tests) (g .ordered .tests (omega arith));
       }
@@ -105,6 +113,24 @@ module _ {p : Progress} {s : List ℕ} {at : ℕ} (g : Good p) where
         faults-ascend = add-ascending rowOf (p .sheet .faults) (rowAt s at) (g .faults-ascend) (r .follows .later);
         faults-mutate = all-snoc _ (p .sheet .faults) (rowAt s at) (g .faults-mutate) (r .mutating);
         few-faults = let k = r .few in simp length-append (omega arith);
+        starts = g .starts;
+        starts-ascend = g .starts-ascend;
+        few-tests = g .few-tests;
+        tests = g .tests;
+      }
+  good-on (by-start m) =
+      let r = start-right (p .sheet) (getD s (at + 1) 0) (m .right) in
+      record {
+        ordered = ordered-on (g .ordered) (by-start m);
+        size = λ k. g .size (m .early);
+        rules = g .rules;
+        rules-ascend = g .rules-ascend;
+        faults = g .faults;
+        faults-ascend = g .faults-ascend;
+        faults-mutate = g .faults-mutate;
+        few-faults = g .few-faults;
+        starts = all-snoc _ (p .sheet .starts) (getD s (at + 1) 0) (g .starts) (r .inside);
+        starts-ascend = ascending-snoc _<_ (λ x y z h k. omega arith) (p .sheet .starts) (getD s (at + 1) 0) (g .starts-ascend) (r .later);
         few-tests = g .few-tests;
         tests = g .tests;
       }
@@ -118,6 +144,8 @@ module _ {p : Progress} {s : List ℕ} {at : ℕ} (g : Good p) where
         faults-ascend = g .faults-ascend;
         faults-mutate = g .faults-mutate;
         few-faults = g .few-faults;
+        starts = g .starts;
+        starts-ascend = g .starts-ascend;
         few-tests = let k = test-right (p .sheet) (m .right) in simp length-append (omega arith);
         tests = all-snoc _ (p .sheet .tests) [] (g .tests) (empty-test (p .sheet .rules));
       }
@@ -131,6 +159,8 @@ module _ {p : Progress} {s : List ℕ} {at : ℕ} (g : Good p) where
         faults-ascend = g .faults-ascend;
         faults-mutate = g .faults-mutate;
         few-faults = g .few-faults;
+        starts = g .starts;
+        starts-ascend = g .starts-ascend;
         few-tests = rw press-length (g .few-tests);
         tests = all-press _ (p .sheet .tests) (getD s (at + 1) 0) (g .tests) (press-right (p .sheet) (getD s (at + 1) 0) (m .right));
       }
@@ -149,6 +179,8 @@ well-formed s sh e =
       faults-ascend = g .faults-ascend;
       faults-mutate = g .faults-mutate;
       few-faults = g .few-faults;
+      starts = g .starts;
+      starts-ascend = g .starts-ascend;
       few-tests = g .few-tests;
       tests = g .tests;
       reached = reached-each sh (a .reached);

@@ -11,15 +11,15 @@ use Rattle.sheet.specs.declared.Row.{Row}
 use Rattle.sheet.specs.declared.Size.{Size}
 use Rattle.lists.specs.Lists.{maybe, Before}
 use Rattle.sheet.specs.Sheet.{Sheet, pairOf, rowOf, ruleAt, after}
-use Rattle.sheet.specs.Reading.{accepted, size, rule, fault, test, press, rowAt, sizeAt, lastTest, addPress, refusal, advance, blank, reading}
-use Rattle.sheet.specs.Encode.{sizeBytes, rowBytes, pressBytes, testBytes, machineBytes, body, encode}
-use Rattle.sheet.specs.WellFormed.{RowIn, Mutates, TestIn, WellFormed}
+use Rattle.sheet.specs.Reading.{accepted, size, rule, fault, start, test, press, rowAt, sizeAt, lastTest, addPress, refusal, advance, blank, reading}
+use Rattle.sheet.specs.Encode.{sizeBytes, rowBytes, operandBytes, startBytes, pressBytes, testBytes, machineBytes, body, encode}
+use Rattle.sheet.specs.WellFormed.{RowIn, Mutates, StartIn, TestIn, WellFormed}
 use Rattle.lists.specs.laws.TestLaw.{never}
 use Rattle.lists.specs.laws.AllLaw.{all-at}
-use Rattle.sheet.specs.laws.ReadingLaw.{by-size, by-rule, by-fault, by-test, by-press, refusal-end}
+use Rattle.sheet.specs.laws.ReadingLaw.{by-size, by-rule, by-fault, by-start, by-test, by-press, refusal-end}
 use Rattle.sheet.specs.laws.RowLaw.{last-snoc, ascending-last}
 use Rattle.sheet.specs.laws.ReachedLaw.{each-reached}
-use Rattle.sheet.specs.laws.CommandLaw.{Follows, FaultRight, right-size, right-rule, right-fault, right-test, right-press}
+use Rattle.sheet.specs.laws.CommandLaw.{Follows, FaultRight, StartRight, right-size, right-rule, right-fault, right-start, right-test, right-press}
 use Rattle.sheet.specs.laws.ProgressLaw.{Going, going-start, going-on, going-end, finishes}
 
 -- the bytes from a place on are l
@@ -57,8 +57,8 @@ record Read (s : List ℕ) (earliest latest : ℕ) (sh : Sheet) (l : List ℕ) :
   going : Going s (record { phase = phase; sheet = sh }) at
   left : Left s at l
 
-abbrev part : Size → List Row → List Row → List (List ℕ) → Sheet
-part z rules faults tests = record { size = z; rules = rules; faults = faults; tests = tests }
+abbrev part : Size → List Row → List Row → List ℕ → List (List ℕ) → Sheet
+part z rules faults starts tests = record { size = z; rules = rules; faults = faults; starts = starts; tests = tests }
 
 module _ {s : List ℕ} {sh : Sheet} {l : List ℕ} where
   -- later phases may come
@@ -103,10 +103,29 @@ module _ {s : List ℕ} {sh : Sheet} {l : List ℕ} where
             })));
       }
 
-  read-test : length (sh .tests) < 256 → Read s 1 4 sh (4 ∷ l) → Read s 4 4 (advance sh test) l
-  read-test f h =
+  read-start : (t : ℕ) → StartRight sh t → Read s 1 4 sh (7 ∷ t ∷ l) → Read s 1 4 (advance sh (start t)) l
+  read-start t f h =
+      let same : getD s (h .at + 1) 0 ≡ t = byte-at (h .left) 1 in
       record {
         phase = 4;
+        at = h .at + 2;
+        early = omega arith;
+        late = omega arith;
+        left = left-after (h .left) 2;
+        going = subst (λ (u : ℕ). Going s (record { phase = 4; sheet = advance sh (start u) }) (h .at + 2)) same
+            (going-on (h .going) (by-start (record {
+              byte = first-byte (h .left);
+              early = h .early;
+              late = h .late;
+              room = room-for (h .left) 2 (omega arith) (omega arith);
+              right = rw same (right-start sh t f);
+            })));
+      }
+
+  read-test : length (sh .tests) < 256 → Read s 1 5 sh (4 ∷ l) → Read s 5 5 (advance sh test) l
+  read-test f h =
+      record {
+        phase = 5;
         at = h .at + 1;
         early = omega arith;
         late = omega arith;
@@ -120,16 +139,16 @@ module _ {s : List ℕ} {sh : Sheet} {l : List ℕ} where
         }));
       }
 
-  read-press : (x : ℕ) → refusal sh (press x) ≡ 0 → Read s 4 4 sh (5 ∷ x ∷ l) → Read s 4 4 (advance sh (press x)) l
+  read-press : (x : ℕ) → refusal sh (press x) ≡ 0 → Read s 5 5 sh (5 ∷ x ∷ l) → Read s 5 5 (advance sh (press x)) l
   read-press x f h =
       let same : getD s (h .at + 1) 0 ≡ x = byte-at (h .left) 1 in
       record {
-        phase = 4;
+        phase = 5;
         at = h .at + 2;
         early = omega arith;
         late = omega arith;
         left = left-after (h .left) 2;
-        going = subst (λ (y : ℕ). Going s (record { phase = 4; sheet = advance sh (press y) }) (h .at + 2)) same
+        going = subst (λ (y : ℕ). Going s (record { phase = 5; sheet = advance sh (press y) }) (h .at + 2)) same
             (going-on (h .going) (by-press (record {
               byte = first-byte (h .left);
               early = h .early;
@@ -171,7 +190,7 @@ press-last (y ∷ z ∷ l) xs x = rw (press-last (z ∷ l) xs x)
 
 module _ (sh : Sheet) (w : WellFormed sh) (s : List ℕ) where
   read-rules : (done rest : List Row) (l : List ℕ) → done ++ rest ≡ sh .rules
-      → Read s 1 2 (part (sh .size) done [] []) (rowBytes 2 rest ++ l) → Read s 1 2 (part (sh .size) (sh .rules) [] []) l
+      → Read s 1 2 (part (sh .size) done [] [] []) (rowBytes 2 rest ++ l) → Read s 1 2 (part (sh .size) (sh .rules) [] [] []) l
   unfolding rowBytes advance
   read-rules done [] l e h = rw (← e, append-nil done) h
   read-rules done (r ∷ rest) l e h =
@@ -182,7 +201,7 @@ module _ (sh : Sheet) (w : WellFormed sh) (s : List ℕ) where
       }) h)
 
   read-faults : (done rest : List Row) (l : List ℕ) → done ++ rest ≡ sh .faults
-      → Read s 1 3 (part (sh .size) (sh .rules) done []) (rowBytes 3 rest ++ l) → Read s 1 3 (part (sh .size) (sh .rules) (sh .faults) []) l
+      → Read s 1 3 (part (sh .size) (sh .rules) done [] []) (rowBytes 3 rest ++ l) → Read s 1 3 (part (sh .size) (sh .rules) (sh .faults) [] []) l
   unfolding rowBytes advance
   read-faults done [] l e h = rw (← e, append-nil done) h
   read-faults done (r ∷ rest) l e h =
@@ -196,36 +215,47 @@ module _ (sh : Sheet) (w : WellFormed sh) (s : List ℕ) where
         few = short-of done r rest 256 (rw e (w .few-faults));
       }) h)
 
+  read-starts : (done rest l : List ℕ) → done ++ rest ≡ sh .starts
+      → Read s 1 4 (part (sh .size) (sh .rules) (sh .faults) done []) (startBytes rest ++ l) → Read s 1 4 (part (sh .size) (sh .rules) (sh .faults) (sh .starts) []) l
+  unfolding operandBytes advance
+  read-starts done [] l e h = rw (← e, append-nil done) h
+  read-starts done (t ∷ rest) l e h =
+      read-starts (done ++ t ∷ []) rest l (append-snoc done t rest ∙ e)
+      (read-start t (record {
+        inside = all-at (StartIn (sh .size)) done t rest (rw e (w .starts));
+        later = ascending-last _<_ done t rest (rw e (w .starts-ascend));
+      }) h)
+
   -- the sheet with these tests
   abbrev upto : List (List ℕ) → Sheet
-  upto tests = part (sh .size) (sh .rules) (sh .faults) tests
+  upto tests = part (sh .size) (sh .rules) (sh .faults) (sh .starts) tests
 
   read-presses : (before : List (List ℕ)) (done rest : List ℕ) (l : List ℕ) → TestIn (sh .rules) (done ++ rest)
-      → Read s 4 4 (upto (before ++ done ∷ [])) (pressBytes rest ++ l) → Read s 4 4 (upto (before ++ (done ++ rest) ∷ [])) l
-  unfolding pressBytes advance
+      → Read s 5 5 (upto (before ++ done ∷ [])) (pressBytes rest ++ l) → Read s 5 5 (upto (before ++ (done ++ rest) ∷ [])) l
+  unfolding operandBytes advance
   read-presses before done [] l t h = rw (append-nil done) h
   read-presses before done (x ∷ rest) l t h =
       let t' : TestIn (sh .rules) ((done ++ x ∷ []) ++ rest) = rw append-snoc t in
       let right : refusal (upto (before ++ done ∷ [])) (press x) ≡ 0 =
       right-press (upto (before ++ done ∷ [])) x (w .rules) (rw (last-test before done) (test-front (sh .rules) (done ++ x ∷ []) rest t')) in
-      let h' : Read s 4 4 (upto (before ++ (done ++ x ∷ []) ∷ [])) (pressBytes rest ++ l) = rw (press-last before done x) at (read-press x right h) in
+      let h' : Read s 5 5 (upto (before ++ (done ++ x ∷ []) ∷ [])) (pressBytes rest ++ l) = rw (press-last before done x) at (read-press x right h) in
       rw (append-snoc done x rest) at (read-presses before (done ++ x ∷ []) rest l t' h')
 
-  read-tests : (done rest : List (List ℕ)) (l : List ℕ) → done ++ rest ≡ sh .tests → Read s 1 4 (upto done) (testBytes rest ++ l) → Read s 1 4 sh l
+  read-tests : (done rest : List (List ℕ)) (l : List ℕ) → done ++ rest ≡ sh .tests → Read s 1 5 (upto done) (testBytes rest ++ l) → Read s 1 5 sh l
   unfolding testBytes advance
-  read-tests done [] l e h = subst (λ (tests : List (List ℕ)). Read s 1 4 (upto tests) l) (sym (append-nil done) ∙ e) h
+  read-tests done [] l e h = subst (λ (tests : List (List ℕ)). Read s 1 5 (upto tests) l) (sym (append-nil done) ∙ e) h
   read-tests done (xs ∷ rest) l e h =
-      let begun : Read s 4 4 (upto (done ++ [] ∷ [])) (pressBytes xs ++ (testBytes rest ++ l)) =
+      let begun : Read s 5 5 (upto (done ++ [] ∷ [])) (pressBytes xs ++ (testBytes rest ++ l)) =
       read-test (short-of done xs rest 256 (rw e (w .few-tests))) (rw append-assoc at h) in
       read-tests (done ++ xs ∷ []) rest l (append-snoc done xs rest ∙ e)
-      (widen 4 4 1 4 (omega arith) (omega arith) (read-presses done [] xs (testBytes rest ++ l) (all-at (TestIn (sh .rules)) done xs rest (rw e (w .tests))) begun))
+      (widen 5 5 1 5 (omega arith) (omega arith) (read-presses done [] xs (testBytes rest ++ l) (all-at (TestIn (sh .rules)) done xs rest (rw e (w .tests))) begun))
 
-  read-end : Read s 1 4 sh (6 ∷ []) → reading s ≡ accepted sh
+  read-end : Read s 1 5 sh (6 ∷ []) → reading s ≡ accepted sh
   read-end h =
       going-end (h .going) (record { byte = first-byte (h .left); early = h .early; late = h .late; room = room-for (h .left) 1 (omega arith) (omega arith); right = refusal-end sh })
       ∙ finishes sh s (h .at) (omega (arith, length-drop (h .at) s, left-length (h .left))) (each-reached sh (omega (arith, w .size .states .some)) (w .rules) (w .reached)) (w .few-open)
 
-  read-size : (l : List ℕ) → length s ≤ 16384 → s ≡ sizeBytes (sh .size) ++ l → Read s 1 2 (part (sh .size) [] [] []) l
+  read-size : (l : List ℕ) → length s ≤ 16384 → s ≡ sizeBytes (sh .size) ++ l → Read s 1 2 (part (sh .size) [] [] [] []) l
   unfolding sizeBytes advance blank
   read-size l k e =
       let whole : Left s 0 (sizeBytes (sh .size) ++ l) = record { bytes = e } in
@@ -236,7 +266,7 @@ module _ (sh : Sheet) (w : WellFormed sh) (s : List ℕ) where
         early = omega arith;
         late = omega arith;
         left = left-after whole 4;
-        going = subst (λ (z : Size). Going s (record { phase = 1; sheet = part z [] [] [] }) 4) same
+        going = subst (λ (z : Size). Going s (record { phase = 1; sheet = part z [] [] [] [] }) 4) same
             (going-on (going-start s k) (by-size (record {
               byte = first-byte whole;
               early = omega arith;
@@ -251,7 +281,11 @@ pub accepts : (sh : Sheet) → WellFormed sh → length (encode sh) ≤ 16384 �
 unfolding encode body machineBytes
 accepts sh w k =
     let s = encode sh in
-    let z = read-size sh w s (rowBytes 2 (sh .rules) ++ (rowBytes 3 (sh .faults) ++ (testBytes (sh .tests) ++ 6 ∷ []))) k (simp append-assoc) in
-    let r = read-rules sh w s [] (sh .rules) (rowBytes 3 (sh .faults) ++ (testBytes (sh .tests) ++ 6 ∷ [])) refl z in
-    let f = read-faults sh w s [] (sh .faults) (testBytes (sh .tests) ++ 6 ∷ []) refl (widen 1 2 1 3 (omega arith) (omega arith) r) in
-    read-end sh w s (read-tests sh w s [] (sh .tests) (6 ∷ []) refl (widen 1 3 1 4 (omega arith) (omega arith) f))
+    let tests : List ℕ = testBytes (sh .tests) ++ 6 ∷ [] in
+    let starts : List ℕ = startBytes (sh .starts) ++ tests in
+    let faults : List ℕ = rowBytes 3 (sh .faults) ++ starts in
+    let z = read-size sh w s (rowBytes 2 (sh .rules) ++ faults) k (simp append-assoc) in
+    let r = read-rules sh w s [] (sh .rules) faults refl z in
+    let f = read-faults sh w s [] (sh .faults) starts refl (widen 1 2 1 3 (omega arith) (omega arith) r) in
+    let u = read-starts sh w s [] (sh .starts) tests refl (widen 1 3 1 4 (omega arith) (omega arith) f) in
+    read-end sh w s (read-tests sh w s [] (sh .tests) (6 ∷ []) refl (widen 1 4 1 5 (omega arith) (omega arith) u))

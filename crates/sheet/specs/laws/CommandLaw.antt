@@ -7,16 +7,16 @@ use Prim.Native.Nat.{ℕ, _<_}
 use native.Mathlib.Omega.{arith}
 use lib.ListN.{length, length-append}
 use lib.Dec.{eqb, leb, ltb}
-use borrow.Author.Tests.{ltb-true, lt-ltb, leb-true, leb-false, le-leb, lt-leb, eqb-true, eq-eqb, not-false}
+use borrow.Author.Tests.{ltb-true, lt-ltb, leb-true, leb-false, le-leb, lt-leb, eqb-true, eqb-false, eq-eqb, ne-eqb, not-false}
 use Rattle.sheet.specs.declared.Row.{Row}
 use Rattle.sheet.specs.declared.Size.{Size}
 use Rattle.lists.specs.Lists.{maybe, isNone, last, All, Before}
 use Rattle.sheet.specs.Sheet.{Sheet, pairOf, rowOf, ruleAt, after}
-use Rattle.sheet.specs.Reading.{size, rule, fault, test, press, inOneTo16, sizeInRange, inRange, isOther, lastTest, ruleAfter, refusal}
-use Rattle.sheet.specs.WellFormed.{OneTo16, SizeIn, RowIn, Mutates, TestIn}
+use Rattle.sheet.specs.Reading.{size, rule, fault, start, test, press, inOneTo16, sizeInRange, inRange, isOther, lastTest, ruleAfter, refusal}
+use Rattle.sheet.specs.WellFormed.{OneTo16, SizeIn, RowIn, Mutates, StartIn, TestIn}
 use Rattle.lists.specs.laws.TestLaw.{never, both, and-both}
 use Rattle.sheet.specs.laws.BrokenLaw.{unbroken, unbroken-all}
-use Rattle.sheet.specs.laws.RowLaw.{ascends-last, last-ascends, rule-at, rule-has, after-press}
+use Rattle.sheet.specs.laws.RowLaw.{ascends-last, last-ascends, rises-last, last-rises, rule-at, rule-has, after-press}
 
 one-to-16 : (n : ℕ) → inOneTo16 n ≡ true → OneTo16 n
 one-to-16 n h = let t = both (leb 1 n) (leb n 16) h in record { some = leb-true 1 n (t .0); few = leb-true n 16 (t .1) }
@@ -130,7 +130,26 @@ module _ (sh : Sheet) (r : Row) where
     ),
   )
 
+-- a START that may be added
+pub record StartRight (sh : Sheet) (t : ℕ) : Type 0 where
+  pub inside : StartIn (sh .size) t
+  pub later : (q : ℕ) → last (sh .starts) ≡ some q → q < t
+
 module _ (sh : Sheet) where
+  -- START
+  pub start-right : (t : ℕ) → refusal sh (start t) ≡ 0 → StartRight sh t
+  unfolding refusal
+  start-right t e =
+      let u = unbroken _ (omega arith, (omega arith, (omega arith, tt))) e in
+      let k = eqb-false t 0 (u .1 .1 .0) in
+      record { inside = record { some = omega arith; inside = leb-false _ _ (u .0) }; later = rises-last (sh .starts) t (not-false _ (u .1 .0)) }
+
+  pub right-start : (t : ℕ) → StartRight sh t → refusal sh (start t) ≡ 0
+  unfolding refusal
+  right-start t h =
+      let k = h .inside .some in
+      unbroken-all _ (lt-leb (sh .size .states) t (h .inside .inside), (ap not (last-rises (sh .starts) t (h .later)), (ne-eqb t 0 (λ q. omega arith), tt)))
+
   -- TEST
   pub test-right : refusal sh test ≡ 0 → length (sh .tests) < 256
   unfolding refusal

@@ -12,9 +12,9 @@ use borrow.Author.Tests.{ne-eqb}
 use Rattle.sheet.specs.declared.Row.{Row}
 use Rattle.sheet.specs.declared.Size.{Size}
 use Rattle.sheet.specs.Sheet.{Sheet}
-use Rattle.sheet.specs.Reading.{accepted, size, rule, fault, test, press, Progress, rowAt, sizeAt, addPress, advance, blank, reading}
-use Rattle.sheet.specs.Encode.{sizeBytes, rowBytes, pressBytes, testBytes, machineBytes, body, encode}
-use Rattle.sheet.specs.laws.ReadingLaw.{Moves, by-size, by-rule, by-fault, by-test, by-press, Ends, accepting}
+use Rattle.sheet.specs.Reading.{accepted, size, rule, fault, start, test, press, Progress, rowAt, sizeAt, addPress, advance, blank, reading}
+use Rattle.sheet.specs.Encode.{sizeBytes, rowBytes, operandBytes, pressBytes, testBytes, machineBytes, body, encode}
+use Rattle.sheet.specs.laws.ReadingLaw.{Moves, by-size, by-rule, by-fault, by-start, by-test, by-press, Ends, accepting}
 use Rattle.sheet.specs.laws.PhaseLaw.{Ordered, ordered-blank, ordered-on}
 
 -- n bytes from at + i
@@ -31,26 +31,26 @@ window-is s at i (suc n) h =
 taken : (s : List ℕ) (at n : ℕ) → at + n ≤ length s → take (at + n) s ≡ take at s ++ window s at 0 n
 taken s at n h = take-add at n s ∙ ap (λ (l : List ℕ). take at s ++ l) (rw (add-zero at) at (window-is s at 0 n (omega arith)))
 
--- one row, PRESS or TEST more is its bytes more
+-- one row, operand, TEST or PRESS more is its bytes more
 pub rows-snoc : (b : ℕ) (l : List Row) (r : Row) → rowBytes b (l ++ r ∷ []) ≡ rowBytes b l ++ b ∷ r .source ∷ r .input ∷ r .output ∷ r .target ∷ []
 unfolding rowBytes
 rows-snoc b [] r = refl
 rows-snoc b (q ∷ l) r = rw (rows-snoc b l r)
 
-pub presses-snoc : (xs : List ℕ) (x : ℕ) → pressBytes (xs ++ x ∷ []) ≡ pressBytes xs ++ 5 ∷ x ∷ []
-unfolding pressBytes
-presses-snoc [] x = refl
-presses-snoc (y ∷ xs) x = rw (presses-snoc xs x)
+pub operands-snoc : (b : ℕ) (xs : List ℕ) (x : ℕ) → operandBytes b (xs ++ x ∷ []) ≡ operandBytes b xs ++ b ∷ x ∷ []
+unfolding operandBytes
+operands-snoc b [] x = refl
+operands-snoc b (y ∷ xs) x = rw (operands-snoc b xs x)
 
 pub tests-snoc : (l : List (List ℕ)) → testBytes (l ++ [] ∷ []) ≡ testBytes l ++ 4 ∷ []
-unfolding testBytes pressBytes
+unfolding testBytes operandBytes
 tests-snoc [] = refl
 tests-snoc (xs ∷ l) = rw (tests-snoc l) (ap (λ (t : List ℕ). 4 ∷ t) (sym (append-assoc (pressBytes xs) (testBytes l) (4 ∷ []))))
 
 pub tests-press : (l : List (List ℕ)) (x : ℕ) → 0 < length l → testBytes (addPress l x) ≡ testBytes l ++ 5 ∷ x ∷ []
 unfolding testBytes addPress
 tests-press [] x h = absurd (omega arith)
-tests-press (xs ∷ []) x h = rw (presses-snoc xs x, append-nil (pressBytes xs ++ 5 ∷ x ∷ []), append-nil (pressBytes xs))
+tests-press (xs ∷ []) x h = rw (operands-snoc 5 xs x, append-nil (pressBytes xs ++ 5 ∷ x ∷ []), append-nil (pressBytes xs))
 tests-press (xs ∷ ys ∷ l) x h =
     rw (tests-press (ys ∷ l) x (omega arith)) (ap (λ (t : List ℕ). 4 ∷ t) (sym (append-assoc (pressBytes xs) (testBytes (ys ∷ l)) (5 ∷ x ∷ []))))
 
@@ -58,22 +58,30 @@ no-rows : (b : ℕ) → rowBytes b [] ≡ []
 unfolding rowBytes
 no-rows b = refl
 
+no-starts : operandBytes 7 [] ≡ []
+unfolding operandBytes
+no-starts = refl
+
 no-tests : testBytes [] ≡ []
 unfolding testBytes
 no-tests = refl
 
 module _ (sh : Sheet) where
-  body-size : (z : Size) → sh .rules ≡ [] → sh .faults ≡ [] → sh .tests ≡ [] → body (advance sh (size z)) ≡ sizeBytes z
+  body-size : (z : Size) → sh .rules ≡ [] → sh .faults ≡ [] → sh .starts ≡ [] → sh .tests ≡ [] → body (advance sh (size z)) ≡ sizeBytes z
   unfolding body advance machineBytes
-  body-size z er ef et = rw (er, ef, et, no-rows 2, no-rows 3, no-tests) (simp append-nil)
+  body-size z er ef es et = rw (er, ef, es, et, no-rows 2, no-rows 3, no-starts, no-tests) (simp append-nil)
 
-  body-rule : (r : Row) → sh .faults ≡ [] → sh .tests ≡ [] → body (advance sh (rule r)) ≡ body sh ++ 2 ∷ r .source ∷ r .input ∷ r .output ∷ r .target ∷ []
+  body-rule : (r : Row) → sh .faults ≡ [] → sh .starts ≡ [] → sh .tests ≡ [] → body (advance sh (rule r)) ≡ body sh ++ 2 ∷ r .source ∷ r .input ∷ r .output ∷ r .target ∷ []
   unfolding body advance machineBytes
-  body-rule r ef et = rw (rows-snoc 2 (sh .rules) r, ef, et, no-rows 3, no-tests) (simp (append-nil, append-assoc))
+  body-rule r ef es et = rw (rows-snoc 2 (sh .rules) r, ef, es, et, no-rows 3, no-starts, no-tests) (simp (append-nil, append-assoc))
 
-  body-fault : (r : Row) → sh .tests ≡ [] → body (advance sh (fault r)) ≡ body sh ++ 3 ∷ r .source ∷ r .input ∷ r .output ∷ r .target ∷ []
+  body-fault : (r : Row) → sh .starts ≡ [] → sh .tests ≡ [] → body (advance sh (fault r)) ≡ body sh ++ 3 ∷ r .source ∷ r .input ∷ r .output ∷ r .target ∷ []
   unfolding body advance machineBytes
-  body-fault r et = rw (rows-snoc 3 (sh .faults) r, et, no-tests) (simp (append-nil, append-assoc))
+  body-fault r es et = rw (rows-snoc 3 (sh .faults) r, es, et, no-starts, no-tests) (simp (append-nil, append-assoc))
+
+  body-start : (t : ℕ) → sh .tests ≡ [] → body (advance sh (start t)) ≡ body sh ++ 7 ∷ t ∷ []
+  unfolding body advance machineBytes
+  body-start t et = rw (operands-snoc 7 (sh .starts) t, et, no-tests) (simp (append-nil, append-assoc))
 
   body-test : body (advance sh test) ≡ body sh ++ 4 ∷ []
   unfolding body advance machineBytes
@@ -101,10 +109,13 @@ module _ {s : List ℕ} {p : Progress} {at : ℕ} (h : Wrote s p at) where
   wrote-on (by-size m) =
       let o = h .ordered in
       let unsized : p .phase ≡ 0 = omega arith in
-      taken s at 4 (m .room) ∙ (rw (h .bytes, unsized, add-zero at, m .byte) (sym (body-size (p .sheet) (sizeAt s at) (o .rules (omega arith)) (o .faults (omega arith)) (o .tests (omega arith)))))
+      taken s at 4 (m .room) ∙ (rw (h .bytes, unsized, add-zero at, m .byte) (sym (body-size (p .sheet) (sizeAt s at) (o .rules (omega arith)) (o .faults (omega arith)) (o .starts (omega arith)) (o .tests (omega arith)))))
   wrote-on (by-rule m) =
-      taken s at 5 (m .room) ∙ (rw (begun (m .early), add-zero at, m .byte) (sym (body-rule (p .sheet) (rowAt s at) (h .ordered .faults (m .late)) (h .ordered .tests (omega arith)))))
-  wrote-on (by-fault m) = taken s at 5 (m .room) ∙ (rw (begun (m .early), add-zero at, m .byte) (sym (body-fault (p .sheet) (rowAt s at) (h .ordered .tests (m .late)))))
+      taken s at 5 (m .room) ∙ (rw (begun (m .early), add-zero at, m .byte) (sym (body-rule (p .sheet) (rowAt s at) (h .ordered .faults (m .late)) (h .ordered .starts (omega arith)) (h .ordered .tests (omega arith)))))
+  wrote-on (by-fault m) =
+      taken s at 5 (m .room) ∙ (rw (begun (m .early), add-zero at, m .byte) (sym (body-fault (p .sheet) (rowAt s at) (h .ordered .starts (m .late)) (h .ordered .tests (omega arith)))))
+  wrote-on (by-start m) =
+      taken s at 2 (m .room) ∙ (rw (begun (m .early), add-zero at, m .byte) (sym (body-start (p .sheet) (getD s (at + 1) 0) (h .ordered .tests (m .late)))))
   wrote-on (by-test m) = taken s at 1 (m .room) ∙ (rw (begun (m .early), add-zero at, m .byte) (sym (body-test (p .sheet))))
   wrote-on (by-press m) =
       taken s at 2 (m .room) ∙ (rw (begun (omega arith), add-zero at, m .byte) (sym (body-press (p .sheet) (getD s (at + 1) 0) (h .ordered .begun (m .early)))))

@@ -8,14 +8,18 @@ use lib.Seq.{append-snoc, split-at, take-at, drop-at}
 use borrow.Author.Tests.{lt-leb}
 use Rattle.sheet.specs.Sheet.{Sheet}
 use Rattle.sheet.specs.Reading.{accepted, reading}
-use Rattle.sheet.specs.Encode.{pressBytes, testBytes, machineBytes, body, encode}
+use Rattle.sheet.specs.Encode.{operandBytes, pressBytes, testBytes, machineBytes, body, encode}
 use Rattle.sheet.specs.Part.{spanOf, parting, partOf}
 use Rattle.sheet.specs.laws.EncodedLaw.{encoded}
 
+-- a command with one operand takes two bytes
+pub operands-length : (b : ℕ) (xs : List ℕ) → length (operandBytes b xs) ≡ 2 * length xs
+unfolding operandBytes
+operands-length b [] = omega arith
+operands-length b (x ∷ xs) = let w = operands-length b xs in omega arith
+
 pub presses-length : (xs : List ℕ) → length (pressBytes xs) ≡ 2 * length xs
-unfolding pressBytes
-presses-length [] = omega arith
-presses-length (x ∷ xs) = let w = presses-length xs in omega arith
+presses-length xs = operands-length 5 xs
 
 tests-append : (l m : List (List ℕ)) → testBytes (l ++ m) ≡ testBytes l ++ testBytes m
 unfolding testBytes

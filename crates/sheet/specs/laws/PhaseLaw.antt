@@ -5,13 +5,14 @@ use Prim.Native.Nat.{ℕ, suc, _<_, _≤_}
 use native.Mathlib.Omega.{arith}
 use lib.ListN.{length, length-append}
 use Rattle.sheet.specs.Reading.{Progress, addPress, advance, blank}
-use Rattle.sheet.specs.laws.ReadingLaw.{Moves, by-size, by-rule, by-fault, by-test, by-press}
+use Rattle.sheet.specs.laws.ReadingLaw.{Moves, by-size, by-rule, by-fault, by-start, by-test, by-press}
 
 pub record Ordered (p : Progress) : Type 0 where
   pub rules : p .phase ≤ 1 → p .sheet .rules ≡ []
   pub faults : p .phase ≤ 2 → p .sheet .faults ≡ []
-  pub tests : p .phase ≤ 3 → p .sheet .tests ≡ []
-  pub begun : 4 ≤ p .phase → 0 < length (p .sheet .tests)
+  pub starts : p .phase ≤ 3 → p .sheet .starts ≡ []
+  pub tests : p .phase ≤ 4 → p .sheet .tests ≡ []
+  pub begun : 5 ≤ p .phase → 0 < length (p .sheet .tests)
 
 -- a PRESS adds no test
 pub press-length : (l : List (List ℕ)) (x : ℕ) → length (addPress l x) ≡ length l
@@ -23,17 +24,55 @@ press-length (y ∷ w ∷ l) x = ap suc (press-length (w ∷ l) x)
 -- the blank progress is ordered, and every command keeps the order
 pub ordered-blank : Ordered blank
 unfolding blank
-ordered-blank = record { rules = λ _. refl; faults = λ _. refl; tests = λ _. refl; begun = λ k. absurd (omega arith) }
+ordered-blank = record { rules = λ _. refl; faults = λ _. refl; starts = λ _. refl; tests = λ _. refl; begun = λ k. absurd (omega arith) }
 
 pub ordered-on : {p q : Progress} {s : List ℕ} {at e : ℕ} → Ordered p → Moves p s at q e → Ordered q
 unfolding advance
 ordered-on o (by-size h) =
-    record { rules = λ k. o .rules (omega arith); faults = λ k. o .faults (omega arith); tests = λ k. o .tests (omega arith); begun = λ k. absurd (omega arith) }
+    record {
+      rules = λ k. o .rules (omega arith);
+      faults = λ k. o .faults (omega arith);
+      starts = λ k. o .starts (omega arith);
+      tests = λ k. o .tests (omega arith);
+      begun = λ k. absurd (omega arith);
+    }
 ordered-on o (by-rule h) =
-    record { rules = λ k. absurd (omega arith); faults = λ k. o .faults (omega arith); tests = λ k. o .tests (omega arith); begun = λ k. absurd (omega arith) }
+    record {
+      rules = λ k. absurd (omega arith);
+      faults = λ k. o .faults (omega arith);
+      starts = λ k. o .starts (omega arith);
+      tests = λ k. o .tests (omega arith);
+      begun = λ k. absurd (omega arith);
+    }
 ordered-on o (by-fault h) =
-    record { rules = λ k. absurd (omega arith); faults = λ k. absurd (omega arith); tests = λ k. o .tests (omega arith); begun = λ k. absurd (omega arith) }
+    record {
+      rules = λ k. absurd (omega arith);
+      faults = λ k. absurd (omega arith);
+      starts = λ k. o .starts (omega arith);
+      tests = λ k. o .tests (omega arith);
+      begun = λ k. absurd (omega arith);
+    }
+ordered-on o (by-start h) =
+    record {
+      rules = λ k. absurd (omega arith);
+      faults = λ k. absurd (omega arith);
+      starts = λ k. absurd (omega arith);
+      tests = λ k. o .tests (omega arith);
+      begun = λ k. absurd (omega arith);
+    }
 ordered-on o (by-test h) =
-    record { rules = λ k. absurd (omega arith); faults = λ k. absurd (omega arith); tests = λ k. absurd (omega arith); begun = λ k. simp length-append (omega arith) }
+    record {
+      rules = λ k. absurd (omega arith);
+      faults = λ k. absurd (omega arith);
+      starts = λ k. absurd (omega arith);
+      tests = λ k. absurd (omega arith);
+      begun = λ k. simp length-append (omega arith);
+    }
 ordered-on o (by-press h) =
-    record { rules = λ k. absurd (omega arith); faults = λ k. absurd (omega arith); tests = λ k. absurd (omega arith); begun = λ k. rw press-length (o .begun (h .early)) }
+    record {
+      rules = λ k. absurd (omega arith);
+      faults = λ k. absurd (omega arith);
+      starts = λ k. absurd (omega arith);
+      tests = λ k. absurd (omega arith);
+      begun = λ k. rw press-length (o .begun (h .early));
+    }

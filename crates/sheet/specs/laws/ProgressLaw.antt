@@ -6,10 +6,10 @@ use Prim.Native.Nat.{ℕ, zero, suc, _+_, _<_, _≤_}
 use native.Mathlib.Omega.{arith}
 use lib.ListN.{length}
 use borrow.Author.Tests.{lt-leb, le-leb, le-ltb}
-use Rattle.sheet.specs.Sheet.{Sheet, allReached, openPairs}
+use Rattle.sheet.specs.Sheet.{Sheet, allReached, openSlots}
 use Rattle.sheet.specs.Reading.{accepted, Progress, go, stop, finishing, doing, oneCommand, from, blank, reading}
 use Rattle.sheet.specs.laws.BrokenLaw.{unbroken-all}
-use Rattle.sheet.specs.laws.ReadingLaw.{Moves, by-size, by-rule, by-fault, by-test, by-press, moves-on, Ends, checks}
+use Rattle.sheet.specs.laws.ReadingLaw.{Moves, by-size, by-rule, by-fault, by-start, by-test, by-press, moves-on, Ends, checks}
 
 -- enough fuel is left
 pub record Going (s : List ℕ) (p : Progress) (at : ℕ) : Type 0 where
@@ -32,15 +32,17 @@ module _ {p : Progress} {s : List ℕ} {at : ℕ} where
       rw (lt-leb (length s) at (omega arith), m .byte, le-leb 1 (p .phase) (m .early), le-leb (p .phase) 2 (m .late), le-ltb (length s) (at + 5) (m .room), m .right)
   stepped (by-fault m) =
       rw (lt-leb (length s) at (omega arith), m .byte, le-leb 1 (p .phase) (m .early), le-leb (p .phase) 3 (m .late), le-ltb (length s) (at + 5) (m .room), m .right)
+  stepped (by-start m) =
+      rw (lt-leb (length s) at (omega arith), m .byte, le-leb 1 (p .phase) (m .early), le-leb (p .phase) 4 (m .late), le-ltb (length s) (at + 2) (m .room), m .right)
   stepped (by-test m) =
-      rw (lt-leb (length s) at (omega arith), m .byte, le-leb 1 (p .phase) (m .early), le-leb (p .phase) 4 (m .late), le-ltb (length s) (at + 1) (m .room), m .right)
+      rw (lt-leb (length s) at (omega arith), m .byte, le-leb 1 (p .phase) (m .early), le-leb (p .phase) 5 (m .late), le-ltb (length s) (at + 1) (m .room), m .right)
   stepped (by-press m) =
-      rw (lt-leb (length s) at (omega arith), m .byte, le-leb 4 (p .phase) (m .early), le-leb (p .phase) 4 (m .late), le-ltb (length s) (at + 2) (m .room), m .right)
+      rw (lt-leb (length s) at (omega arith), m .byte, le-leb 5 (p .phase) (m .early), le-leb (p .phase) 5 (m .late), le-ltb (length s) (at + 2) (m .room), m .right)
 
   -- END stops it
   pub stopped : Ends p s at → oneCommand p s at ≡ stop (finishing (p .sheet) s at)
   unfolding oneCommand doing
-  stopped m = rw (lt-leb (length s) at (omega arith), m .byte, le-leb 1 (p .phase) (m .early), le-leb (p .phase) 4 (m .late), le-ltb (length s) (at + 1) (m .room))
+  stopped m = rw (lt-leb (length s) at (omega arith), m .byte, le-leb 1 (p .phase) (m .early), le-leb (p .phase) 5 (m .late), le-ltb (length s) (at + 1) (m .room))
 
   -- with one command more
   pub going-on : {q : Progress} {e : ℕ} → Going s p at → Moves p s at q e → Going s q e
@@ -61,6 +63,6 @@ module _ {p : Progress} {s : List ℕ} {at : ℕ} where
       one (suc f) k r = sym (rw (stopped m) at r)
 
 -- END accepts
-pub finishes : (sh : Sheet) (s : List ℕ) (at : ℕ) → length s ≤ at + 1 → allReached sh ≡ true → openPairs sh ≤ 32 → finishing sh s at ≡ accepted sh
+pub finishes : (sh : Sheet) (s : List ℕ) (at : ℕ) → length s ≤ at + 1 → allReached sh ≡ true → openSlots sh ≤ 32 → finishing sh s at ≡ accepted sh
 unfolding finishing
-finishes sh s at k r o = rw (le-ltb (at + 1) (length s) k, unbroken-all (checks sh) (rw r refl, (le-ltb 32 (openPairs sh) o, tt)))
+finishes sh s at k r o = rw (le-ltb (at + 1) (length s) k, unbroken-all (checks sh) (rw r refl, (le-ltb 32 (openSlots sh) o, tt)))

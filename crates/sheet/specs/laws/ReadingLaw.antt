@@ -7,8 +7,8 @@ use native.Mathlib.Omega.{arith}
 use lib.ListN.{length, getD}
 use lib.Dec.{leb, ltb, eqb}
 use borrow.Author.Tests.{leb-true, leb-false, ltb-true, ltb-false, eqb-true, eqb-false, ne-eqb, not-false}
-use Rattle.sheet.specs.Sheet.{Sheet, allReached, openPairs}
-use Rattle.sheet.specs.Reading.{accepted, refused, Reading, Command, size, rule, fault, test, press, end, Progress, Outcome, go, stop, unsized, sized, ruled, faulted, testing, during, allowed, width, rowAt, sizeAt, firstBroken, refusal, advance, refuseOr, finishing, doing, oneCommand, resume, from, blank, reading}
+use Rattle.sheet.specs.Sheet.{Sheet, allReached, openSlots}
+use Rattle.sheet.specs.Reading.{accepted, refused, Reading, Command, size, rule, fault, start, test, press, end, Progress, Outcome, go, stop, unsized, sized, ruled, faulted, started, testing, during, allowed, width, rowAt, sizeAt, firstBroken, refusal, advance, refuseOr, finishing, doing, oneCommand, resume, from, blank, reading}
 use Rattle.lists.specs.laws.TestLaw.{never, both}
 use Rattle.sheet.specs.laws.BrokenLaw.{broken-most, unbroken}
 
@@ -29,6 +29,7 @@ pub data Moves (p : Progress) (s : List ℕ) (at : ℕ) : Progress → ℕ → T
   by-size : Stands p s at 1 unsized unsized (size (sizeAt s at)) → Moves p s at (next p sized (size (sizeAt s at))) (at + 4)
   by-rule : Stands p s at 2 sized ruled (rule (rowAt s at)) → Moves p s at (next p ruled (rule (rowAt s at))) (at + 5)
   by-fault : Stands p s at 3 sized faulted (fault (rowAt s at)) → Moves p s at (next p faulted (fault (rowAt s at))) (at + 5)
+  by-start : Stands p s at 7 sized started (start (getD s (at + 1) 0)) → Moves p s at (next p started (start (getD s (at + 1) 0))) (at + 2)
   by-test : Stands p s at 4 sized testing test → Moves p s at (next p testing test) (at + 1)
   by-press : Stands p s at 5 testing testing (press (getD s (at + 1) 0)) → Moves p s at (next p testing (press (getD s (at + 1) 0))) (at + 2)
 
@@ -53,6 +54,7 @@ unfolding refusal
 refusal-most sh (size z) = broken-most 12 _ (omega arith, tt)
 refusal-most sh (rule r) = broken-most 12 _ (omega arith, (omega arith, tt))
 refusal-most sh (fault r) = broken-most 12 _ (omega arith, (omega arith, (omega arith, (omega arith, tt))))
+refusal-most sh (start t) = broken-most 12 _ (omega arith, (omega arith, (omega arith, tt)))
 refusal-most sh test = broken-most 12 _ (omega arith, tt)
 refusal-most sh (press x) = broken-most 12 _ (omega arith, (omega arith, (omega arith, tt)))
 refusal-most sh end = omega arith
@@ -69,6 +71,7 @@ data Known : ℕ → Type 0 where
   k4 : Known 4
   k5 : Known 5
   k6 : Known 6
+  k7 : Known 7
 
 known : (phase b : ℕ) → allowed phase b ≡ true → Known b
 known phase zero h = never (cc)
@@ -78,8 +81,9 @@ known phase (suc (suc (suc zero))) h = k3
 known phase (suc (suc (suc (suc zero)))) h = k4
 known phase (suc (suc (suc (suc (suc zero))))) h = k5
 known phase (suc (suc (suc (suc (suc (suc zero)))))) h = k6
-known phase (suc (suc (suc (suc (suc (suc (suc b))))))) h =
-    let b' : ℕ = suc (suc (suc (suc (suc (suc (suc b)))))) in
+known phase (suc (suc (suc (suc (suc (suc (suc zero))))))) h = k7
+known phase (suc (suc (suc (suc (suc (suc (suc (suc b)))))))) h =
+    let b' : ℕ = suc (suc (suc (suc (suc (suc (suc (suc b))))))) in
     let no-byte : allowed phase b' ≡ false = simp (
       ne-eqb b' 1 (λ q. omega arith),
       ne-eqb b' 2 (λ q. omega arith),
@@ -87,6 +91,7 @@ known phase (suc (suc (suc (suc (suc (suc (suc b))))))) h =
       ne-eqb b' 4 (λ q. omega arith),
       ne-eqb b' 5 (λ q. omega arith),
       ne-eqb b' 6 (λ q. omega arith),
+      ne-eqb b' 7 (λ q. omega arith),
     ) in
     never (cc)
 
@@ -112,6 +117,7 @@ module _ (p : Progress) (s : List ℕ) (at : ℕ) where
   done b k4 e a k = judged _ _ test (omega arith) (λ r. by-test (stands 4 _ _ _ e a k r)) _ refl
   done b k5 e a k = judged _ _ (press (getD s (at + 1) 0)) (omega arith) (λ r. by-press (stands 5 _ _ _ e a k r)) _ refl
   done b k6 e a k = ends (stands 6 _ _ end e a k (refusal-end (p .sheet)))
+  done b k7 e a k = judged _ _ (start (getD s (at + 1) 0)) (omega arith) (λ r. by-start (stands 7 _ _ _ e a k r)) _ refl
 
   -- every outcome of one command is one of these
   pub case : Case p s at (oneCommand p s at)
@@ -140,6 +146,7 @@ pub moves-on : {p q : Progress} {s : List ℕ} {at e : ℕ} → Moves p s at q e
 moves-on (by-size h) = let k = h .room in (omega arith, omega arith)
 moves-on (by-rule h) = let k = h .room in (omega arith, omega arith)
 moves-on (by-fault h) = let k = h .room in (omega arith, omega arith)
+moves-on (by-start h) = let k = h .room in (omega arith, omega arith)
 moves-on (by-test h) = let k = h .room in (omega arith, omega arith)
 moves-on (by-press h) = let k = h .room in (omega arith, omega arith)
 
@@ -151,7 +158,7 @@ pub record Accepting (Inv : Progress → ℕ → Type 0) (s : List ℕ) (sh : Sh
   pub ending : Ends (record { phase = phase; sheet = sh }) s at
   pub whole : length s ≤ at + 1
   pub reached : allReached sh ≡ true
-  pub few-open : openPairs sh ≤ 32
+  pub few-open : openSlots sh ≤ 32
 
 -- all ways in which a reading ends
 pub data Ending (Inv : Progress → ℕ → Type 0) (s : List ℕ) : Reading → Type 0 where
@@ -160,7 +167,7 @@ pub data Ending (Inv : Progress → ℕ → Type 0) (s : List ℕ) : Reading →
 
 -- the tests at END, with their numbers
 abbrev pub checks : Sheet → List (Bool × ℕ)
-checks sh = (not (allReached sh), 11) ∷ (ltb 32 (openPairs sh), 12) ∷ []
+checks sh = (not (allReached sh), 11) ∷ (ltb 32 (openSlots sh), 12) ∷ []
 
 module _ (Inv : Progress → ℕ → Type 0) (s : List ℕ) where
   finish : (p : Progress) (at : ℕ) → Inv p at → Ends p s at → Ending Inv s (finishing (p .sheet) s at)

@@ -4,7 +4,7 @@ use mathlib.Core.Bool.{Bool, true, false, _&&_, cond}
 use mathlib.Core.Logic.{inl, inr, ⊎-elim}
 use mathlib.Core.Option.{Option, none, some}
 use mathlib.Core.List.{List, [], _∷_, _++_}
-use Prim.Native.Nat.{ℕ, _≤_}
+use Prim.Native.Nat.{ℕ, _<_, _≤_}
 use native.Mathlib.Omega.{arith}
 use lib.ListN.{length}
 use lib.Dec.{eqb, ltb}
@@ -12,7 +12,7 @@ use borrow.Author.Tests.{ltb-true, lt-ltb, eqb-true, eq-eqb}
 use Rattle.sheet.specs.declared.Row.{Row}
 use Rattle.lists.specs.Lists.{maybe, first, last, All, Ascending, Before, precedes}
 use Rattle.sheet.specs.Sheet.{Sheet, pairOf, isAt, rowsAt, ruleAt, after}
-use Rattle.sheet.specs.Reading.{ascends, ruleAfter}
+use Rattle.sheet.specs.Reading.{ascends, rises, ruleAfter}
 use Rattle.sheet.specs.WellFormed.{WellFormed}
 use Rattle.lists.specs.laws.TestLaw.{never, both, either, or-left, or-right, and-both}
 use Rattle.lists.specs.laws.AllLaw.{all-snoc, all-at}
@@ -88,6 +88,20 @@ module _ (key : Row → List ℕ) (rows : List Row) (r : Row) where
       one : (o : Option Row) → ((q : Row) → o ≡ some q → Before (key q) (key r)) → maybe o true (λ q. precedes (key q) (key r)) ≡ true
       one none k = refl
       one (some q) k = before-precedes (key q) (key r) (k q refl)
+
+module _ (starts : List ℕ) (t : ℕ) where
+  -- and so does a START's state
+  pub rises-last : rises starts t ≡ true → (q : ℕ) → last starts ≡ some q → q < t
+  unfolding rises
+  rises-last h q e = ltb-true q t (rw e at h)
+
+  pub last-rises : ((q : ℕ) → last starts ≡ some q → q < t) → rises starts t ≡ true
+  unfolding rises
+  last-rises h = one (last starts) h
+    where
+      one : (o : Option ℕ) → ((q : ℕ) → o ≡ some q → q < t) → maybe o true (λ q. ltb q t) ≡ true
+      one none k = refl
+      one (some q) k = lt-ltb q t (k q refl)
 
 first-has : {A : Type 0} (P : A → Type 0) (l : List A) (a : A) → All P l → first l ≡ some a → P a
 first-has P [] a h e = never (cc)

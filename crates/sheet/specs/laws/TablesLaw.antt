@@ -3,7 +3,7 @@ use Prim.Native.Nat.{ℕ, zero, suc, _+_, _<_, _≤_}
 use mathlib.Core.Path.{_≡_, refl, ap, sym, _∙_}
 use mathlib.Core.Bool.{Bool, true, false, _&&_, cond}
 use mathlib.Core.Logic.{_⊎_, inl, inr}
-use mathlib.Core.List.{List, [], _∷_}
+use mathlib.Core.List.{List, [], _∷_, map}
 use native.Mathlib.Omega.{arith}
 use lib.Dec.{eqb}
 use lib.ListN.{length, getD, length-map}
@@ -16,11 +16,19 @@ use Rattle.sheet.specs.Tables.{table, firstAt, firstFault, noRow}
 use Rattle.lists.specs.laws.ListLaw.{getD-map-below, length-upTo, getD-upTo}
 use Rattle.lists.specs.laws.TestLaw.{both, never}
 
+-- f of each number below n
+module _ (n : ℕ) (f : ℕ → ℕ) where
+  pub below-length : length (map f (upTo n)) ≡ n
+  below-length = length-map (upTo n) f ∙ length-upTo n
+
+  pub below-at : (i : ℕ) → i < n → getD (map f (upTo n)) i 0 ≡ f i
+  below-at i h = getD-map-below f (upTo n) i 0 0 (omega (arith, length-upTo n)) ∙ ap f (getD-upTo n i 0 h)
+
 pub table-length : (f : ℕ → ℕ) → length (table f) ≡ 256
-table-length f = length-map (upTo 256) f ∙ length-upTo 256
+table-length f = below-length 256 f
 
 pub table-at : (f : ℕ → ℕ) (i : ℕ) → i < 256 → getD (table f) i 0 ≡ f i
-table-at f i h = getD-map-below f (upTo 256) i 0 0 (omega (arith, length-upTo 256)) ∙ ap f (getD-upTo 256 i 0 h)
+table-at f i h = below-at 256 f i h
 
 pub rows-few : (l : List Row) (s x : ℕ) → length (rowsAt l s x) ≤ length l
 unfolding rowsAt

@@ -21,7 +21,7 @@ use Rattle.sheet.specs.declared.scan.Verdict.the-variants as verdict
 use Rattle.sheet.specs.declared.scan.Step.{Step}
 use Rattle.sheet.specs.declared.scan.Done.{Done}
 use Rattle.lists.specs.Lists.{maybe, last, All, any}
-use Rattle.sheet.specs.Sheet.{Sheet, rowsAt, ruleAt, after, leads, openPairs}
+use Rattle.sheet.specs.Sheet.{Sheet, rowsAt, ruleAt, after, leads, openSlots}
 use Rattle.sheet.specs.laws.PhaseLaw.{Ordered}
 use Rattle.sheet.specs.Reading.{Reading, accepted, refused, Command, rule, fault, press, Progress, Outcome, go, stop, phaseAfter, lastTest, addPress, refusal, advance}
 
@@ -48,8 +48,8 @@ pairKey r = placeOf (r .source) (r .input)
 abbrev pub rowKey : Row → ℕ
 rowKey r = pairKey r * 256 + (r .output * 16 + r .target)
 
--- one more than the key of the last row, 0 before the first
-abbrev pub nextKey : (Row → ℕ) → Option Row → ℕ
+-- one more than the key of the last one, 0 before the first
+abbrev pub nextKey : {A : Type 0} → (A → ℕ) → Option A → ℕ
 nextKey key none = 0
 nextKey key (some r) = suc (key r)
 
@@ -91,6 +91,11 @@ pub record FaultsHold (t : Faults) (ms : List ℕ) (l : List Row) : Type 0 where
   pub digits : All Digits l
   pub marks : ByPair ms (λ s x. present (rowsAt l s x))
 
+-- the STARTs' states ascend by themselves
+pub record StartsHold (t : ℕ) (l : List ℕ) : Type 0 where
+  pub key : t ≡ nextKey (λ s. s) (last l)
+  pub most : t ≤ 16
+
 pub record TestsHold (t : Tests) (rules : List Row) (l : List (List ℕ)) : Type 0 where
   pub count : t .count ≡ length l
   pub most : t .count ≤ 256
@@ -119,6 +124,7 @@ pub record Holds (c : State) (os ts ms : List ℕ) (p : Progress) : Type 0 where
   pub bounds : Within16 (c .size)
   pub rules : RulesHold (c .rules) os ts (p .sheet .rules)
   pub faults : FaultsHold (c .faults) ms (p .sheet .faults)
+  pub starts : StartsHold (c .starts) (p .sheet .starts)
   pub tests : TestsHold (c .tests) (p .sheet .rules) (p .sheet .tests)
   pub ordered : Ordered p
 
@@ -149,7 +155,7 @@ pub record Linked (z : Size) (ts ms : List ℕ) (sh : Sheet) : Type 0 where
 
 -- how a reading ends, for the code
 abbrev pub endOf : Reading → End
-endOf (accepted sh) = ending.Accepted (openPairs sh)
+endOf (accepted sh) = ending.Accepted (openSlots sh)
 endOf (refused number place) = ending.Refused number place
 
 -- the state and the tables are those of a sheet

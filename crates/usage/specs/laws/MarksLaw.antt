@@ -18,7 +18,7 @@ use Rattle.model.specs.Suite.{Place, triedOf}
 use Rattle.lists.specs.laws.AllLaw.{all-imp, all-append, all-getD}
 use Rattle.model.specs.laws.StaysLaw.{rule-in, start-below}
 use Rattle.model.specs.laws.SuiteLaw.{specified-uncons, Specified, test-specified}
-use Rattle.model.specs.laws.SuspectLaw.{slot-count, site-is}
+use Rattle.model.specs.laws.SuspectLaw.{slot-count, site-is, waking-slot}
 use Rattle.block.specs.Layout.{pair}
 use Rattle.block.specs.Tabled.{Tabled}
 use Rattle.logs.specs.laws.WalkedLaw.{Tabulates}
@@ -57,8 +57,12 @@ module _ (sh : Sheet) (wf : WellFormed sh) where
 
 module _ {sh : Sheet} {m : List ℕ} (tb : Tabled sh m) where
   start-slot : startSlotOf m ≡ startSlot sh
-  unfolding startSlotOf startSlot
-  start-slot = refl
+  unfolding slotAt
+  start-slot = rw (tb .waking-site) (go (startSlot sh) refl)
+    where
+      go : (o : Option ℕ) → startSlot sh ≡ o → cond (ltb (maybe o 255 (λ i. i)) 32) (some (maybe o 255 (λ i. i))) none ≡ o
+      go none e = refl
+      go (some i) e = rw (lt-ltb i 32 (omega (arith, waking-slot sh i e .0))) refl
 
   slot-same : (s x : ℕ) → s < 16 → x < 16 → slotAt m (pair s x) ≡ siteOf sh s x
   unfolding slotAt

@@ -1,3 +1,4 @@
+use borrow.Author.Tests.{not-false}
 use Rattle.lists.specs.laws.TestLaw.{never}
 use Rattle.walks.proofs.StandLaw.{stands-start}
 use Rattle.walks.proofs.SplitLaw.{none-extends}
@@ -11,7 +12,8 @@ none-from-spec =
     (tie.spec
     (λ c κs. search needs) (λ c. search needs)
     (λ c e. never (cc))
-    (λ c κs. search needs)
-    (λ c κs. let s = c .before .before .before .before .before .before .before .before in (s .pre, stands-start (s .pre) (c .before .before .initial .ensures)))
+    (λ c κs. search needs) (λ c. search needs)
+    (λ c e. never (cc))
+    (λ c κs. let at-begins = c .before .before .before in let s = at-begins .before .before .before .before .before .before in (s .pre, stands-start (s .pre) (at-begins .begins .ensures (not-false _ (c .before .before .if2 .left)))))
     (λ c. search needs)
     (λ c e. none-extends (c .before .before .refute .ensures e)))

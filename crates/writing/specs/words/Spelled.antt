@@ -11,6 +11,6 @@ pub record Spelled (old new : List ℕ) (at to : ℕ) (bytes : List ℕ) : Type 
   pub front : take to new ≡ take at old ++ bytes
   pub back : drop to new ≡ drop to old
 
--- how long the sheet of tables is that have so many bytes of rules and of faults, so many tests and inputs
-abbrev pub lengthOf : ℕ → ℕ → ℕ → ℕ → ℕ
-lengthOf rules faults tests inputs = 5 + 5 * (rules / 4) + 5 * (faults / 4) + tests + 2 * inputs
+-- how long the sheet of tables is that have so many bytes of rules and of faults, so many STARTs, tests and inputs
+abbrev pub lengthOf : ℕ → ℕ → ℕ → ℕ → ℕ → ℕ
+lengthOf rules faults starts tests inputs = 5 + 5 * (rules / 4) + 5 * (faults / 4) + 2 * starts + tests + 2 * inputs

@@ -8,7 +8,7 @@ use Rattle.block.proofs.packing.copy.Statement.{statement}
 use Rattle.block.proofs.packing.copy.Tie as tie
 
 abbrev Inv-loop : tie.InvT-loop
-Inv-loop tables₀ base from k₀ block k = Copied tables₀ block base from k × (base ≤ 1280)
+Inv-loop tables₀ base from k₀ block k = Copied tables₀ block base from k × (base ≤ 1315)
 
 abbrev μ-loop : tie.MeasureT-loop
 μ-loop tables₀ base from k₀ block k = 256 - k

@@ -17,7 +17,7 @@ copy-choices-spec =
     tie.close
     (tie.spec
     Inv-loop μ-loop
-    (λ c. fill-none 1536 32 _ (c .pre))
+    (λ c. fill-none 1280 32 _ (c .pre))
     (λ c. search needs) (λ c. search needs) (λ c κs. search needs) (λ c. search needs) (λ c. search needs) (λ c. search needs)
     (λ c. search needs)
     (λ c. fill-more _ (omega arith) (c .before .before .before .loop .inv) (c .before .before .loop-test .taken) (c .last .ensures))

@@ -8,13 +8,14 @@ use Rattle.block.proofs.packing.tabulate.Statement.{statement}
 use Rattle.block.proofs.packing.tabulate.Tie as tie
 
 -- after the copies: where the suspects were numbered
-numbered : tie.After-copy-choices → tie.After-number
+numbered : tie.After-copy-wakings → tie.After-number
 numbered c =
     let at-copy5 = c .before .before .before .before in
-    let at-copy4 = at-copy5 .before .before .before .before in
-    let at-copy-first = at-copy4 .before .before .before .before in
-    let at-copy3 = at-copy-first .before .before .before .before in
-    let at-copy2 = at-copy3 .before .before .before .before in
+    let at-copy-choices = at-copy5 .before .before .before .before in
+    let at-copy4 = at-copy-choices .before .before .before .before in
+    let at-copy3 = at-copy4 .before .before .before .before in
+    let at-copy-first = at-copy3 .before .before .before .before in
+    let at-copy2 = at-copy-first .before .before .before .before in
     let at-copy = at-copy2 .before .before .before .before in
     at-copy .before .before .before .before
 
@@ -26,16 +27,18 @@ few-states c =
 
 returns : tie.Need-returns
 returns c =
-    let at-copy-choices = c .before .before .before .before .before in
-    let at-copy5 = at-copy-choices .before .before .before .before in
-    let at-copy4 = at-copy5 .before .before .before .before in
-    let at-copy-first = at-copy4 .before .before .before .before in
-    let at-copy3 = at-copy-first .before .before .before .before in
-    let at-copy2 = at-copy3 .before .before .before .before in
+    let at-locate = c .before in
+    let at-copy-wakings = at-locate .before .before .before .before .before in
+    let at-copy5 = at-copy-wakings .before .before .before .before in
+    let at-copy-choices = at-copy5 .before .before .before .before in
+    let at-copy4 = at-copy-choices .before .before .before .before in
+    let at-copy3 = at-copy4 .before .before .before .before in
+    let at-copy-first = at-copy3 .before .before .before .before in
+    let at-copy2 = at-copy-first .before .before .before .before in
     let at-copy = at-copy2 .before .before .before .before in
     let at-number = at-copy .before .before .before .before in
     let at-wide2 = at-number .before in
-    (simp length-set (c .locate .ensures .long), λ sh rd. tabled rd _ _ (at-wide2 .before .wide .ensures .0) (at-wide2 .wide2 .ensures .0) (at-number .number .result) (at-number .number .ensures) (at-copy .copy .ensures) (at-copy2 .copy2 .ensures) (at-copy3 .copy3 .ensures) (at-copy-first .copy-first .ensures) (at-copy4 .copy4 .ensures) (at-copy5 .copy5 .ensures) (at-copy-choices .copy-choices .ensures) (c .locate .ensures))
+    (simp length-set (at-locate .locate .ensures .long), λ sh rd. tabled rd _ _ (at-wide2 .before .wide .ensures .0) (at-wide2 .wide2 .ensures .0) (at-number .number .result) (at-number .number .ensures) _ (c .waking-site .ensures) (at-copy .copy .ensures) (at-copy2 .copy2 .ensures) (at-copy-first .copy-first .ensures) (at-copy3 .copy3 .ensures) (at-copy4 .copy4 .ensures) (at-copy-choices .copy-choices .ensures) (at-copy5 .copy5 .ensures) (at-copy-wakings .copy-wakings .ensures) (at-locate .locate .ensures))
 
 pub tabulate-spec : {M : Type 1} → statement M
 tabulate-spec =
@@ -44,7 +47,7 @@ tabulate-spec =
     (λ c κs. search needs) (λ c κs. search needs)
     (λ c κs. few (c .before .before .before .before .pre .1 .1) _ _ (c .before .wide .ensures .0) (c .wide2 .ensures .0))
     (λ c κs. search needs) (λ c κs. search needs) (λ c κs. search needs) (λ c κs. search needs) (λ c κs. search needs)
-    (λ c κs. search needs) (λ c κs. search needs) (λ c κs. search needs)
+    (λ c κs. search needs) (λ c κs. search needs) (λ c κs. search needs) (λ c κs. search needs)
     (λ c. omega (arith, few-states c))
-    (λ c κs. (c .before .before .before .before .copy-choices .ensures .long, omega (arith, few-states c)))
-    (λ c. search needs) (λ c. search needs) (λ c. search needs) returns)
+    (λ c κs. (c .before .before .before .before .copy-wakings .ensures .long, omega (arith, few-states c)))
+    (λ c. search needs) (λ c. search needs) (λ c. search needs) (λ c κs. search needs) (λ c. search needs) (λ c. search needs) returns)

@@ -3,45 +3,46 @@ use Prim.Native.Nat.{_*_, _-_, _<_}
 use mathlib.Core.Path.{sym, _∙_}
 use mathlib.Core.Logic.{⊎-elim}
 use native.Mathlib.Omega.{arith}
+use Rattle.block.specs.Sites.{wakingFirst}
 use Rattle.block.proofs.SitesLaw.{Numbering, number-start, number-open, number-shut, number-end, few-before, room}
 use Rattle.block.proofs.sites.number.Statement.{statement}
 use Rattle.block.proofs.sites.number.Tie as tie
 
 abbrev Inv-loop : tie.InvT-loop
-Inv-loop choices n k site₀ slots₀ count₀ i₀ site slots count i = Numbering n k choices site slots count i
+Inv-loop choices n k waking site₀ slots₀ count₀ i₀ site slots count i = Numbering (wakingFirst waking) n k choices site slots count i
 
 abbrev μ-loop : tie.MeasureT-loop
-μ-loop choices n k site₀ slots₀ count₀ i₀ site slots count i = 16 * n - i
+μ-loop choices n k waking site₀ slots₀ count₀ i₀ site slots count i = 16 * n - i
 
 -- at a suspect there is room for one more
 space : (c : tie.Then1 Inv-loop μ-loop) → c .before .before .before .loop .count < 32
 space c =
     let at-loop = c .before .before .before in
-    let entry = at-loop .before .before .before in
+    let entry = at-loop .before .before .before .before in
     let a = entry .args in
     let p = entry .pre in
     let l = at-loop .loop in
-    omega (arith, l .inv .counts, room (a .n) (a .k) (a .choices .now) (l .i) (omega arith) (p .1) (sym (c .before .is-open .ensures (a .n) (omega arith)) ∙ c .if1 .taken))
+    omega (arith, l .inv .counts, room (wakingFirst (a .waking)) (a .n) (a .k) (a .choices .now) (l .i) (omega arith) (p .1) (sym (c .before .is-open .ensures (a .n) (omega arith)) ∙ c .if1 .taken))
 
 loop-again : tie.Need-loop-again Inv-loop μ-loop
 loop-again c =
     let at-loop = c .before .before .before in
-    let entry = at-loop .before .before .before in
+    let entry = at-loop .before .before .before .before in
     let a = entry .args in
     let p = entry .pre in
     let l = at-loop .loop in
     let e = sym (c .before .is-open .ensures (a .n) (omega arith)) in
     ⊎-elim
-    (λ w. rw (w .2, w .3, w .4) (number-open (a .n) (a .k) (a .choices .now) (l .site) (l .slots) (l .count) (l .i) (l .inv) (omega arith) (p .1) (e ∙ w .0 .taken)))
-    (λ w. rw (w .1, w .2, w .3) (number-shut (a .n) (a .k) (a .choices .now) (l .site) (l .slots) (l .count) (l .i) (l .inv) (omega arith) (e ∙ w .0 .left)))
+    (λ w. rw (w .2, w .3, w .4) (number-open (wakingFirst (a .waking)) (a .n) (a .k) (a .choices .now) (l .site) (l .slots) (l .count) (l .i) (l .inv) (omega arith) (p .1) (e ∙ w .0 .taken)))
+    (λ w. rw (w .1, w .2, w .3) (number-shut (wakingFirst (a .waking)) (a .n) (a .k) (a .choices .now) (l .site) (l .slots) (l .count) (l .i) (l .inv) (omega arith) (e ∙ w .0 .left)))
     (c .if1 .came)
 
-cast-t23 : tie.Need-cast-t23 Inv-loop μ-loop
-cast-t23 c =
-    let entry = c .before .before .before .before in
+cast-t25 : tie.Need-cast-t25 Inv-loop μ-loop
+cast-t25 c =
+    let entry = c .before .before .before .before .before in
     let a = entry .args in
     let l = c .before .loop in
-    omega (arith, l .inv .counts, few-before (a .n) (a .k) (a .choices .now) (l .i) (l .inv .most) (entry .pre .1))
+    omega (arith, l .inv .counts, few-before (wakingFirst (a .waking)) (a .n) (a .k) (a .choices .now) (l .i) (l .inv .most) (entry .pre .1))
 
 pub number-spec : {M : Type 1} → statement M
 number-spec =
@@ -50,7 +51,12 @@ number-spec =
     Inv-loop μ-loop
     (λ c κs. tt)
     (λ c κs. tt)
-    (λ c. let a = c .before .before .args in number-start (a .n) (a .k) (a .choices .now) (c .before .no-sites .result) (c .no-slots .result) (c .before .no-sites .ensures) (c .no-slots .ensures))
+    (λ c.
+    let at-no-sites = c .before in
+    let at-waking-slot = at-no-sites .before in
+    let a = at-waking-slot .before .args in
+    let first = at-waking-slot .waking-slot in
+    number-start (wakingFirst (a .waking)) (a .n) (a .k) (a .choices .now) (at-no-sites .no-sites .result) (first .result .sizes) (first .result .count) (at-no-sites .no-sites .ensures) (first .ensures .0) (first .ensures .1))
     (λ c. omega arith)
     (λ c κs. omega arith)
     (λ c. omega (arith, space c))
@@ -62,5 +68,5 @@ number-spec =
     (λ c. omega (arith, space (c .before)))
     (λ c. omega arith)
     (λ c. omega arith)
-    loop-again cast-t23
-    (λ c. let a = c .before .before .before .before .args in let l = c .before .loop in number-end (a .n) (a .k) (a .choices .now) (l .site) (l .slots) (l .count) (l .i) (l .inv) (c .loop-test .left)))
+    loop-again cast-t25
+    (λ c. let a = c .before .before .before .before .before .args in let l = c .before .loop in number-end (wakingFirst (a .waking)) (a .n) (a .k) (a .choices .now) (l .site) (l .slots) (l .count) (l .i) (l .inv) (c .loop-test .left)))

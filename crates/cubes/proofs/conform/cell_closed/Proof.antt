@@ -23,7 +23,7 @@ element-copy-out-l c =
     let at-place2 = c .before .before .before in
     let earlier = at-place2 .before .before .before .before .before in
     let at-entry = earlier .before .before in
-    omega (arith, c .wide2 .ensures, c .before .before .site .ensures, at-entry .pre .0 .wf .sites (at-place2 .place2 .result) (at-place2 .place2 .ensures .1) (rw (c .before .before .site .ensures) at (c .before .if2 .left)))
+    omega (arith, c .wide2 .ensures, c .before .before .site .ensures, at-entry .pre .0 .wf .sites (at-place2 .place2 .result) (omega (arith, at-place2 .place2 .ensures .1)) (rw (c .before .before .site .ensures) at (c .before .if2 .left)))
 
 freed-requires : tie.Need-freed-requires
 freed-requires c κs =
@@ -31,7 +31,7 @@ freed-requires c κs =
     let at-place2 = at-site .before in
     let earlier = at-place2 .before .before .before .before .before in
     let at-entry = earlier .before .before in
-    omega (arith, c .before .wide2 .ensures, at-site .site .ensures, at-entry .pre .0 .wf .sites (at-place2 .place2 .result) (at-place2 .place2 .ensures .1) (rw (at-site .site .ensures) at (c .before .before .if2 .left)))
+    omega (arith, c .before .wide2 .ensures, at-site .site .ensures, at-entry .pre .0 .wf .sites (at-place2 .place2 .result) (omega (arith, at-place2 .place2 .ensures .1)) (rw (at-site .site .ensures) at (c .before .before .if2 .left)))
 
 returns-3 : tie.Need-returns-3
 returns-3 c =

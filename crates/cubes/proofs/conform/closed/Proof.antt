@@ -26,7 +26,7 @@ returns-3 c =
     let at-within = at-if1 .before in
     let at-starts = at-within .before .before in
     let at-entry = at-starts .before in
-    λ e. all-conform (at-entry .pre .wf) (c .before .loop .inv) (rw (c .before .before .states .ensures) at (c .loop-test .left)) (at-starts .starts .ensures) (at-within .within .ensures (not-false _ (at-if1 .if1 .left)))
+    λ e. all-conform (at-entry .pre .wf) (c .before .loop .inv) (rw (c .before .before .states .ensures) at (c .loop-test .left)) (at-starts .starts .ensures (at-entry .pre)) (at-within .within .ensures (not-false _ (at-if1 .if1 .left)))
 
 pub closed-spec : {M : Type 1} → statement M
 closed-spec =

@@ -53,7 +53,7 @@ fails-spec =
     (λ c. search needs) (λ c. search needs)
     (λ c. λ e. never (cc))
     (λ c. search needs) (λ c κs. search needs)
-    (λ c. walk-start (c .before .before .before .before .before .pre .wf) (omega (arith, c .before .before .before .if1 .left)) (c .before .if2 .left) (c .starts .ensures))
+    (λ c. walk-start (c .before .before .before .before .before .pre .wf) (omega (arith, c .before .before .before .if1 .left)) (c .before .if2 .left) (c .starts .ensures (c .before .before .before .before .before .pre)))
     (λ c. search needs) (λ c. search needs)
     (λ c. λ e. never (cc))
     (λ c κs. search needs) (λ c κs. search needs)

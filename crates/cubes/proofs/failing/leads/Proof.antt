@@ -16,14 +16,14 @@ element-copy-out-l : tie.Need-element-copy-out-l
 element-copy-out-l c =
     let at-place = c .before .before .before in
     let at-entry = at-place .before .before .before in
-    omega (arith, c .wide .ensures, c .before .before .site .ensures, at-entry .pre .0 .wf .sites (at-place .place .result) (at-place .place .ensures .1) (rw (c .before .before .site .ensures) at (c .before .if2 .left)))
+    omega (arith, c .wide .ensures, c .before .before .site .ensures, at-entry .pre .0 .wf .sites (at-place .place .result) (omega (arith, at-place .place .ensures .1)) (rw (c .before .before .site .ensures) at (c .before .if2 .left)))
 
 going-requires : tie.Need-going-requires
 going-requires c κs =
     let at-site = c .before .before .before in
     let at-place = at-site .before in
     let at-entry = at-place .before .before .before in
-    (omega (arith, at-site .site .ensures, at-entry .pre .0 .wf .sites (at-place .place .result) (at-place .place .ensures .1) (rw (at-site .site .ensures) at (c .before .before .if2 .left))), at-entry .pre .3)
+    (omega (arith, at-site .site .ensures, at-entry .pre .0 .wf .sites (at-place .place .result) (omega (arith, at-place .place .ensures .1)) (rw (at-site .site .ensures) at (c .before .before .if2 .left))), at-entry .pre .3)
 
 returns-3 : tie.Need-returns-3
 returns-3 c =

@@ -1,11 +1,23 @@
 use borrow.Author.Needs.{needs}
-use Rattle.cubes.specs.laws.ConformLaw.{starts-zero}
+use Rattle.cubes.specs.laws.StartsLaw.{starts-lone, starts-freed}
 use Rattle.cubes.proofs.starts.starts.Statement.{statement}
 use Rattle.cubes.proofs.starts.starts.Tie as tie
+
+returns : tie.Need-returns
+returns c =
+    let at-transition = c .before .before in
+    let at-site = at-transition .before .before in
+    λ gi. starts-lone (gi .wf) (at-site .site .ensures) (at-transition .before .if1 .taken) (at-transition .transition .ensures) (c .one .ensures)
+
+returns-2 : tie.Need-returns-2
+returns-2 c =
+    let at-wide = c .before .before in
+    let at-site = at-wide .before .before in
+    λ gi. starts-freed gi (at-site .site .ensures) (at-wide .before .if1 .left) (rw (at-wide .wide .ensures .0)) (c .going .ensures)
 
 pub starts-spec : {M : Type 1} → statement M
 starts-spec =
     tie.close
     (tie.spec
-    (λ c κs. search needs)
-    (λ c. starts-zero (c .one .ensures)))
+    (λ c κs. search needs) (λ c κs. search needs) (λ c κs. search needs) returns (λ c κs. search needs) (λ c. search needs)
+    (λ c. search needs) (λ c κs. search needs) returns-2)

@@ -9,7 +9,7 @@ abbrev Inv-loop : tie.InvT-loop
 Inv-loop block facts₀ k₀ facts k = AllTo block facts k
 
 abbrev μ-loop : tie.MeasureT-loop
-μ-loop block facts₀ k₀ facts k = 256 - k
+μ-loop block facts₀ k₀ facts k = 257 - k
 
 pub enter-all-spec : {M : Type 1} → statement M
 enter-all-spec =

@@ -42,5 +42,6 @@ pub machine-of-spec : {M : Type 1} → statement M
 machine-of-spec =
     tie.close
     (tie.spec
-    (λ c κs. search needs) (λ c κs. search needs) (λ c κs. search needs) (λ c κs. search needs) (λ c κs. search needs)
-    (λ c. search needs) returns (λ c. search needs) lay-requires returns-2)
+    (λ c κs. search needs)
+    (λ c κs. well-formed (c .before .before .before .pre .1))
+    (λ c κs. search needs) (λ c κs. search needs) (λ c κs. search needs) (λ c. search needs) returns (λ c. search needs) lay-requires returns-2)

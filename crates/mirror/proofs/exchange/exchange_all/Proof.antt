@@ -15,8 +15,8 @@ exchange-all-spec =
     tie.close
     (tie.spec
     Inv-loop μ-loop (λ c κs. search needs)
-    (λ c. swaps-none (c .before .pre .1))
-    (λ c κs. (c .before .before .before .pre .0, c .before .before .fixed .ensures, c .loop-test .taken))
+    (λ c. swaps-none (c .before .before .pre .1))
+    (λ c κs. (c .before .before .before .before .pre .0 .wf, c .before .before .fixed .ensures, c .loop-test .taken))
     (λ c κs. search needs) (λ c. search needs) (λ c. search needs) (λ c. search needs) (λ c. search needs) (λ c. search needs)
     (λ c. swaps-more (544 + c .wide .result) (c .before .before .before .loop .inv) (c .before .before .loop-test .taken) (rw (c .wide .ensures .0)) (c .before .partners .ensures))
     (λ c. swaps-all (c .before .loop .inv) (c .loop-test .left)))

@@ -8,4 +8,4 @@ fixed-spec =
     tie.close
     (tie.spec
     (λ c κs. search needs) (λ c κs. search needs) (λ c κs. search needs)
-    (λ c. fixed-all (c .before .before .before .before .pre) (c .before .before .before .one .ensures) (c .before .starts .ensures) (c .union .ensures)))
+    (λ c. fixed-all (c .before .before .before .before .pre .wf) (c .before .before .before .one .ensures) (c .before .starts .ensures (c .before .before .before .before .pre)) (c .union .ensures)))

@@ -23,7 +23,7 @@ silent-spec =
     Inv-loop μ-loop (λ c κs. search needs)
     (λ c. none-below)
     (λ c κs. (c .before .before .before .pre .1, omega (arith, c .loop-test .taken, c .before .before .inputs .ensures, c .before .before .before .pre .0 .few-inputs)))
-    (λ c κs. (c .before .before .before .before .pre .0, c .place .ensures .1))
+    (λ c κs. (c .before .before .before .before .pre .0, omega (arith, c .place .ensures .1)))
     (λ c. λ e. never (cc))
     (λ c. search needs) (λ c. search needs)
     (λ c. more-below (c .before .before .before .before .loop .inv) (rw (c .before .before .place .ensures .0) at (c .before .quiet .ensures (not-false _ (c .if1 .left)))))

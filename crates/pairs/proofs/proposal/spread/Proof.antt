@@ -9,5 +9,4 @@ spread-spec =
     (tie.spec
     (λ block facts safe cube₀ pairs₀ strict done₀ w₀ turns₀ cube pairs done w turns. turns ≤ 5000)
     (λ block facts safe cube₀ pairs₀ strict done₀ w₀ turns₀ cube pairs done w turns. 5000 - turns)
-    (λ c κs. search needs) (λ c. search needs) (λ c κs. search needs) (λ c. search needs) (λ c. search needs)
-    (λ c κs. search needs) (λ c. search needs) (λ c. search needs) (λ c. search needs) (λ c. search needs))
+    (λ c κs. search needs) (λ c κs. search needs) (λ c. search needs) (λ c. search needs) (λ c κs. search needs) (λ c. search needs) (λ c. search needs) (λ c. search needs) (λ c. search needs))

@@ -10,7 +10,7 @@ abbrev Inv-loop : tie.InvT-loop
 Inv-loop block cube prefix k₀ k = PrefixTo block cube prefix k
 
 abbrev μ-loop : tie.MeasureT-loop
-μ-loop block cube prefix k₀ k = 256 - k
+μ-loop block cube prefix k₀ k = 257 - k
 
 pub has-prefix-spec : {M : Type 1} → statement M
 has-prefix-spec =

@@ -36,5 +36,6 @@ pub wanted-spec : {M : Type 1} → statement M
 wanted-spec =
     tie.close
     (tie.spec
-    (λ c κs. search needs) (λ c κs. search needs) lay-requires (λ c κs. search needs) (λ c κs. search needs) (λ c. search needs)
-    meets-requires (λ c. search needs) returns returns-2)
+    (λ c κs. search needs) (λ c κs. search needs) lay-requires
+    (λ c κs. lay-asks (c .before .before .before .before .before .before .pre .1) .0)
+    (λ c κs. search needs) (λ c. search needs) meets-requires (λ c. search needs) returns returns-2)

@@ -2,13 +2,15 @@ use borrow.Author.Tests.{ne-eqb}
 use Rattle.sheet.proofs.fetch.width_of.Statement.{statement}
 use Rattle.sheet.proofs.fetch.width_of.Tie as tie
 
-returns-5 : tie.Need-returns-5
-returns-5 c =
+returns-6 : tie.Need-returns-6
+returns-6 c =
+    let at-if3 = c .before .before in
     simp (
-      ne-eqb _ _ (c .if4 .left),
-      ne-eqb _ _ (c .before .if3 .left),
-      ne-eqb _ _ (c .before .before .if2 .left),
-      ne-eqb _ _ (c .before .before .before .if1 .left),
+      ne-eqb _ _ (c .if5 .left),
+      ne-eqb _ _ (c .before .if4 .left),
+      ne-eqb _ _ (at-if3 .if3 .left),
+      ne-eqb _ _ (at-if3 .before .if2 .left),
+      ne-eqb _ _ (at-if3 .before .before .if1 .left),
     )
 
 pub width-of-spec : {M : Type 1} → statement M
@@ -19,4 +21,5 @@ width-of-spec =
     (λ c. rw (c .if2 .taken))
     (λ c. rw (c .if3 .taken))
     (λ c. rw (c .if4 .taken))
-    returns-5)
+    (λ c. rw (c .if5 .taken))
+    returns-6)

@@ -11,7 +11,7 @@ use Rattle.sheet.proofs.filling.count_choices.Statement.{statement}
 use Rattle.sheet.proofs.filling.count_choices.Tie as tie
 
 abbrev Inv-loop : tie.InvT-loop
-Inv-loop target choices₀ unruled p₀ choices p = (p ≤ 256) × ((z : Size) (sh : Sheet) → unruled ≡ z .outputs * z .states → Countable z target choices₀ sh → Table choices (laws.partly (laws.choicesBy sh) (laws.faultsBy sh) p))
+Inv-loop target choices₀ unruled p₀ choices p = (p ≤ 256) × ((z : Size) (sh : Sheet) → unruled ≡ z .outputs * z .states → Countable z target choices₀ sh → Table 256 choices (laws.partly (laws.choicesBy sh) (laws.faultsBy sh) p))
 
 abbrev μ-loop : tie.MeasureT-loop
 μ-loop target choices₀ unruled p₀ choices p = 256 - p

@@ -1,89 +1,83 @@
 use native.Mathlib.Omega.{arith}
 use denote.Ref.{now}
 use Rattle.sheet.proofs.FillLaw.{faults-none, tests-none}
+use Rattle.sheet.proofs.SpanLaw.{faults-are, tests-are}
 use Rattle.sheet.proofs.LoadLaw as laws
+use borrow.Author.Needs.{needs}
 use Rattle.sheet.proofs.filling.fill.Statement.{statement}
 use Rattle.sheet.proofs.filling.fill.Tie as tie
 
-mul-faults : tie.Need-mul-faults
-mul-faults c =
-    let a = c .before .before .args in
-    let s = now (a .sheet) in
-    let sh = c .before .before .pre .0 in
-    let h = c .before .before .pre .1 in
-    let k = laws.place s (a .summary) _ _ sh h in
-    omega (arith, k .room, k .short)
-
-add-faults : tie.Need-add-faults
-add-faults c =
-    let a = c .before .before .args in
-    let s = now (a .sheet) in
-    let sh = c .before .before .pre .0 in
-    let h = c .before .before .pre .1 in
-    let k = laws.place s (a .summary) _ _ sh h in
-    omega (arith, k .room, k .short)
-
-mul-tests : tie.Need-mul-tests
-mul-tests c =
-    let a = c .before .before .before .args in
-    let s = now (a .sheet) in
-    let sh = c .before .before .before .pre .0 in
-    let h = c .before .before .before .pre .1 in
-    let k = laws.place s (a .summary) _ _ sh h in
-    omega (arith, k .room, k .short)
-
-add-tests : tie.Need-add-tests
-add-tests c =
-    let a = c .before .before .before .args in
-    let s = now (a .sheet) in
-    let sh = c .before .before .before .pre .0 in
-    let h = c .before .before .before .pre .1 in
-    let k = laws.place s (a .summary) _ _ sh h in
-    omega (arith, k .room, k .short)
-
 fill-faults-requires : tie.Need-fill-faults-requires
 fill-faults-requires c κs =
-    let entry = c .before .before .before .before .before .before .before in
-    let a = entry .args in
-    let s = now (a .sheet) in
-    let sh = entry .pre .0 in
-    let h = entry .pre .1 in
-    ((sh .faults, laws.faults-here s (a .summary) _ _ sh h, laws.faults-are s (a .summary) _ _ sh h), faults-none)
+    let at-layout-of = c .before .before .before .before in
+    let (sh, h) = at-layout-of .before .before .pre in
+    let l = at-layout-of .layout-of .ensures sh (h .told) in
+    ((sh .faults, l .faults, faults-are (h .told)), faults-none)
 
 count-choices-requires : tie.Need-count-choices-requires
 count-choices-requires c κs =
-    let entry = c .before .before .before .before .before .before .before .before .before .before in
-    let a = entry .args in
-    let s = now (a .sheet) in
-    let sh = entry .pre .0 in
-    let h = entry .pre .1 in
-    let f = c .before .before .fill-faults .ensures (sh .faults) (laws.faults-here s (a .summary) _ _ sh h) (laws.faults-are s (a .summary) _ _ sh h) in
-    (laws.size-fits s (a .summary) _ _ sh h, (sh, laws.countable s (a .summary) _ _ sh h _ _ _ _ f))
+    let at-fill-faults = c .before .before .before in
+    let at-layout-of = at-fill-faults .before .before .before .before .before in
+    let entry = at-layout-of .before .before in
+    let (sh, h) = entry .pre in
+    let s = now (entry .args .sheet) in
+    let l = at-layout-of .layout-of .ensures sh (h .told) in
+    let f = at-fill-faults .fill-faults .ensures (sh .faults) (l .faults) (faults-are (h .told)) in
+    rw (c .before .before .size-of .ensures)
+    (laws.size-fits s (entry .args .summary) _ _ sh h, (sh, laws.countable s (entry .args .summary) _ _ sh h _ _ _ _ f))
+
+wakings-from-requires : tie.Need-wakings-from-requires
+wakings-from-requires c κs =
+    let at-fill-faults = c .before .before .before .before in
+    let at-layout-of = at-fill-faults .before .before .before .before .before in
+    let (sh, h) = at-layout-of .before .before .pre in
+    let l = at-layout-of .layout-of .ensures sh (h .told) in
+    (sh .starts, l .starts, l .waking)
+
+add-waking : tie.Need-add-waking
+add-waking c =
+    let at-fill-faults = c .before .before .before .before .before .before in
+    let at-layout-of = at-fill-faults .before .before .before .before .before in
+    let (sh, h) = at-layout-of .before .before .pre in
+    let l = at-layout-of .layout-of .ensures sh (h .told) in
+    omega (arith, l .starts .few, l .waking)
+
+cast-waking : tie.Need-cast-waking
+cast-waking c =
+    let at-fill-faults = c .before .before .before .before .before .before in
+    let at-layout-of = at-fill-faults .before .before .before .before .before in
+    let (sh, h) = at-layout-of .before .before .pre in
+    let l = at-layout-of .layout-of .ensures sh (h .told) in
+    omega (arith, l .starts .few, l .waking)
 
 fill-tests-requires : tie.Need-fill-tests-requires
 fill-tests-requires c κs =
-    let entry = c .before .before .before .before .before .before .before .before .before .before .before .before .before in
-    let a = entry .args in
-    let s = now (a .sheet) in
-    let sh = entry .pre .0 in
-    let h = entry .pre .1 in
-    (sh .tests, laws.tests-here s (a .summary) _ _ sh h, laws.tests-are s (a .summary) _ _ sh h, tests-none _ _)
+    let at-count-choices = c .before .before .before .before in
+    let at-fill-faults = at-count-choices .before .before .before .before in
+    let at-layout-of = at-fill-faults .before .before .before .before .before in
+    let (sh, h) = at-layout-of .before .before .pre in
+    let l = at-layout-of .layout-of .ensures sh (h .told) in
+    (sh .tests, l .tests, tests-are (h .told), tests-none _ _)
 
 returns : tie.Need-returns
 returns c =
-    let at-count-choices = c .before .before .before in
-    let at-fill-faults = at-count-choices .before .before .before in
-    let entry = at-fill-faults .before .before .before .before .before .before .before .before in
+    let at-wakings-from = c .before .before .before .before in
+    let at-count-choices = at-wakings-from .before in
+    let at-fill-faults = at-count-choices .before .before .before .before in
+    let at-layout-of = at-fill-faults .before .before .before .before .before in
+    let a = at-layout-of .before .before .args in
     λ sh h.
-    let a = entry .args in
     let s = now (a .sheet) in
-    let f = at-fill-faults .fill-faults .ensures (sh .faults) (laws.faults-here s (a .summary) _ _ sh h) (laws.faults-are s (a .summary) _ _ sh h) in
-    let n = at-count-choices .count-choices .ensures sh (laws.countable s (a .summary) _ _ sh h _ _ _ _ f) in
-    let t = c .fill-tests .ensures (sh .tests) (laws.tests-here s (a .summary) _ _ sh h) (laws.tests-are s (a .summary) _ _ sh h) (tests-none _ _) in
-    laws.filled s (a .summary) _ _ sh h _ _ _ _ _ _ _ f n t
+    let l = at-layout-of .layout-of .ensures sh (h .told) in
+    let f = at-fill-faults .fill-faults .ensures (sh .faults) (l .faults) (faults-are (h .told)) in
+    let n = at-count-choices .count-choices .ensures sh (rw (at-count-choices .before .before .before .size-of .ensures) (laws.countable s (a .summary) _ _ sh h _ _ _ _ f)) in
+    let w = at-wakings-from .wakings-from .ensures (sh .starts) (l .starts) (l .waking) in
+    let t = c .fill-tests .ensures (sh .tests) (l .tests) (tests-are (h .told)) (tests-none _ _) in
+    laws.filled s (a .summary) _ _ sh h _ l _ _ _ _ _ _ _ _ f n w t
 
 pub fill-spec : {M : Type 1} → statement M
 fill-spec =
     tie.close
     (tie.spec
-    mul-faults add-faults mul-tests add-tests fill-faults-requires count-choices-requires fill-tests-requires returns)
+    (λ c κs. let (sh, h) = c .before .pre in (sh, h .told))
+    fill-faults-requires (λ c κs. search needs) count-choices-requires wakings-from-requires add-waking cast-waking fill-tests-requires returns)

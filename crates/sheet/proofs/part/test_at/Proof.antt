@@ -1,3 +1,4 @@
+use mathlib.Core.Path.{refl}
 use native.Mathlib.Omega.{arith}
 use denote.Ref.{now}
 use Rattle.sheet.proofs.PlaceLaw as laws
@@ -10,6 +11,6 @@ test-at-spec =
     tie.close
     (tie.spec
     (λ c κs. search needs)
-    (λ c κs. let a = c .before .before .args in laws.next-in (now (a .sheet)) (a .at) (c .fetch-from .result) (c .fetch-from .ensures) (c .before .before .pre))
-    (λ c. omega (arith, c .presses-from .ensures .within))
-    (λ c. let a = c .before .before .before .args in laws.test-is (now (a .sheet)) (a .at) _ (c .before .fetch-from .result) (c .before .fetch-from .ensures) (c .presses-from .ensures)))
+    (λ c κs. let a = c .before .before .args in (laws.next-in (now (a .sheet)) (a .at) (c .fetch-from .result) (c .fetch-from .ensures) (c .before .before .pre), omega arith, refl))
+    (λ c. omega (arith, c .operands-from .ensures .within))
+    (λ c. let a = c .before .before .before .args in laws.test-is (now (a .sheet)) (a .at) _ (c .before .fetch-from .result) (c .before .fetch-from .ensures) (c .operands-from .ensures)))

@@ -3,15 +3,17 @@ use borrow.Author.Needs.{needs}
 use Rattle.sheet.proofs.rules.may_stand.Statement.{statement}
 use Rattle.sheet.proofs.rules.may_stand.Tie as tie
 
-returns-7 : tie.Need-returns-7
-returns-7 c =
-    let at-if3 = c .before .before .before in
+returns-8 : tie.Need-returns-8
+returns-8 c =
+    let at-if5 = c .before .before in
+    let at-if3 = at-if5 .before .before in
     let at-if2 = at-if3 .before in
     let at-if1 = at-if2 .before in
     simp (
-      ne-eqb _ _ (c .if6 .left),
-      ne-eqb _ _ (c .before .if5 .left),
-      ne-eqb _ _ (c .before .before .if4 .left),
+      ne-eqb _ _ (c .if7 .left),
+      ne-eqb _ _ (c .before .if6 .left),
+      ne-eqb _ _ (at-if5 .if5 .left),
+      ne-eqb _ _ (at-if5 .before .if4 .left),
       ne-eqb _ _ (at-if3 .if3 .left),
       ne-eqb _ _ (at-if2 .if2 .left),
       ne-eqb _ _ (at-if1 .if1 .left),
@@ -33,4 +35,6 @@ may-stand-spec =
     (λ c. rw (c .before .if5 .taken) (c .is-during5 .ensures))
     (λ c κs. search needs)
     (λ c. rw (c .before .if6 .taken) (c .is-during6 .ensures))
-    returns-7)
+    (λ c κs. search needs)
+    (λ c. rw (c .before .if7 .taken) (c .is-during7 .ensures))
+    returns-8)

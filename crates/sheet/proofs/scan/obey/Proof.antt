@@ -26,7 +26,7 @@ apply-requires c κs =
     let entry = c .before .before .before .before .before .before in
     let a = entry .args in
     let b = known (a .state .phase) (a .item .byte) (entry .pre .1) in
-    ((b .0, omega (arith, b .1)), entry .pre .2)
+    ((b .0, b .1, c .before .before .before .if1 .left), entry .pre .2)
 
 returns : tie.Need-returns
 returns c =
@@ -37,7 +37,7 @@ returns c =
     let s = now (a .sheet) in
     let w = fetch.as-whole s (a .at) (a .item) (a .next) (entry .pre .0) in
     let al : allowed (p .phase) (a .item .byte) ≡ true = rw (← h .phase) (entry .pre .1) in
-    rw (fetch.ends p s (a .at) (a .item) _ w al (at-if1 .if1 .taken)) (ap Stop (c .finish .ensures _ (laws.linked h)), laws.finish-held s (a .at) h)
+    rw (fetch.ends p s (a .at) (a .item) _ w al (at-if1 .if1 .taken)) (ap Stop (c .finish .ensures _ (laws.linked h) (h .starts)), laws.finish-held s (a .at) h)
 
 returns-2 : tie.Need-returns-2
 returns-2 c =

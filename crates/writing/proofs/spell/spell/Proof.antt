@@ -16,18 +16,18 @@ use Rattle.writing.proofs.spell.spell.Tie as tie
 command-requires : tie.Need-command-requires
 unfolding sheetOf
 command-requires c κs =
-    let entry = c .before .before .before .before .before .before .before in
+    let entry = c .before .before .before .before .before .before .before .before in
     let a = entry .args in
-    let d = drawing (a .size) (a .rules .now) (a .faults .now) (a .lengths .now) (a .inputs .now) in
+    let d = drawing (a .size) (a .rules .now) (a .faults .now) (a .starts .now) (a .lengths .now) (a .inputs .now) in
     omega (arith, entry .pre .1, parts-length (sheetOf d))
 
 rows-requires : tie.Need-rows-requires
 unfolding sheetOf
 rows-requires c κs =
     let at-command = c .before .before .before in
-    let entry = at-command .before .before .before .before .before .before .before .before in
+    let entry = at-command .before .before .before .before .before .before .before .before .before in
     let a = entry .args in
-    let d = drawing (a .size) (a .rules .now) (a .faults .now) (a .lengths .now) (a .inputs .now) in
+    let d = drawing (a .size) (a .rules .now) (a .faults .now) (a .starts .now) (a .lengths .now) (a .inputs .now) in
     omega (arith, entry .pre .1, parts-length (sheetOf d), at-command .command .ensures .long, at-command .command .ensures .many)
 
 rows-requires-2 : tie.Need-rows-requires-2
@@ -35,49 +35,65 @@ unfolding sheetOf
 rows-requires-2 c κs =
     let at-rows = c .before .before .before in
     let at-command = at-rows .before .before .before .before in
-    let entry = at-command .before .before .before .before .before .before .before .before in
+    let entry = at-command .before .before .before .before .before .before .before .before .before in
     let a = entry .args in
-    let d = drawing (a .size) (a .rules .now) (a .faults .now) (a .lengths .now) (a .inputs .now) in
+    let d = drawing (a .size) (a .rules .now) (a .faults .now) (a .starts .now) (a .lengths .now) (a .inputs .now) in
     omega (arith, entry .pre .1, parts-length (sheetOf d), at-command .command .ensures .long, at-command .command .ensures .many, at-rows .rows .ensures .long, at-rows .rows .ensures .many)
+
+operands-requires : tie.Need-operands-requires
+unfolding sheetOf
+operands-requires c κs =
+    let at-rows2 = c .before .before .before in
+    let at-rows = at-rows2 .before .before .before .before in
+    let at-command = at-rows .before .before .before .before in
+    let entry = at-command .before .before .before .before .before .before .before .before .before in
+    let a = entry .args in
+    let d = drawing (a .size) (a .rules .now) (a .faults .now) (a .starts .now) (a .lengths .now) (a .inputs .now) in
+    omega (arith, entry .pre .1, parts-length (sheetOf d), at-command .command .ensures .long, at-command .command .ensures .many, at-rows .rows .ensures .long, at-rows .rows .ensures .many, at-rows2 .rows2 .ensures .long, at-rows2 .rows2 .ensures .many)
 
 tests-requires : tie.Need-tests-requires
 unfolding sheetOf
 tests-requires c κs =
-    let at-rows2 = c .before .before .before in
+    let at-operands = c .before .before .before in
+    let at-rows2 = at-operands .before .before .before .before in
     let at-rows = at-rows2 .before .before .before .before in
     let at-command = at-rows .before .before .before .before in
-    let entry = at-command .before .before .before .before .before .before .before .before in
+    let entry = at-command .before .before .before .before .before .before .before .before .before in
     let a = entry .args in
-    let d = drawing (a .size) (a .rules .now) (a .faults .now) (a .lengths .now) (a .inputs .now) in
-    (entry .pre .0, omega (arith, entry .pre .1, parts-length (sheetOf d), at-command .command .ensures .long, at-command .command .ensures .many, at-rows .rows .ensures .long, at-rows .rows .ensures .many, at-rows2 .rows2 .ensures .long, at-rows2 .rows2 .ensures .many))
+    let d = drawing (a .size) (a .rules .now) (a .faults .now) (a .starts .now) (a .lengths .now) (a .inputs .now) in
+    (entry .pre .0, omega (arith, entry .pre .1, parts-length (sheetOf d), at-command .command .ensures .long, at-command .command .ensures .many, at-rows .rows .ensures .long, at-rows .rows .ensures .many, at-rows2 .rows2 .ensures .long, at-rows2 .rows2 .ensures .many, at-operands .operands .ensures .long, at-operands .operands .ensures .many))
 
 byte-requires : tie.Need-byte-requires
 unfolding sheetOf
 byte-requires c κs =
     let at-tests = c .before .before .before in
-    let at-rows2 = at-tests .before .before .before .before in
+    let at-operands = at-tests .before .before .before .before in
+    let at-rows2 = at-operands .before .before .before .before in
     let at-rows = at-rows2 .before .before .before .before in
     let at-command = at-rows .before .before .before .before in
-    let entry = at-command .before .before .before .before .before .before .before .before in
+    let entry = at-command .before .before .before .before .before .before .before .before .before in
     let a = entry .args in
-    let d = drawing (a .size) (a .rules .now) (a .faults .now) (a .lengths .now) (a .inputs .now) in
-    omega (arith, entry .pre .1, parts-length (sheetOf d), at-command .command .ensures .long, at-command .command .ensures .many, at-rows .rows .ensures .long, at-rows .rows .ensures .many, at-rows2 .rows2 .ensures .long, at-rows2 .rows2 .ensures .many, at-tests .tests .ensures .long, at-tests .tests .ensures .many)
+    let d = drawing (a .size) (a .rules .now) (a .faults .now) (a .starts .now) (a .lengths .now) (a .inputs .now) in
+    omega (arith, entry .pre .1, parts-length (sheetOf d), at-command .command .ensures .long, at-command .command .ensures .many, at-rows .rows .ensures .long, at-rows .rows .ensures .many, at-rows2 .rows2 .ensures .long, at-rows2 .rows2 .ensures .many, at-operands .operands .ensures .long, at-operands .operands .ensures .many, at-tests .tests .ensures .long, at-tests .tests .ensures .many)
 
 returns : tie.Need-returns
 unfolding sheetOf sizeBytes
 returns c =
     let at-tests = c .before .before .before .before .before .before in
-    let at-rows2 = at-tests .before .before .before .before in
+    let at-operands = at-tests .before .before .before .before in
+    let at-rows2 = at-operands .before .before .before .before in
     let at-rows = at-rows2 .before .before .before .before in
     let at-command = at-rows .before .before .before .before in
-    let entry = at-command .before .before .before .before .before .before .before .before in
+    let entry = at-command .before .before .before .before .before .before .before .before .before in
     let a = entry .args in
-    let d = drawing (a .size) (a .rules .now) (a .faults .now) (a .lengths .now) (a .inputs .now) in
+    let d = drawing (a .size) (a .rules .now) (a .faults .now) (a .starts .now) (a .lengths .now) (a .inputs .now) in
     subst (λ (l : List ℕ). Spelled (a .sheet .now) (c .before .before .byte .last .1 .0) 0 (c .before .before .byte .result) l) (sym (encode-parts (sheetOf d)))
-    (spelled-both (at-command .command .ensures) (spelled-both (at-rows .rows .ensures) (spelled-both (at-rows2 .rows2 .ensures) (spelled-both (at-tests .tests .ensures) (c .before .before .byte .ensures)))))
+    (spelled-both (at-command .command .ensures) (spelled-both (at-rows .rows .ensures) (spelled-both (at-rows2 .rows2 .ensures)
+    (spelled-both (at-operands .operands .ensures) (spelled-both (at-tests .tests .ensures) (c .before .before .byte .ensures))))))
 
 pub spell-spec : {M : Type 1} → statement M
 spell-spec =
     tie.close
     (tie.spec
-    (λ c. search needs) command-requires rows-requires rows-requires-2 tests-requires byte-requires (λ c. search needs) returns)
+    (λ c. search needs) command-requires rows-requires rows-requires-2 operands-requires tests-requires byte-requires (λ c. search needs)
+    returns)

@@ -5,8 +5,8 @@ use Rattle.writing.specs.laws.SpelledLaw.{spelled-both}
 use Rattle.writing.proofs.spell.test.Statement.{statement}
 use Rattle.writing.proofs.spell.test.Tie as tie
 
-presses-requires : tie.Need-presses-requires
-presses-requires c κs =
+operands-requires : tie.Need-operands-requires
+operands-requires c κs =
     let at-byte = c .before .before .before in
     let entry = at-byte .before .before .before .before in
     omega (arith, entry .pre, at-byte .byte .ensures .many, at-byte .byte .ensures .long)
@@ -14,16 +14,16 @@ presses-requires c κs =
 same-length : tie.Need-same-length
 same-length c =
     let at-byte = c .before .before .before .before .before .before in
-    c .before .before .presses .ensures .long ∙ at-byte .byte .ensures .long
+    c .before .before .operands .ensures .long ∙ at-byte .byte .ensures .long
 
 returns : tie.Need-returns
 returns c =
     let at-byte = c .before .before .before .before .before .before in
-    spelled-both (at-byte .byte .ensures) (c .before .before .presses .ensures)
+    spelled-both (at-byte .byte .ensures) (c .before .before .operands .ensures)
 
 pub test-spec : {M : Type 1} → statement M
 test-spec =
     tie.close
     (tie.spec
     (λ c κs. omega (arith, c .before .before .before .pre))
-    presses-requires same-length returns)
+    operands-requires same-length returns)

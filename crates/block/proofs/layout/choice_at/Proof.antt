@@ -1,9 +1,9 @@
 use mathlib.Core.Path.{sym}
 use Rattle.block.specs.laws.ChoiceLaw.{chosen-none, chosen-some}
 use native.Mathlib.Omega.{arith}
 use borrow.Author.Needs.{needs}
-use Rattle.machine.proofs.laying.choice_at.Statement.{statement}
-use Rattle.machine.proofs.laying.choice_at.Tie as tie
+use Rattle.block.proofs.layout.choice_at.Statement.{statement}
+use Rattle.block.proofs.layout.choice_at.Tie as tie
 
 element-copy-out-result : tie.Need-element-copy-out-result
 element-copy-out-result c =

@@ -5,18 +5,20 @@ use native.Mathlib.Omega.{arith}
 use lib.ListN.{length, drop}
 use denote.Ref.{now}
 use Rattle.sheet.specs.Reading.{width}
-use Rattle.sheet.specs.Encode.{pressBytes}
+use Rattle.sheet.specs.Encode.{operandBytes}
 use Rattle.sheet.specs.words.Places.{Calm}
 use Rattle.sheet.proofs.PlaceLaw as laws
 use borrow.Author.Needs.{needs}
-use Rattle.sheet.proofs.part.presses_from.Statement.{statement}
-use Rattle.sheet.proofs.part.presses_from.Tie as tie
+use Rattle.sheet.proofs.part.operands_from.Statement.{statement}
+use Rattle.sheet.proofs.part.operands_from.Tie as tie
 
 abbrev Inv-loop : tie.InvT-loop
-Inv-loop sheet place n₀ at₀ n at = (at ≡ place + 2 * n) × (at ≤ length sheet) × ((xs rest : List ℕ) → drop place sheet ≡ pressBytes xs ++ rest → Calm rest → laws.Left sheet xs rest n at)
+Inv-loop sheet byte place n₀ at₀ n at =
+    (at ≡ place + 2 * n) × (at ≤ length sheet)
+    × ((xs rest : List ℕ) → drop place sheet ≡ operandBytes byte xs ++ rest → Calm byte rest → laws.Left sheet byte xs rest n at)
 
 abbrev μ-loop : tie.MeasureT-loop
-μ-loop sheet place n₀ at₀ n at = length sheet - at
+μ-loop sheet byte place n₀ at₀ n at = length sheet - at
 
 loop-less : tie.Need-loop-less Inv-loop μ-loop
 loop-less c =
@@ -28,8 +30,8 @@ loop-less c =
     let l = at-loop .loop in
     let f = at-fetch-from .fetch-from in
     let i = c .before .before .item-in in
-    let w = laws.taken-whole s (l .at) (f .result) (i .result) (f .ensures) (i .ensures) (omega arith) in
-    let e = w .next ∙ ap (λ (b : ℕ). l .at + width b) (sym (w .byte) ∙ c .if1 .taken) in
+    let w = laws.taken-whole s (l .at) (f .result) (i .result) (f .ensures) (i .ensures) (omega (arith, entry .pre .1)) in
+    let e = w .next ∙ ap (λ (b : ℕ). l .at + width b) (sym (w .byte) ∙ c .if1 .taken) ∙ ap (λ (w : ℕ). l .at + w) (entry .pre .2) in
     omega (arith, e, w .all, w .next)
 
 loop-again : tie.Need-loop-again Inv-loop μ-loop
@@ -42,9 +44,9 @@ loop-again c =
     let l = at-loop .loop in
     let f = at-fetch-from .fetch-from in
     let i = c .before .before .item-in in
-    let w = laws.taken-whole s (l .at) (f .result) (i .result) (f .ensures) (i .ensures) (omega arith) in
-    let e = w .next ∙ ap (λ (b : ℕ). l .at + width b) (sym (w .byte) ∙ c .if1 .taken) in
-    (omega (arith, e, l .inv .0), omega (arith, w .all, w .next), λ xs rest d calm. laws.left-more s xs rest calm (l .n) (l .at) (i .result) _ w (c .if1 .taken) (l .inv .2 xs rest d calm))
+    let w = laws.taken-whole s (l .at) (f .result) (i .result) (f .ensures) (i .ensures) (omega (arith, entry .pre .1)) in
+    let e = w .next ∙ ap (λ (b : ℕ). l .at + width b) (sym (w .byte) ∙ c .if1 .taken) ∙ ap (λ (w : ℕ). l .at + w) (entry .pre .2) in
+    (omega (arith, e, l .inv .0), omega (arith, w .all, w .next), λ xs rest d calm. laws.left-more s (a .byte) xs rest calm (l .n) (l .at) (i .result) _ w (c .if1 .taken) (entry .pre .2) (l .inv .2 xs rest d calm))
 
 returns : tie.Need-returns Inv-loop μ-loop
 returns c =
@@ -56,10 +58,10 @@ returns c =
     let l = at-loop .loop in
     let f = at-fetch-from .fetch-from in
     let i = c .before .before .item-in in
-    record { within = omega (arith, l .inv .0, l .inv .1); counted = λ xs rest d calm. laws.left-stop s xs rest calm (l .n) (l .at) (f .result) (i .result) (f .ensures) (i .ensures) (c .if1 .left) (l .inv .2 xs rest d calm) }
+    record { within = omega (arith, l .inv .0, l .inv .1); counted = λ xs rest d calm. laws.left-stop s (a .byte) xs rest calm (l .n) (l .at) (f .result) (i .result) (f .ensures) (i .ensures) (entry .pre .2) (c .if1 .left) (l .inv .2 xs rest d calm) }
 
-pub presses-from-spec : {M : Type 1} → statement M
-presses-from-spec =
+pub operands-from-spec : {M : Type 1} → statement M
+operands-from-spec =
     tie.close
     (tie.spec
     Inv-loop μ-loop
