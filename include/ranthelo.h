@@ -21,17 +21,18 @@ void ranthelo_read(const uint8_t *sheet, size_t sheet_len, size_t answer[9]);
 /* One test's part. answer: number, place, and where in the sheet the test's PRESS commands start and how many bytes they are. */
 void ranthelo_test_span(const uint8_t *sheet, size_t sheet_len, size_t test, size_t answer[4]);
 
-/* Write a sheet from tables: how many states, presses and sounds; RULEs and FAULTs, four bytes a row (s x o t); the states of the STARTs,
- * one byte each; how many presses each test has, and the presses of all tests end to end. `lengths_len` counts numbers, not bytes. The
- * sheet at the buffer's front, for which 16,384 bytes are always enough. A refusal has place 0. answer: number, place, the sheet's
- * length. */
-void ranthelo_write(uint8_t states, uint8_t inputs, uint8_t outputs, const uint8_t *rules, size_t rules_len, const uint8_t *faults,
-                    size_t faults_len, const uint8_t *starts, size_t starts_len, const uint16_t *lengths, size_t lengths_len,
-                    const uint8_t *presses, size_t presses_len, uint8_t *buffer, size_t buffer_len, size_t answer[3]);
+/* Write a sheet from tables: how many states, presses and sounds; whether it is QUIET (0: no); RULEs and FAULTs, four bytes a row (s x
+ * o t); the states of the STARTs, one byte each; how many presses each test has, and the presses of all tests end to end.
+ * `lengths_len` counts numbers, not bytes. The sheet at the buffer's front, for which 16,384 bytes are always enough. A refusal has
+ * place 0. answer: number, place, the sheet's length. */
+void ranthelo_write(uint8_t states, uint8_t inputs, uint8_t outputs, uint8_t quiet, const uint8_t *rules, size_t rules_len,
+                    const uint8_t *faults, size_t faults_len, const uint8_t *starts, size_t starts_len, const uint16_t *lengths,
+                    size_t lengths_len, const uint8_t *presses, size_t presses_len, uint8_t *buffer, size_t buffer_len,
+                    size_t answer[3]);
 
-/* Write a sheet from a seed: how many states, presses and sounds. A RULE for every state and press, FAULTs to at most 32, no STARTs and
- * no tests; the same bytes for the same numbers everywhere. The buffer has 16,384 bytes at least. A refusal has place 0. answer: number,
- * place, the sheet's length. */
+/* Write a sheet from a seed: how many states, presses and sounds. A RULE for every state and press, FAULTs to at most 32, no QUIET, no
+ * STARTs and no tests; the same bytes for the same numbers everywhere. The buffer has 16,384 bytes at least. A refusal has place 0.
+ * answer: number, place, the sheet's length. */
 void ranthelo_generate(uint32_t seed, uint8_t states, uint8_t inputs, uint8_t outputs, uint8_t *buffer, size_t buffer_len,
                        size_t answer[3]);
 

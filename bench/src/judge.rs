@@ -24,6 +24,7 @@ pub fn measure(table: &mut Table) {
     family(table, "partial, 10 faults", &families::TEN_FAULTS, 1..4);
     made_complete(table);
     waking(table);
+    quiet(table);
     formulas(table);
     for (name, sheet) in families::KEPT {
         one(table, &format!("{name}, kept"), sheet);
@@ -70,6 +71,28 @@ fn waking(table: &mut Table) {
         for starts in [1, family.states - 1] {
             let sheet = families::waking(families::sheet(&family, 1), starts);
             completed(table, &format!("{name}, {starts} STARTs"), sheet);
+        }
+    }
+}
+
+/// Machines that ignore unspecified presses; with STARTs too.
+fn quiet(table: &mut Table) {
+    let few_rules = Family {
+        unspecified: 150,
+        ..families::COMPLETE
+    };
+    for (name, family) in [("complete", few_rules), ("partial", families::PARTIAL)] {
+        for starts in [0, 1] {
+            let sheet = families::waking(families::sheet(&family, 1), starts);
+            let case = format!("quiet {name}, {starts} STARTs");
+            completed(
+                table,
+                &case,
+                Sheet {
+                    quiet: true,
+                    ..sheet
+                },
+            );
         }
     }
 }

@@ -3,7 +3,7 @@
 use ranthelo_tests::enumeration::{Failed, Failure, Used};
 use ranthelo_tests::reference::{
     Refusal, Summary, END, FAULT, MOST_BYTES, MOST_FAULTS, MOST_OPEN_PAIRS, MOST_PRESSES,
-    MOST_TESTS, PRESS, RULE, SIZE, START, TEST,
+    MOST_TESTS, PRESS, QUIET, RULE, SIZE, START, TEST,
 };
 
 /// No rule at a pair.
@@ -22,6 +22,8 @@ pub struct Tables<'a> {
     pub states: u8,
     pub inputs: u8,
     pub outputs: u8,
+    /// Whether a pair without a rule stays.
+    pub quiet: bool,
     /// The rules, with next state NONE where there is none.
     pub rules: [Move; 256],
     /// All faults in order, and where those of a pair begin and end.
@@ -42,6 +44,7 @@ fn refuse<T>(number: usize, place: usize) -> Result<T, Refusal> {
 #[derive(Clone, Copy, PartialEq, PartialOrd)]
 enum Phase {
     Size,
+    Quiet,
     Rules,
     Faults,
     Starts,
@@ -61,6 +64,7 @@ pub fn load(sheet: &[u8]) -> Result<Tables<'_>, Refusal> {
     let (mut last_rule, mut last_fault) = (None, None);
     let (mut suite_start, mut state) = (None, 0);
     let (mut wakings, mut waking) = ([0; 16], 1);
+    let mut quiet = false;
     let mut phase = Phase::Size;
     let mut at = 0;
     loop {
@@ -76,10 +80,15 @@ pub fn load(sheet: &[u8]) -> Result<Tables<'_>, Refusal> {
                     return refuse(4, at);
                 }
                 (n, k, m) = (states, inputs, outputs);
-                phase = Phase::Rules;
+                phase = Phase::Quiet;
                 at += 4;
             }
-            [RULE, ..] if phase == Phase::Rules => {
+            [QUIET, ..] if phase == Phase::Quiet => {
+                quiet = true;
+                phase = Phase::Rules;
+                at += 1;
+            }
+            [RULE, ..] if phase == Phase::Quiet || phase == Phase::Rules => {
                 let [_, s, x, o, t, ..] = *rest else {
                     return refuse(2, at);
                 };
@@ -92,9 +101,10 @@ pub fn load(sheet: &[u8]) -> Result<Tables<'_>, Refusal> {
                 last_rule = Some((s, x));
                 rules[pair(s, x)] = (o, t);
                 rule_count += 1;
+                phase = Phase::Rules;
                 at += 5;
             }
-            [FAULT, ..] if phase == Phase::Rules || phase == Phase::Faults => {
+            [FAULT, ..] if phase >= Phase::Quiet && phase <= Phase::Faults => {
                 let [_, s, x, o, t, ..] = *rest else {
                     return refuse(2, at);
                 };
@@ -121,7 +131,7 @@ pub fn load(sheet: &[u8]) -> Result<Tables<'_>, Refusal> {
                 phase = Phase::Faults;
                 at += 5;
             }
-            [START, ..] if phase >= Phase::Rules && phase <= Phase::Starts => {
+            [START, ..] if phase >= Phase::Quiet && phase <= Phase::Starts => {
                 let [_, t, ..] = *rest else {
                     return refuse(2, at);
                 };
@@ -139,7 +149,7 @@ pub fn load(sheet: &[u8]) -> Result<Tables<'_>, Refusal> {
                 phase = Phase::Starts;
                 at += 2;
             }
-            [TEST, ..] if phase >= Phase::Rules => {
+            [TEST, ..] if phase >= Phase::Quiet => {
                 if tests == MOST_TESTS {
                     return refuse(8, at);
                 }
@@ -168,7 +178,7 @@ pub fn load(sheet: &[u8]) -> Result<Tables<'_>, Refusal> {
                 state = t;
                 at += 2;
             }
-            [END, ..] if phase >= Phase::Rules => break,
+            [END, ..] if phase >= Phase::Quiet => break,
             _ => return refuse(3, at),
         }
     }
@@ -178,7 +188,8 @@ pub fn load(sheet: &[u8]) -> Result<Tables<'_>, Refusal> {
     if !reaches_every_state(&rules, n, k) {
         return refuse(11, at);
     }
-    let open_pairs = usize::from(waking > 1) + count_open_pairs(&rules, &faults_at, n, k, m);
+    let free = !quiet && (n > 1 || m > 1);
+    let open_pairs = usize::from(waking > 1) + count_open_pairs(&rules, &faults_at, n, k, free);
     if open_pairs > MOST_OPEN_PAIRS {
         return refuse(12, at);
     }
@@ -186,6 +197,7 @@ pub fn load(sheet: &[u8]) -> Result<Tables<'_>, Refusal> {
         states: n,
         inputs: k,
         outputs: m,
+        quiet,
         rules,
         faults,
         faults_at,
@@ -226,13 +238,13 @@ fn count_open_pairs(
     faults_at: &[(u16, u16); 256],
     n: u8,
     k: u8,
-    m: u8,
+    free: bool,
 ) -> usize {
     let mut open = 0;
     for s in 0..n {
         for x in 0..k {
             let p = pair(s, x);
-            let unruled = rules[p].1 == NONE && (n > 1 || m > 1);
+            let unruled = rules[p].1 == NONE && free;
             open += usize::from(unruled || faults_at[p].1 > 0);
         }
     }
@@ -249,7 +261,10 @@ impl Tables<'_> {
     pub fn choices(&self, pair: usize) -> usize {
         let (begin, end) = self.faults_at[pair];
         if self.rules[pair].1 == NONE {
-            usize::from(self.states) * usize::from(self.outputs)
+            match self.quiet {
+                true => 1,
+                false => usize::from(self.states) * usize::from(self.outputs),
+            }
         } else {
             1 + usize::from(end - begin)
         }
@@ -257,7 +272,9 @@ impl Tables<'_> {
 
     /// A choice at a pair.
     pub fn choice(&self, pair: usize, choice: u8) -> Move {
-        if self.rules[pair].1 == NONE {
+        if self.rules[pair].1 == NONE && self.quiet {
+            (0, (pair / 16) as u8)
+        } else if self.rules[pair].1 == NONE {
             (choice / self.states, choice % self.states)
         } else if choice == 0 {
             self.rules[pair]

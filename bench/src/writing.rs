@@ -41,6 +41,7 @@ pub fn with_library(tables: &Tables, buffer: &mut [u8]) {
     let tables = black_box(tables);
     writing::write(
         tables.size,
+        tables.quiet,
         &tables.rules,
         &tables.faults,
         &tables.starts,

@@ -1,12 +1,13 @@
-//! Sheets as tables and from tables, written from document 02 (Points 1 and 5) alone; and tables to try.
+//! Sheets as tables and from tables, written from document 02 (Points 1, 5 and 7) alone; and tables to try.
 
 use crate::generator::{self, Random, LARGE, SMALL};
-use crate::reference::{read, Refusal, Sheet, END, FAULT, PRESS, RULE, SIZE, START, TEST};
+use crate::reference::{read, Refusal, Sheet, END, FAULT, PRESS, QUIET, RULE, SIZE, START, TEST};
 
-/// Sizes; rules and faults four bytes a row; the states of the STARTs; the lengths of the tests and their presses end to end.
+/// Sizes; whether the sheet is quiet; rules and faults four bytes a row; the states of the STARTs; the lengths of the tests and their presses end to end.
 #[derive(Clone, Debug, Default, PartialEq, Eq)]
 pub struct Tables {
     pub size: [u8; 3],
+    pub quiet: bool,
     pub rules: Vec<u8>,
     pub faults: Vec<u8>,
     pub starts: Vec<u8>,
@@ -26,6 +27,7 @@ impl Tables {
         for command in generator::commands(bytes) {
             match (command[0], &command[1..]) {
                 (SIZE, operands) => tables.size.copy_from_slice(operands),
+                (QUIET, _) => tables.quiet = true,
                 (RULE, row) => tables.rules.extend(row),
                 (FAULT, row) => tables.faults.extend(row),
                 (START, t) => tables.starts.extend(t),
@@ -49,6 +51,7 @@ impl Tables {
     /// The bytes of the sheet, of tables that are not cut.
     pub fn spell(&self) -> Vec<u8> {
         let mut bytes = [&[SIZE], &self.size[..]].concat();
+        bytes.extend(self.quiet.then_some(QUIET));
         for (command, table) in [(RULE, &self.rules), (FAULT, &self.faults)] {
             for row in table.chunks_exact(4) {
                 bytes.push(command);
@@ -96,7 +99,7 @@ pub fn any_tables(random: &mut Random) -> Tables {
 }
 
 fn damage(random: &mut Random, tables: &mut Tables) {
-    match random.below(6) {
+    match random.below(7) {
         0 => {
             let place = random.below(3);
             tables.size[place] = random.below(18) as u8;
@@ -105,6 +108,7 @@ fn damage(random: &mut Random, tables: &mut Tables) {
         2 => damage_rows(random, &mut tables.faults),
         3 => damage_lengths(random, tables),
         4 => damage_bytes(random, &mut tables.starts),
+        5 => tables.quiet = !tables.quiet,
         _ => damage_bytes(random, &mut tables.presses),
     }
 }

@@ -61,10 +61,12 @@ pub struct Survivor {
     pub sequence: Vec<u8>,
 }
 
-/// The choices at a pair: the rule, then its faults; without a rule every move.
+/// The choices at a pair: the rule, then its faults; without a rule every move, or sound 0 and the
+/// same state if the sheet is quiet.
 fn choices(sheet: &Sheet, pair: (u8, u8)) -> Vec<Move> {
     match sheet.rules.get(&pair) {
         Some(&rule) => [rule].into_iter().chain(sheet.faults_at(pair)).collect(),
+        None if sheet.quiet => vec![(0, pair.0)],
         None => (0..sheet.sounds)
             .flat_map(|o| (0..sheet.states).map(move |t| (o, t)))
             .collect(),

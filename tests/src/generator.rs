@@ -1,6 +1,8 @@
 //! Seeded, reproducible sheets: well-formed ones, ones at the limits, damaged ones, noise.
 
-use crate::reference::{Move, Pair, Sheet, END, FAULT, MOST_BYTES, PRESS, RULE, SIZE, START, TEST};
+use crate::reference::{
+    Move, Pair, Sheet, END, FAULT, MOST_BYTES, PRESS, QUIET, RULE, SIZE, START, TEST,
+};
 
 /// A small generator of pseudo-random numbers (splitmix64).
 pub struct Random(u64);
@@ -108,6 +110,7 @@ impl<'a> Draft<'a> {
             states: random.between(1, shape.states) as u8,
             presses: random.between(1, shape.presses) as u8,
             sounds: random.between(1, shape.sounds) as u8,
+            quiet: random.chance(30),
             ..Sheet::default()
         };
         Draft {
@@ -180,7 +183,10 @@ impl<'a> Draft<'a> {
         let specified = self.random.pick(&[0, 30, 60, 90, 100]);
         let mut pairs: Vec<Pair> = self.sheet.pairs().collect();
         self.random.shuffle(&mut pairs);
-        let moves = u64::from(self.sheet.sounds) * u64::from(self.sheet.states);
+        let moves = match self.sheet.quiet {
+            true => 1,
+            false => u64::from(self.sheet.sounds) * u64::from(self.sheet.states),
+        };
         for pair in pairs {
             if self.sheet.rules.contains_key(&pair) {
                 continue;
@@ -420,7 +426,9 @@ fn damage_commands(random: &mut Random, bytes: &[u8]) -> Vec<u8> {
 
 /// A command with operands below the bound.
 fn some_command(random: &mut Random, bound: usize) -> Vec<u8> {
-    let command = random.pick(&[RULE, RULE, FAULT, START, TEST, PRESS, PRESS, SIZE, END]);
+    let command = random.pick(&[
+        RULE, RULE, FAULT, START, TEST, PRESS, PRESS, SIZE, QUIET, END,
+    ]);
     let width = match command {
         SIZE => 3,
         RULE | FAULT => 4,

@@ -1,7 +1,9 @@
 //! The sheets that document 01 lists, spelled here from its words, and some with what 02 adds.
 
 use crate::enumeration::Survivor;
-use crate::reference::{Refusal, Sheet, Summary, END, FAULT, PRESS, RULE, SIZE, START, TEST};
+use crate::reference::{
+    Refusal, Sheet, Summary, END, FAULT, PRESS, QUIET, RULE, SIZE, START, TEST,
+};
 
 /// Bytes from hexadecimal; what follows `#` or `--` on a line is a comment.
 pub fn hexadecimal(text: &str) -> Vec<u8> {
@@ -44,6 +46,26 @@ pub fn p5() -> Vec<u8> {
 
 pub fn p6() -> Vec<u8> {
     hexadecimal("01 01 01 01 06")
+}
+
+/// P4 whose boards ignore the unspecified press.
+pub fn p4_quiet() -> Vec<u8> {
+    after_size(p4(), &[QUIET])
+}
+
+/// The same, and they may wake in state 1.
+pub fn p4_quiet_start() -> Vec<u8> {
+    after_faults(p4_quiet(), &[START, 1])
+}
+
+/// The ring of 16 states with 16 presses and rules at 56 pairs, 200 unspecified ones, and quiet.
+pub fn quiet_pairs() -> Vec<u8> {
+    let mut sheet = crate::generator::ring(16);
+    let more = sheet.pairs().filter(|&(_, x)| x > 0).take(40);
+    let more: Vec<_> = more.map(|(s, x)| ((s, x), (0, s))).collect();
+    sheet.rules.extend(more);
+    sheet.quiet = true;
+    sheet.encode()
 }
 
 /// P1 whose boards may wake in state 1.
@@ -131,6 +153,9 @@ pub fn all() -> Vec<(&'static str, Vec<u8>)> {
         ("P9", p9()),
         ("P10", p10()),
         ("P1-start", p1_start()),
+        ("P4-quiet", p4_quiet()),
+        ("P4-quiet-start", p4_quiet_start()),
+        ("200-quiet-pairs", quiet_pairs()),
         ("only-start", only_start()),
         ("equal-start", equal_start()),
         ("empty", vec![]),
@@ -163,6 +188,13 @@ pub fn verdicts() -> Vec<(&'static str, Vec<u8>, Option<Survivor>)> {
         ("P10", p10(), None),
         ("P1-start", p1_start(), survivor(&[0, 1], &[0, 1, 0])),
         ("only-start", only_start(), survivor(&[1], &[0])),
+        ("P4-quiet", p4_quiet(), survivor(&[1], &[0, 1, 0])),
+        (
+            "P4-quiet-start",
+            p4_quiet_start(),
+            survivor(&[0, 1], &[0, 1, 0]),
+        ),
+        ("200-quiet-pairs", quiet_pairs(), None),
         ("equal-start", equal_start(), None),
     ]
 }
@@ -191,6 +223,9 @@ pub fn readings() -> Vec<(&'static str, Result<Summary, Refusal>)> {
         ("P9", accepted([4, 2, 2, 7, 3, 1, 4])),
         ("P10", accepted([4, 2, 2, 7, 3, 3, 4])),
         ("P1-start", accepted([2, 2, 2, 4, 1, 1, 2])),
+        ("P4-quiet", accepted([2, 2, 2, 3, 1, 1, 1])),
+        ("P4-quiet-start", accepted([2, 2, 2, 3, 1, 1, 2])),
+        ("200-quiet-pairs", accepted([16, 16, 16, 56, 0, 0, 0])),
         ("only-start", accepted([2, 2, 2, 4, 0, 0, 1])),
         ("equal-start", accepted([2, 1, 1, 2, 0, 0, 1])),
         ("empty", refused(2, 0)),
@@ -204,6 +239,12 @@ pub fn readings() -> Vec<(&'static str, Result<Summary, Refusal>)> {
         ("256-tests", accepted([1, 1, 1, 0, 0, 256, 0])),
         ("257-tests", refused(8, 4 + 256)),
     ]
+}
+
+/// The bytes with commands after SIZE.
+pub fn after_size(mut bytes: Vec<u8>, commands: &[u8]) -> Vec<u8> {
+    bytes.splice(4..4, commands.iter().copied());
+    bytes
 }
 
 /// The bytes with commands after the FAULTs of P1's machine.

@@ -10,6 +10,7 @@ pub const TEST: u8 = 0x04;
 pub const PRESS: u8 = 0x05;
 pub const END: u8 = 0x06;
 pub const START: u8 = 0x07;
+pub const QUIET: u8 = 0x08;
 
 pub const MOST_BYTES: usize = 16_384;
 pub const MOST_FAULTS: usize = 256;
@@ -30,13 +31,14 @@ pub struct Refusal {
     pub place: usize,
 }
 
-/// What a sheet says: a specified machine, its possible faults, the states other than 0 in which
-/// a board may wake, a test suite.
+/// What a sheet says: a specified machine, whether it ignores unspecified presses, its possible
+/// faults, the states other than 0 in which a board may wake, a test suite.
 #[derive(Clone, Debug, Default, PartialEq, Eq)]
 pub struct Sheet {
     pub states: u8,
     pub presses: u8,
     pub sounds: u8,
+    pub quiet: bool,
     pub rules: BTreeMap<Pair, Move>,
     pub faults: BTreeSet<(Pair, Move)>,
     pub starts: BTreeSet<u8>,
@@ -143,7 +145,7 @@ impl Sheet {
         if self.rules.contains_key(&pair) {
             self.faults_at(pair).next().is_some()
         } else {
-            usize::from(self.sounds) * usize::from(self.states) >= 2
+            !self.quiet && usize::from(self.sounds) * usize::from(self.states) >= 2
         }
     }
 
@@ -165,6 +167,7 @@ impl Sheet {
     /// The bytes that spell this sheet.
     pub fn encode(&self) -> Vec<u8> {
         let mut bytes = vec![SIZE, self.states, self.presses, self.sounds];
+        bytes.extend(self.quiet.then_some(QUIET));
         for (&(s, x), &(o, t)) in &self.rules {
             bytes.extend([RULE, s, x, o, t]);
         }
@@ -194,6 +197,7 @@ fn operands_of(command: u8) -> usize {
 #[derive(Clone, Copy, PartialEq, PartialOrd)]
 enum Phase {
     Size,
+    Quiet,
     Rules,
     Faults,
     Starts,
@@ -222,10 +226,11 @@ impl Reader {
     fn allows(&self, command: u8) -> bool {
         match command {
             SIZE => self.phase == Phase::Size,
-            RULE => self.phase == Phase::Rules,
-            FAULT => self.phase == Phase::Rules || self.phase == Phase::Faults,
-            START => self.phase >= Phase::Rules && self.phase <= Phase::Starts,
-            TEST | END => self.phase >= Phase::Rules,
+            QUIET => self.phase == Phase::Quiet,
+            RULE => (Phase::Quiet..=Phase::Rules).contains(&self.phase),
+            FAULT => (Phase::Quiet..=Phase::Faults).contains(&self.phase),
+            START => (Phase::Quiet..=Phase::Starts).contains(&self.phase),
+            TEST | END => self.phase >= Phase::Quiet,
             PRESS => self.phase == Phase::Tests,
             _ => false,
         }
@@ -239,6 +244,7 @@ impl Reader {
             [s, x, o, t] => self.fault((s, x), (o, t)),
             [t] if command == START => self.start(t),
             [x] => self.press(x, next),
+            _ if command == QUIET => self.quiet(),
             _ => self.test(next),
         }
     }
@@ -249,6 +255,12 @@ impl Reader {
         self.sheet.states = n;
         self.sheet.presses = k;
         self.sheet.sounds = m;
+        self.phase = Phase::Quiet;
+        Ok(())
+    }
+
+    fn quiet(&mut self) -> Result<(), usize> {
+        self.sheet.quiet = true;
         self.phase = Phase::Rules;
         Ok(())
     }
@@ -263,6 +275,7 @@ impl Reader {
         let last = self.sheet.rules.keys().next_back();
         check(last.is_none_or(|&last| last < pair), 6)?;
         self.sheet.rules.insert(pair, to);
+        self.phase = Phase::Rules;
         Ok(())
     }
 

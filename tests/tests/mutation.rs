@@ -60,6 +60,20 @@ fn runs_of_listed_boards() {
     runs(&listed::p4(), &[3, 1], &[0, 1], &[1, 1], &[1]);
     runs(&listed::p1(), &[1], &[0, 0], &[1, 0], &[]);
     runs(&listed::p1(), &[1], &[], &[], &[]);
+    runs(
+        &listed::p4_quiet(),
+        &[1],
+        &[1, 1, 0, 1],
+        &[0, 0, 1, 1],
+        &[0],
+    );
+    runs(
+        &listed::p4_quiet_start(),
+        &[1, 0],
+        &[1, 1, 0],
+        &[1, 0, 1],
+        &[0, 1],
+    );
     runs(&listed::p1_start(), &[1, 0], &[], &[], &[0]);
     runs(&listed::p1_start(), &[1, 0], &[0], &[0], &[0]);
     runs(&listed::p1_start(), &[1, 1], &[1, 0], &[1, 0], &[0, 1]);
@@ -123,6 +137,8 @@ fn comparisons_of_listed_boards() {
     compares(&listed::p9(), &[7, 0, 0, 0], None);
     compares(&listed::p9(), &[0, 1, 0, 0], Some(&[1, 0, 0]));
     compares(&listed::p9(), &[0, 0, 1, 0], Some(&[1, 0, 1, 0]));
+    compares(&listed::p4_quiet(), &[0], None);
+    compares(&listed::p4_quiet(), &[1], Some(&[0, 1, 0]));
     compares(&listed::p1_start(), &[1, 0], Some(&[0]));
     compares(&listed::p1_start(), &[0, 1], Some(&[0, 1, 0]));
     compares(&listed::equal_start(), &[1], None);

@@ -4,7 +4,7 @@ use ranthelo_tests::generator::{self, Random};
 use ranthelo_tests::library::reading::{checked_read, checked_test_part};
 use ranthelo_tests::listed::{self, spelled};
 use ranthelo_tests::reference::{
-    read, Refusal, Summary, END, FAULT, MOST_BYTES, RULE, SIZE, START, TEST,
+    read, Refusal, Summary, END, FAULT, MOST_BYTES, QUIET, RULE, SIZE, START, TEST,
 };
 
 /// Both readers agree on a sheet.
@@ -103,6 +103,23 @@ fn open_pairs_with_a_start() {
     };
     assert_eq!(agree(&starting(31)).unwrap().open_pairs, 32);
     refused(&starting(32), 12, 19 + 5 + 4);
+}
+
+#[test]
+fn quiet_and_its_refusals() {
+    let p4 = listed::p4();
+    assert_eq!(
+        agree(&listed::after_size(p4.clone(), &[QUIET]))
+            .unwrap()
+            .open_pairs,
+        1
+    );
+    refused(&listed::after_size(p4.clone(), &[QUIET, QUIET]), 3, 5);
+    refused(&[&p4[..9], &[QUIET], &p4[9..]].concat(), 3, 9);
+    refused(&[&[QUIET], &p4[..]].concat(), 3, 0);
+    refused(&listed::after_faults(p4, &[QUIET]), 3, 24);
+    assert_eq!(agree(&listed::quiet_pairs()).unwrap().open_pairs, 0);
+    assert!(agree(&[SIZE, 1, 1, 1, QUIET, END]).is_ok());
 }
 
 #[test]

@@ -47,6 +47,8 @@ fn listed_sheets() {
         ..Tables::default()
     };
     written(&p1, &listed::p1());
+    let p4_quiet = Tables::of_commands(&listed::p4_quiet());
+    assert!(p4_quiet.quiet);
     let p1_start = Tables {
         starts: vec![1],
         ..p1
@@ -67,6 +69,7 @@ fn every_buffer_of_a_listed_sheet() {
 fn refusals_come_in_order() {
     let mut tables = Tables {
         size: [17, 1, 1],
+        quiet: false,
         rules: vec![0, 9, 0],
         faults: vec![0; 9],
         starts: vec![0],

@@ -15,14 +15,18 @@ use Rattle.block.specs.declared.layout.Step.{Step}
 unfoldable pub choicesAt : List ℕ → ℕ → ℕ
 choicesAt m k = cond (eqb (siteAt m k) 255) 1 (choicesOf m (siteAt m k))
 
--- the transition of choice c at the pair k: the rule, then its faults; without a rule all outputs and next states in order; one that
--- leads into the waking state has no output of its own
+-- the output 0 and the same state (0 where the pair is none of the sheet's)
+abbrev pub stayAt : List ℕ → ℕ → Move
+stayAt m k = record { output = 0; target = cond (ltb (k / 16) (statesOf m)) (k / 16) 0 }
+
+-- the transition of choice c at the pair k: the rule, then its faults; without a rule all outputs and next states in order, or, where it is no
+-- suspect, it stays; one that leads into the waking state has no output of its own
 unfoldable pub choiceOf : List ℕ → ℕ → ℕ → Move
 choiceOf m k c =
     cond (eqb k waking)
     (record { output = 0; target = wakeAt m c })
     (cond (eqb (ruleTarget m k) 255)
-    (record { output = c / statesOf m; target = c % statesOf m })
+    (cond (eqb (siteAt m k) 255) (stayAt m k) (record { output = c / statesOf m; target = c % statesOf m }))
     (cond (eqb c 0)
     (record { output = ruleOutput m k; target = ruleTarget m k })
     (record { output = mutated m (firstFault m k + c - 1); target = diverted m (firstFault m k + c - 1) })))

@@ -1,6 +1,8 @@
 // The tables of a machine and its mutants, in one block of bytes (their places: specs/Layout.antt), and what is read from it.
 ghost use mathlib.Core.Path.{_≡_};
+ghost use mathlib.Core.Bool.{cond};
 ghost use Prim.Native.Nat.{_+_, _/_, _%_, _<_, _≤_};
+ghost use lib.Dec.{ltb};
 ghost use Rattle.block.specs.Layout.{pair, waking, ruleOutput, ruleTarget, siteAt, choicesOf, statesOf, inputsOf, slotsOf, wakeAt};
 ghost use Rattle.block.specs.Tabulated.{Wf, StepIs, choicesAt, chosen, startOf};
 
@@ -137,7 +139,7 @@ pub struct Step {
     pub target: u8,
 }
 
-// Choice c of a pair without a rule.
+// Choice c of a suspect without a rule.
 fn unruled(states: u8, c: u16) -> Step
     ensures { λ r. ⌜ (1 ≤ states → c < 256 → (r .output ≡ c / states) × (r .target ≡ c % states)) ⌝ }
 {
@@ -158,6 +160,35 @@ fn unruled(states: u8, c: u16) -> Step
         output: (c / n) as u8,
         target: (c % n) as u8,
     }
+}
+
+// The output 0 and the same state (0 where the pair is none of the sheet's).
+fn stay(states: u8, k: usize) -> Step
+    requires { ⌜ k < 256 ⌝ }
+    ensures { λ r. ⌜ (r .output ≡ 0) × (r .target ≡ cond (ltb (k / 16) states) (k / 16) 0) ⌝ }
+{
+    let s = (k / 16) as u8;
+    if s < states {
+        return Step {
+            output: 0,
+            target: s,
+        };
+    }
+    Step {
+        output: 0,
+        target: 0,
+    }
+}
+
+// Choice c of the pair k, where it has no rule: any transition if it is a suspect, else it stays (02: QUIET).
+fn unspecified(block: &[u8; BLOCK], k: usize, c: u16) -> Step
+    requires { ⌜ k < 256 ⌝ }
+    ensures { λ r. ⌜ (ruleTarget (now (block .entry)) k ≡ 255 → StepIs (now (block .entry)) k c r) ⌝ }
+{
+    if site(block, k) == 255 {
+        return stay(states(block), k);
+    }
+    unruled(states(block), c)
 }
 
 // The transition of choice c into the waking state.
@@ -186,7 +217,7 @@ pub fn transition(block: &[u8; BLOCK], k: usize, c: u16) -> Step
     }
     let target = rule_target(block, k);
     if target == 255 {
-        return unruled(states(block), c);
+        return unspecified(block, k, c);
     }
     if c == 0 {
         return Step {

@@ -2,6 +2,8 @@
 // Promises these numbers and every lent byte, by the definitions that the operations themselves cite.
 // Called from C, and from Rust by tests/ and bench/.
 ghost use mathlib.Core.Path.{_≡_};
+ghost use mathlib.Core.Bool.{not};
+ghost use lib.Dec.{eqb};
 ghost use lib.ListN.{length};
 ghost use Rattle.sheet.specs.Reading.{reading};
 ghost use Rattle.sheet.specs.Part.{parting};
@@ -83,6 +85,7 @@ pub extern "C" fn ranthelo_write(
     states: u8,
     inputs: u8,
     outputs: u8,
+    quiet: u8,
     rules: &[u8],
     faults: &[u8],
     starts: &[u8],
@@ -91,18 +94,26 @@ pub extern "C" fn ranthelo_write(
     buffer: &mut [u8],
     answer: &mut [usize; 3],
 )
-    ensures { λ r. ⌜ now (answer .exit) ≡ writtenNumbers (writtenAnswer (writing (drawing (record { states = states; inputs = inputs; outputs = outputs }) (now (rules .entry)) (now (faults .entry)) (now (starts .entry)) (now (lengths .entry)) (now (presses .entry))) (length (now (buffer .entry))))) ⌝ }
-    ensures { λ r. ⌜ now (buffer .exit) ≡ overlay (sheetWrites (writing (drawing (record { states = states; inputs = inputs; outputs = outputs }) (now (rules .entry)) (now (faults .entry)) (now (starts .entry)) (now (lengths .entry)) (now (presses .entry))) (length (now (buffer .entry))))) (now (buffer .entry)) ⌝ }
+    ensures { λ r. ⌜ now (answer .exit) ≡ writtenNumbers (writtenAnswer (writing (drawing (record { states = states; inputs = inputs; outputs = outputs }) (not (eqb quiet 0)) (now (rules .entry)) (now (faults .entry)) (now (starts .entry)) (now (lengths .entry)) (now (presses .entry))) (length (now (buffer .entry))))) ⌝ }
+    ensures { λ r. ⌜ now (buffer .exit) ≡ overlay (sheetWrites (writing (drawing (record { states = states; inputs = inputs; outputs = outputs }) (not (eqb quiet 0)) (now (rules .entry)) (now (faults .entry)) (now (starts .entry)) (now (lengths .entry)) (now (presses .entry))) (length (now (buffer .entry))))) (now (buffer .entry)) ⌝ }
 {
     let size = Size {
         states,
         inputs,
         outputs,
     };
-    tell_length(
-        writing::write(size, rules, faults, starts, lengths, presses, buffer),
-        answer,
+    let silent = quiet != 0;
+    let written = writing::write(
+        size,
+        silent,
+        rules,
+        faults,
+        starts,
+        lengths,
+        presses,
+        buffer,
     );
+    tell_length(written, answer);
 }
 
 // Write a sheet from a seed.

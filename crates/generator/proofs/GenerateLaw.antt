@@ -34,7 +34,7 @@ module _ (seed : ℕ) (z : Size) (room : ℕ) where
   module _ {p : Place} {rs rs' fs fs' : List ℕ} (w : SizeIn z) (h : 16384 ≤ room)
       (s : Standing (drafted z seed (z .states * z .inputs)) (z .states * z .inputs) p rs rs' fs fs') where
     pub written-tables : (pairs : ℕ) → pairs ≡ z .states * z .inputs
-        → writing (drawing z (take (4 * pairs) rs') (take (4 * p .faults) fs') [] [] []) room ≡ generating seed z room
+        → writing (drawing z false (take (4 * pairs) rs') (take (4 * p .faults) fs') [] [] []) room ≡ generating seed z room
     unfolding sheetFrom drawingOf joined
     written-tables pairs e =
         rw (e, s .rules .front, s .faults .front, generating-sheet w h)

@@ -1,6 +1,7 @@
 -- What a sheet from a seed is.
 use Prim.Native.Nat.{ℕ, _+_, _%_, _≤_, _<_}
 use mathlib.Core.Path.{_≡_}
+use mathlib.Core.Bool.{false}
 use mathlib.Core.Option.{some}
 use mathlib.Core.List.{List, []}
 use lib.ListN.{length, take}
@@ -25,11 +26,12 @@ pub record Faulty (z : Size) (rules : List Row) (r : Row) : Type 0 where
   pub there : ruleAt rules (r .source) (r .input) ≡ some rule
   pub is : r ≡ faultOf z rule
 
--- the bytes are an accepted sheet of this size without STARTs and tests, with a rule at every pair and at most 32 faults
+-- the bytes are an accepted sheet of this size without QUIET, STARTs and tests, with a rule at every pair and at most 32 faults
 pub record Generated (z : Size) (s : List ℕ) : Type 0 where
   pub sheet : Sheet
   pub reads : reading s ≡ accepted sheet
   pub size : sheet .size ≡ z
+  pub loud : sheet .quiet ≡ false
   pub unstarted : sheet .starts ≡ []
   pub untested : sheet .tests ≡ []
   pub ruled : (t x : ℕ) → t < z .states → x < z .inputs → Ruled z (sheet .rules) t x

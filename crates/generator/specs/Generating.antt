@@ -1,6 +1,6 @@
 -- 02's Point 4: a sheet from a seed.
 use Prim.Native.Nat.{ℕ, zero, suc, _+_, _*_, _/_, _%_, _^_}
-use mathlib.Core.Bool.{Bool, not, _&&_, cond}
+use mathlib.Core.Bool.{Bool, false, not, _&&_, cond}
 use mathlib.Core.List.{List, [], _∷_, _++_}
 use lib.Bits.{bitXor}
 use lib.Dec.{eqb, leb, ltb}
@@ -65,11 +65,11 @@ unfoldable pub drafted : Size → ℕ → ℕ → Draft
 drafted z seed zero = record { seed = seed; rules = []; faults = [] }
 drafted z seed (suc i) = withPair z (drafted z seed i) (i / z .inputs) (i % z .inputs)
 
--- all pairs, no STARTs and no tests
+-- all pairs, no QUIET, no STARTs and no tests
 unfoldable pub sheetFrom : ℕ → Size → Sheet
 sheetFrom seed z =
     let d = drafted z seed (z .states * z .inputs) in
-    record { size = z; rules = d .rules; faults = d .faults; starts = []; tests = [] }
+    record { size = z; quiet = false; rules = d .rules; faults = d .faults; starts = []; tests = [] }
 
 -- 4 for a size out of range, then 16 for a buffer below 16,384 bytes; then the sheet
 unfoldable pub generating : ℕ → Size → ℕ → Result (List ℕ)

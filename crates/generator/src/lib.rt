@@ -39,7 +39,7 @@ fn in_range(size: Size) -> bool
     false
 }
 
-// The sheet of a size in range, from the tables of its rules and faults, no STARTs and no tests.
+// The sheet of a size in range, from the tables of its rules and faults, no QUIET, no STARTs and no tests.
 fn spell(seed: u32, size: Size, buffer: &mut [u8]) -> Written
     requires { ⌜ SizeIn size ⌝ }
     requires { ⌜ 16384 ≤ length (now buffer) ⌝ }
@@ -53,6 +53,7 @@ fn spell(seed: u32, size: Size, buffer: &mut [u8]) -> Written
     let faulted = 4 * place.faults;
     writing::write(
         size,
+        false,
         &rules[..ruled],
         &faults[..faulted],
         &[],

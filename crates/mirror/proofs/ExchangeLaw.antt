@@ -46,18 +46,19 @@ below-multiple c t n z lc e l =
     rw is at (div-lt-iff-lt-mul {k = n} {x = c / n * n + t} {y = z / n} (omega arith) .0 (rw (quotient (c / n) t n l) low))
 
 pub unruled-exchange : {m : List ℕ} {a b k j : ℕ} → Wf m → k < 256 → j < 256 → a < statesOf m → b < statesOf m → ruleTarget m k ≡ 255 → ruleTarget m j ≡ 255
+    → (siteAt m k ≡ 255 → ⊥) → (siteAt m j ≡ 255 → ⊥)
     → choicesAt m k ≡ choicesAt m j → choicesAt m k % statesOf m ≡ 0 → Exchanges m a b k j
-unruled-exchange {m} {a} {b} {k} {j} wf lk lj la lb ek ej en ez = record { at = λ c lc. go c lc }
+unruled-exchange {m} {a} {b} {k} {j} wf lk lj la lb ek ej sk sj en ez = record { at = λ c lc. go c lc }
   where
-    unruled : (k : ℕ) → k < 256 → ruleTarget m k ≡ 255 → (c : ℕ) → StepIs m k c (record { output = c / statesOf m; target = c % statesOf m })
-    unruled k lk e c = is-unruled k c (statesOf m) (record { output = c / statesOf m; target = c % statesOf m }) lk e refl (λ l h. (refl, refl))
+    unruled : (k : ℕ) → k < 256 → ruleTarget m k ≡ 255 → (siteAt m k ≡ 255 → ⊥) → (c : ℕ) → StepIs m k c (record { output = c / statesOf m; target = c % statesOf m })
+    unruled k lk e s c = is-unruled k c (statesOf m) (record { output = c / statesOf m; target = c % statesOf m }) lk e s refl (λ l h. (refl, refl))
 
     go : (c : ℕ) → c < choicesAt m k → Answered m a b k j c
     go c lc =
         let lt : other a b (c % statesOf m) < statesOf m = other-low a b (c % statesOf m) (statesOf m) la lb (mod-lt c (wf .some-states)) in
         let d : ℕ = c / statesOf m * statesOf m + other a b (c % statesOf m) in
         let ld : d < choicesAt m j = rw en at (below-multiple c (other a b (c % statesOf m)) (statesOf m) (choicesAt m k) lc ez lt) in
-        answers a b wf lc (unruled k lk ek c) refl (offers wf ld (unruled j lj ej d) (quotient _ _ _ lt) (remainder _ _ _ lt))
+        answers a b wf lc (unruled k lk ek sk c) refl (offers wf ld (unruled j lj ej sj d) (quotient _ _ _ lt) (remainder _ _ _ lt))
 
 -- ---- the states that stay: 0, and where a mutant in the cube that means everything starts
 pub fixed-all : {m : List ℕ} {e r u : ℕ} → Wf m → e ≡ 1 → StartsOk m (replicate 32 4294967295) r → Joined e r u → FixedOk m u

@@ -18,7 +18,7 @@ ghost use mathlib.Core.Path.{_≡_};
 ghost use mathlib.Core.Bool.{true};
 ghost use Prim.Native.Nat.{_<_, _%_};
 ghost use lib.ListN.{length};
-ghost use Rattle.block.specs.Layout.{statesOf};
+ghost use Rattle.block.specs.Layout.{ruleTarget, siteAt, statesOf};
 ghost use Rattle.block.specs.Tabulated.{Wf, choicesAt};
 ghost use Rattle.cubes.specs.Cube.{Given};
 ghost use Rattle.mirror.specs.Mirror.{other, Each, Below, OffersStep, Answered, Exchanges, RowExchanges, Movable, FixedOk, Exchangeable, Exchanged};
@@ -126,7 +126,7 @@ fn all_answered(block: &[u8; BLOCK], k: usize, j: usize, a: u8, b: u8) -> bool
     true
 }
 
-// The same of two pairs without a rule, which have every next state with each output.
+// The same of two suspects without a rule, which have every next state with each output.
 fn unruled_alike(block: &[u8; BLOCK], k: usize, j: usize) -> bool
     requires { ⌜ Wf (now block) × (k < 256) × (j < 256) ⌝ }
     ensures { λ r. ⌜ (r ≡ true → (choicesAt (now (block .entry)) k ≡ choicesAt (now (block .entry)) j) × (choicesAt (now (block .entry)) k % statesOf (now (block .entry)) ≡ 0)) ⌝ }
@@ -138,14 +138,25 @@ fn unruled_alike(block: &[u8; BLOCK], k: usize, j: usize) -> bool
     c % (states(block) as u16) == 0
 }
 
+// Whether a pair is a suspect without a rule.
+fn is_free(block: &[u8; BLOCK], k: usize) -> bool
+    requires { ⌜ k < 256 ⌝ }
+    ensures { λ r. ⌜ (r ≡ true → (ruleTarget (now (block .entry)) k ≡ 255) × (siteAt (now (block .entry)) k ≡ 255 → ⊥)) ⌝ }
+{
+    if site(block, k) == 255 {
+        return false;
+    }
+    rule_target(block, k) == 255
+}
+
 fn pair_exchanges(block: &[u8; BLOCK], k: usize, j: usize, a: u8, b: u8) -> bool
     requires { ⌜ Wf (now block) × (k < 256) × (j < 256) × (a < statesOf (now block)) × (b < statesOf (now block)) ⌝ }
     ensures { λ r. ⌜ (r ≡ true → Exchanges (now (block .entry)) a b k j) ⌝ }
 {
-    if rule_target(block, k) != 255 {
+    if !is_free(block, k) {
         return all_answered(block, k, j, a, b);
     }
-    if rule_target(block, j) != 255 {
+    if !is_free(block, j) {
         return false;
     }
     unruled_alike(block, k, j)

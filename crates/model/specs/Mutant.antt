@@ -17,14 +17,20 @@ moveOf r = record { output = r .output; target = r .target }
 unfoldable pub rule : Sheet → ℕ → ℕ → Option Move
 rule sh s x = maybe (ruleAt (sh .rules) s x) none (λ r. some (moveOf r))
 
--- the transitions of a pair without a rule: all outputs and next states, ascending by output and then by next state
-unfoldable pub unruled : Sheet → List Move
-unruled sh =
-    joined (λ o. map (λ t. record { output = o; target = t }) (upTo (sh .size .states))) (upTo (sh .size .outputs))
+-- the output 0, and the same state
+abbrev pub stay : ℕ → Move
+stay s = record { output = 0; target = s }
+
+-- the transitions of a state and an input without a rule: all outputs and next states, ascending by output and then by next state; on a
+-- quiet sheet (02) it stays
+unfoldable pub unruled : Sheet → ℕ → List Move
+unruled sh s =
+    let all : List Move = joined (λ o. map (λ t. record { output = o; target = t }) (upTo (sh .size .states))) (upTo (sh .size .outputs)) in
+    cond (sh .quiet) (stay s ∷ []) all
 
 -- the transitions of a state and an input, in 01's order of choices: the rule, then its faults
 unfoldable pub transitions : Sheet → ℕ → ℕ → List Move
-transitions sh s x = maybe (ruleAt (sh .rules) s x) (unruled sh) (λ r. moveOf r ∷ map moveOf (rowsAt (sh .faults) s x))
+transitions sh s x = maybe (ruleAt (sh .rules) s x) (unruled sh s) (λ r. moveOf r ∷ map moveOf (rowsAt (sh .faults) s x))
 
 -- a state and an input with two or more transitions (01: open pair)
 pub record Suspect : Type 0 where

@@ -1,7 +1,7 @@
 -- At END: open pairs and reachable states.
 use Prim.Native.Nat.{ℕ, zero, suc, _+_, _*_, _<_, _≤_}
 use mathlib.Core.Path.{_≡_, refl, ap, sym, _∙_}
-use mathlib.Core.Bool.{Bool, true, false, _||_, _&&_}
+use mathlib.Core.Bool.{Bool, true, false, _||_, _&&_, cond}
 use mathlib.Core.Option.{Option, none, some}
 use mathlib.Core.List.{List, [], _∷_}
 use native.Mathlib.Nat.{mul-le-mul}
@@ -13,15 +13,21 @@ use lib.Seq.{getD-set-same, getD-set-other}
 use borrow.Author.Tests.{lt-ltb, le-ltb, eq-eqb, ne-eqb, eqb-true, eqb-false}
 use Rattle.sheet.specs.declared.Row.{Row}
 use Rattle.sheet.specs.declared.Size.{Size}
+use Rattle.sheet.specs.declared.rules.State.{State}
 use Rattle.sheet.specs.declared.finish.End.the-variants.{Accepted, Refused}
 use Rattle.lists.specs.Lists.{maybe, last, any, all, count}
 use Rattle.sheet.specs.Sheet.{Sheet, rowsAt, ruleAt, leads, reachedWithin, allReached, unruledChoices, choicesAt, isOpen, openBelow, openPairs, wakingSlots, openSlots}
-use Rattle.sheet.specs.Reading.{firstBroken, finishing}
-use Rattle.sheet.specs.words.Held.{Within16, Digits, placeOf, nextKey, ruleTarget, present, Leads, Marks, Follows, Linked, StartsHold, markOf, endOf}
+use Rattle.sheet.specs.Reading.{Progress, firstBroken, finishing}
+use Rattle.sheet.specs.words.Held.{Within16, Digits, placeOf, nextKey, ruleTarget, present, Leads, Marks, Follows, Linked, StartsHold, Holds, markOf, endOf}
 use Rattle.lists.specs.laws.TestLaw.{never, both, or-right, and-both}
 use Rattle.sheet.specs.laws.ReachedLaw.{some-any, all-early}
 use Rattle.sheet.specs.laws.WakingLaw.{no-choice, a-choice}
 use Rattle.sheet.proofs.RowTableLaw.{If, rule-digits}
+
+-- the choices of a pair without a rule
+pub unruled-by : (sh : Sheet) (z : Size) (q : Bool) → z ≡ sh .size → q ≡ sh .quiet → cond q 1 (z .outputs * z .states) ≡ unruledChoices sh
+unfolding unruledChoices
+unruled-by sh z q e f = rw (e, f)
 
 pub few-pairs : (z : Size) → Within16 z → z .outputs * z .states ≤ 256
 few-pairs z h = mul-le-mul (h .outputs) (h .states)
@@ -54,18 +60,18 @@ open-none : (o : Option Row) (rows : List Row) (n : ℕ) → If Digits o → 16 
 open-none none rows n d h = refl
 open-none (some r) rows n d h = absurd (omega (arith, d .target))
 
-module _ (z : Size) (ts ms : List ℕ) (sh : Sheet) (s x : ℕ) (hs : s < 16) (hx : x < 16) (h : Linked z ts ms sh) where
+module _ (unruled : Bool) (ts ms : List ℕ) (sh : Sheet) (s x : ℕ) (hs : s < 16) (hx : x < 16) (h : Linked unruled ts ms sh) where
   pub open-rule : getD ts (placeOf s x) 0 < 16 → eqb (getD ms (placeOf s x) 0) 1 ≡ isOpen sh s x
   unfolding isOpen choicesAt
   open-rule v =
       ap (λ (n : ℕ). eqb n 1) (h .faulty .at s x hs hx)
       ∙ open-some (ruleAt (sh .rules) s x) (rowsAt (sh .faults) s x) (unruledChoices sh) (omega (arith, h .leads .table .at s x hs hx))
 
-  pub open-free : 16 ≤ getD ts (placeOf s x) 0 → ltb 1 (z .outputs * z .states) ≡ isOpen sh s x
-  unfolding isOpen choicesAt unruledChoices
+  pub open-free : 16 ≤ getD ts (placeOf s x) 0 → unruled ≡ isOpen sh s x
+  unfolding isOpen choicesAt
   open-free v =
-      ap (λ (z : Size). ltb 1 (z .outputs * z .states)) (h .size)
-      ∙ open-none (ruleAt (sh .rules) s x) (rowsAt (sh .faults) s x) (sh .size .outputs * sh .size .states) (rule-digits (sh .rules) s x (h .leads .digits))
+      h .unruled-is
+      ∙ open-none (ruleAt (sh .rules) s x) (rowsAt (sh .faults) s x) (unruledChoices sh) (rule-digits (sh .rules) s x (h .leads .digits))
       (omega (arith, h .leads .table .at s x hs hx))
 
 pub count-yes : (p : ℕ → Bool) (x n : ℕ) → p x ≡ true → n ≡ count p x → n + 1 ≡ count p (x + 1)
@@ -225,6 +231,19 @@ all-stop g i (suc n) h e = go (eqb i n) refl (all-stop g i n)
 open-more : (sh : Sheet) (s n r : ℕ) → n ≡ openBelow sh s → r ≡ count (isOpen sh s) (sh .size .inputs) → n + r ≡ openBelow sh (s + 1)
 unfolding openBelow
 open-more sh s n r e f = rw (add-one s, e, f)
+
+-- what END looks at
+pub linked : {c : State} {os ts ms : List ℕ} {p : Progress} (n : ℕ) → n ≡ cond (eqb (c .quiet) 1) 1 (c .size .outputs * c .size .states) → Holds c os ts ms p
+    → Linked (ltb 1 n) ts ms (p .sheet)
+linked {c} {p = p} n e h = record {
+  unruled-is = ap (ltb 1) (e ∙ unruled-by (p .sheet) (c .size) (eqb (c .quiet) 1) (h .size) (rw (h .quiet) (marked (p .sheet .quiet))));
+  leads = h .rules .targets;
+  faulty = h .faults .marks;
+}
+  where
+    marked : (b : Bool) → eqb (markOf b) 1 ≡ b
+    marked true = refl
+    marked false = refl
 
 -- where a mutant wakes, then the pairs
 module _ (sh : Sheet) where

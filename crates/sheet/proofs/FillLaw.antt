@@ -11,7 +11,6 @@ use lib.ListN.{length, getD, set, take, drop, replicate, length-set, length-appe
 use lib.Seq.{getD-set-same, getD-set-other, getD-append-seam, getD-drop, drop-drop, drop-cons, take-suc, length-take-le, take-length, ext-getD}
 use borrow.Author.Tests.{lt-ltb, le-ltb, ltb-true, ltb-false, ne-eqb, eqb-true, eqb-false}
 use Rattle.sheet.specs.declared.Row.{Row}
-use Rattle.sheet.specs.declared.Size.{Size}
 use Rattle.sheet.specs.declared.Span.{Span}
 use Rattle.sheet.specs.declared.fetch.Item.{Item}
 use Rattle.sheet.specs.declared.fetch.Fetched.{Fetched}
@@ -249,25 +248,24 @@ choicesBy sh i = choicesAt sh (i / 16) (i % 16)
 abbrev pub faultsBy : Sheet → ℕ → ℕ
 faultsBy sh i = length (rowsAt (sh .faults) (i / 16) (i % 16))
 
-pub counting-start : (z : Size) (ts cs : List ℕ) (sh : Sheet) → Countable z ts cs sh → Table 256 cs (partly (choicesBy sh) (faultsBy sh) 0)
-counting-start z ts cs sh h = table-same (partly (choicesBy sh) (faultsBy sh) 0) (pair-table (h .counts-are)) (λ i k. sym (rw (le-ltb i 0 (omega arith))))
+pub counting-start : (u : ℕ) (ts cs : List ℕ) (sh : Sheet) → Countable u ts cs sh → Table 256 cs (partly (choicesBy sh) (faultsBy sh) 0)
+counting-start u ts cs sh h = table-same (partly (choicesBy sh) (faultsBy sh) 0) (pair-table (h .counts-are)) (λ i k. sym (rw (le-ltb i 0 (omega arith))))
 
 choices-by : (o : Option Row) (n u v : ℕ) → If Digits o → v ≡ ruleTarget o → cond (ltb v 16) (n + 1) u ≡ maybe o u (λ r. suc n)
 choices-by none n u v d e = rw e
 choices-by (some r) n u v d e = rw (lt-ltb v 16 (omega (arith, d .target))) (add-one n)
 
-module _ (z : Size) (ts cs₀ : List ℕ) (sh : Sheet) (h : Countable z ts cs₀ sh) (p : ℕ) (k : p < 256) where
+module _ (u : ℕ) (ts cs₀ : List ℕ) (sh : Sheet) (h : Countable u ts cs₀ sh) (p : ℕ) (k : p < 256) where
   pub faults-here : {cs : List ℕ} → Table 256 cs (partly (choicesBy sh) (faultsBy sh) p) → getD cs p 0 ≤ 256
   faults-here t = omega (arith, partly-here (choicesBy sh) (faultsBy sh) p k t, rows-few (sh .faults) (p / 16) (p % 16), h .few)
 
-  pub counting-next : {cs : List ℕ} (v u : ℕ) → u ≡ z .outputs * z .states → v ≡ cond (ltb (getD ts p 0) 16) (getD cs p 0 + 1) u
+  pub counting-next : {cs : List ℕ} (v : ℕ) → v ≡ cond (ltb (getD ts p 0) 16) (getD cs p 0 + 1) u
       → Table 256 cs (partly (choicesBy sh) (faultsBy sh) p) → Table 256 (set cs p v) (partly (choicesBy sh) (faultsBy sh) (p + 1))
-  unfolding choicesAt unruledChoices
-  counting-next {cs} v u eu ev t =
+  unfolding choicesAt
+  counting-next {cs} v ev t =
       let n = partly-here (choicesBy sh) (faultsBy sh) p k t in
-      let w : u ≡ sh .size .outputs * sh .size .states = eu ∙ ap (λ (z : Size). z .outputs * z .states) (h .size) in
       let e : v ≡ choicesBy sh p =
-      ev ∙ (rw (n, w) (choices-by (ruleAt (sh .rules) (p / 16) (p % 16)) (faultsBy sh p) (sh .size .outputs * sh .size .states) (getD ts p 0)
+      ev ∙ (rw (n, h .unruled-is) (choices-by (ruleAt (sh .rules) (p / 16) (p % 16)) (faultsBy sh p) (unruledChoices sh) (getD ts p 0)
       (rule-digits (sh .rules) (p / 16) (p % 16) (h .leads .digits)) (pair-table (h .leads .table) .at p k))) in
       partly-next (choicesBy sh) (faultsBy sh) p v k t e
 

@@ -1,5 +1,5 @@
 -- All tables of an accepted sheet.
-use Prim.Native.Nat.{ℕ, _+_, _<_}
+use Prim.Native.Nat.{ℕ, _+_, _*_, _<_}
 use mathlib.Core.Path.{_≡_, refl, ap, sym, _∙_, subst}
 use mathlib.Core.Bool.{Bool, true, false, cond}
 use mathlib.Core.List.{List, [], _∷_}
@@ -22,6 +22,7 @@ use Rattle.sheet.specs.Part.{spanOf}
 use Rattle.sheet.specs.Tables.{readAnswer, tablesOf, blankTables, loadedOf}
 use Rattle.sheet.specs.words.Held.{Within16, ruleOutput, ByPair, Leads, HeldOf, Scanned}
 use Rattle.sheet.specs.words.Places.{spanFrom, LaidOut, Table, FaultTables, TestTables, sizeIn, Countable, Fillable}
+use Rattle.sheet.proofs.EndLaw.{unruled-by}
 use Rattle.sheet.proofs.SpanLaw.{told, tests-are, size-is, formed, same-span}
 use Rattle.sheet.proofs.FillLaw.{table-is, pair-table, table-same, choicesBy}
 
@@ -31,8 +32,9 @@ module _ (s : List ℕ) (m : Summary) (os ts : List ℕ) (sh : Sheet) (h : Filla
       let k = formed (h .told) .size in
       rw (size-is (h .told)) (record { states = k .states .few; inputs = k .inputs .few; outputs = k .outputs .few })
 
-  pub countable : (cs fs ms ds : List ℕ) → FaultTables cs fs ms ds (sh .faults) → Countable (sizeIn m) ts cs sh
-  countable cs fs ms ds t = record { size = size-is (h .told); leads = h .leads; counts-are = t .counts-are; few = formed (h .told) .few-faults }
+  pub countable : (l : Layout) → LaidOut s sh l → (u : ℕ) → u ≡ cond (l .quiet) 1 (m .outputs * m .states)
+      → (cs fs ms ds : List ℕ) → FaultTables cs fs ms ds (sh .faults) → Countable u ts cs sh
+  countable l p u e cs fs ms ds t = record { unruled-is = e ∙ unruled-by sh (sizeIn m) (l .quiet) (size-is (h .told)) (p .quiet); leads = h .leads; counts-are = t .counts-are; few = formed (h .told) .few-faults }
 
   starts-by : (l : Layout) → LaidOut s sh l → (i : ℕ) → i < 256 → cond (ltb i (m .tests)) (spanFrom (l .tests) (sh .tests) i .start) 0
       ≡ cond (ltb i (length (sh .tests))) (spanOf sh i .start) 0
@@ -56,6 +58,7 @@ module _ (s : List ℕ) (m : Summary) (os ts : List ℕ) (sh : Sheet) (h : Filla
         diverted = ds;
         wakings = ws;
         waking = l .waking + 1;
+        quiet = l .quiet;
         starts = ss;
         lengths = ls;
       }) (tablesOf sh)
@@ -80,6 +83,7 @@ module _ (s : List ℕ) (m : Summary) (os ts : List ℕ) (sh : Sheet) (h : Filla
         diverted = v i;
         wakings = z i;
         waking = n i;
+        quiet = p .quiet i;
         starts = w i;
         lengths = x i;
       }

@@ -6,10 +6,10 @@ use mathlib.Core.List.{List, [], _∷_, _++_, append-assoc}
 use native.Mathlib.Nat.{add-zero}
 use native.Mathlib.Numerals.{add-one}
 use native.Mathlib.Omega.{arith}
-use lib.Dec.{leb, ltb}
+use lib.Dec.{leb, ltb, eqb}
 use lib.ListN.{length, getD, take, drop, length-append, length-drop}
 use lib.Seq.{getD-drop, drop-drop, drop-at, drop-cons, take-suc}
-use borrow.Author.Tests.{lt-ltb, le-leb, leb-true}
+use borrow.Author.Tests.{lt-ltb, le-leb, leb-true, eq-eqb, ne-eqb}
 use Rattle.sheet.specs.declared.Row.{Row}
 use Rattle.sheet.specs.declared.Size.{Size}
 use Rattle.sheet.specs.declared.Span.{Span}
@@ -19,11 +19,11 @@ use Rattle.sheet.specs.declared.fetch.Taken.the-variants.{Whole, Short, 
 use Rattle.sheet.specs.declared.fetch.Fetched.{Fetched}
 use Rattle.sheet.specs.Sheet.{Sheet}
 use Rattle.sheet.specs.Reading.{width}
-use Rattle.sheet.specs.Encode.{sizeBytes, rowBytes, operandBytes, startBytes, pressBytes, testBytes, machineBytes, body, encode}
-use Rattle.sheet.specs.laws.InjectiveLaw.{encode-parts}
+use Rattle.sheet.specs.Encode.{sizeBytes, quietBytes, rowBytes, operandBytes, startBytes, pressBytes, testBytes, machineBytes, encode}
+use Rattle.sheet.specs.laws.InjectiveLaw.{Else, tests-else, testsOn, startsOn, faultsOn, rulesOn, encode-parts, rules-else}
 use Rattle.sheet.specs.laws.PartLaw.{operands-length, presses-length}
 use Rattle.sheet.specs.words.Fetch.{itemAt, fetchBy, fetchAt, itemIn}
-use Rattle.sheet.specs.words.Places.{Calm, OperandsFrom, TestAt, spanFrom}
+use Rattle.sheet.specs.words.Places.{OperandsFrom, TestAt, spanFrom}
 use Rattle.sheet.proofs.FetchLaw.{WholeAt, fetched-whole}
 
 -- what is fetched where a command stands
@@ -68,7 +68,7 @@ pub record Left (s : List ℕ) (b : ℕ) (xs rest : List ℕ) (n at : ℕ) : Typ
 pub left-start : {s xs rest : List ℕ} {b : ℕ} (at : ℕ) → drop at s ≡ operandBytes b xs ++ rest → Left s b xs rest 0 at
 left-start {s} {xs} at e = record { more = xs; sum = omega arith; bytes = e }
 
-module _ (s : List ℕ) (b : ℕ) (xs rest : List ℕ) (calm : Calm b rest) (n at : ℕ) where
+module _ (s : List ℕ) (b : ℕ) (xs rest : List ℕ) (calm : Else b rest) (n at : ℕ) where
   onward : (ys : List ℕ) → n + length ys ≡ length xs → drop at s ≡ operandBytes b ys ++ rest → getD s at 0 ≡ b → Left s b xs rest (n + 1) (at + 2)
   unfolding operandBytes
   onward [] p d e = absurd (calm (sym (byte-at s at rest d) ∙ e))
@@ -105,17 +105,6 @@ test-is s at n f e p = record {
       rw (p .counted xs rest b calm, a);
 }
 
--- no PRESS and no START stands where tests begin
-pub calm-tests : (l : List (List ℕ)) → Calm 5 (testBytes l ++ 6 ∷ [])
-unfolding testBytes
-calm-tests [] e = omega arith
-calm-tests (xs ∷ l) e = omega arith
-
-pub calm-starts : (l : List (List ℕ)) → Calm 7 (testBytes l ++ 6 ∷ [])
-unfolding testBytes
-calm-starts [] e = omega arith
-calm-starts (xs ∷ l) e = omega arith
-
 -- the tests from the jth on
 split-test : (l : List (List ℕ)) (j : ℕ) → j < length l
     → testBytes (drop j l) ++ 6 ∷ [] ≡ 4 ∷ (pressBytes (getD l j []) ++ (testBytes (drop (j + 1) l) ++ 6 ∷ []))
@@ -145,12 +134,12 @@ module _ (s : List ℕ) (place : ℕ) (l : List (List ℕ)) (j at : ℕ) (h : j 
 
   pub place-found : (r : Span) → TestAt s at r → r ≡ spanFrom place l j
   place-found r t =
-      t .found (getD l j []) (testBytes (drop (j + 1) l) ++ 6 ∷ []) here (calm-tests (drop (j + 1) l))
+      t .found (getD l j []) (testBytes (drop (j + 1) l) ++ 6 ∷ []) here (tests-else 5 (drop (j + 1) l) refl refl)
       ∙ ap (λ (n : ℕ). record { start = n + 1; length = 2 * length (getD l j []) }) (p .is)
 
   pub place-next : (r : Span) → TestAt s at r → TestPlace s place l (j + 1) (r .start + r .length)
   place-next r t =
-      let e = t .found (getD l j []) (testBytes (drop (j + 1) l) ++ 6 ∷ []) here (calm-tests (drop (j + 1) l)) in
+      let e = t .found (getD l j []) (testBytes (drop (j + 1) l) ++ 6 ∷ []) here (tests-else 5 (drop (j + 1) l) refl refl) in
       let a : r .start + r .length ≡ at + (1 + 2 * length (getD l j [])) = ap (λ (r : Span). r .start + r .length) e ∙ omega arith in
       record {
         is = omega (arith, a, p .is, tests-suc l j h);
@@ -168,32 +157,47 @@ pub size-length : (z : Size) → length (sizeBytes z) ≡ 4
 unfolding sizeBytes
 size-length z = refl
 
--- where they start
+-- where the RULEs start, and the parts after them
 module _ (sh : Sheet) where
-  abbrev pub testsOn : List ℕ
-  testsOn = testBytes (sh .tests) ++ 6 ∷ []
+  abbrev pub rulesAt : ℕ
+  rulesAt = 4 + length (quietBytes (sh .quiet))
 
-  abbrev pub startsOn : List ℕ
-  startsOn = startBytes (sh .starts) ++ testsOn
+  rules-from : drop rulesAt (encode sh) ≡ rulesOn sh
+  rules-from =
+      rw (encode-parts sh, ← append-assoc (sizeBytes (sh .size)) (quietBytes (sh .quiet)) (rulesOn sh))
+      (drop-at (sizeBytes (sh .size) ++ quietBytes (sh .quiet)) (rulesOn sh) rulesAt (simp length-append (omega (arith, size-length (sh .size)))))
 
-  pub faults-from : drop (4 + 5 * length (sh .rules)) (encode sh) ≡ rowBytes 3 (sh .faults) ++ startsOn
+  pub faults-from : drop (rulesAt + 5 * length (sh .rules)) (encode sh) ≡ faultsOn sh
   faults-from =
-      rw (encode-parts sh, ← append-assoc (sizeBytes (sh .size)) (rowBytes 2 (sh .rules)) (rowBytes 3 (sh .faults) ++ startsOn))
-      (drop-at (sizeBytes (sh .size) ++ rowBytes 2 (sh .rules)) (rowBytes 3 (sh .faults) ++ startsOn) (4 + 5 * length (sh .rules))
-      (simp length-append (omega (arith, size-length (sh .size), row-length 2 (sh .rules)))))
+      sym (drop-drop (5 * length (sh .rules)) rulesAt (encode sh)) ∙ ap (drop (5 * length (sh .rules))) rules-from
+      ∙ drop-at (rowBytes 2 (sh .rules)) (faultsOn sh) (5 * length (sh .rules)) (row-length 2 (sh .rules))
 
-  pub starts-from : drop (4 + 5 * length (sh .rules) + 5 * length (sh .faults)) (encode sh) ≡ startsOn
+  pub starts-from : drop (rulesAt + 5 * length (sh .rules) + 5 * length (sh .faults)) (encode sh) ≡ startsOn sh
   starts-from =
-      sym (drop-drop (5 * length (sh .faults)) (4 + 5 * length (sh .rules)) (encode sh)) ∙ ap (drop (5 * length (sh .faults))) faults-from
-      ∙ drop-at (rowBytes 3 (sh .faults)) startsOn (5 * length (sh .faults)) (row-length 3 (sh .faults))
+      sym (drop-drop (5 * length (sh .faults)) (rulesAt + 5 * length (sh .rules)) (encode sh)) ∙ ap (drop (5 * length (sh .faults))) faults-from
+      ∙ drop-at (rowBytes 3 (sh .faults)) (startsOn sh) (5 * length (sh .faults)) (row-length 3 (sh .faults))
 
-  pub tests-from : drop (4 + 5 * length (sh .rules) + 5 * length (sh .faults) + 2 * length (sh .starts)) (encode sh) ≡ testsOn
+  pub tests-from : drop (rulesAt + 5 * length (sh .rules) + 5 * length (sh .faults) + 2 * length (sh .starts)) (encode sh) ≡ testsOn sh
   tests-from =
-      sym (drop-drop (2 * length (sh .starts)) (4 + 5 * length (sh .rules) + 5 * length (sh .faults)) (encode sh))
+      sym (drop-drop (2 * length (sh .starts)) (rulesAt + 5 * length (sh .rules) + 5 * length (sh .faults)) (encode sh))
       ∙ ap (drop (2 * length (sh .starts))) starts-from
-      ∙ drop-at (startBytes (sh .starts)) testsOn (2 * length (sh .starts)) (operands-length 7 (sh .starts))
+      ∙ drop-at (startBytes (sh .starts)) (testsOn sh) (2 * length (sh .starts)) (operands-length 7 (sh .starts))
 
-  pub machine-length : length (machineBytes sh) ≡ 4 + 5 * length (sh .rules) + 5 * length (sh .faults) + 2 * length (sh .starts)
+  pub machine-length : length (machineBytes sh) ≡ rulesAt + 5 * length (sh .rules) + 5 * length (sh .faults) + 2 * length (sh .starts)
   unfolding machineBytes
   machine-length =
       simp length-append (omega (arith, size-length (sh .size), row-length 2 (sh .rules), row-length 3 (sh .faults), operands-length 7 (sh .starts)))
+
+  -- what stands after SIZE tells whether the sheet is quiet
+  after-size : drop 4 (encode sh) ≡ quietBytes (sh .quiet) ++ rulesOn sh
+  after-size = ap (drop 4) (encode-parts sh) ∙ drop-at (sizeBytes (sh .size)) (quietBytes (sh .quiet) ++ rulesOn sh) 4 (size-length (sh .size))
+
+pub quiet-fetched : (sh : Sheet) (s : List ℕ) → encode sh ≡ s → (f : Fetched) (i : Item) → f ≡ fetchAt s 4 → i ≡ itemIn (f .taken) → eqb (i .byte) 8 ≡ sh .quiet
+unfolding quietBytes
+quiet-fetched sh s e f i ef ei = one (sh .quiet) (rw e at (after-size sh))
+  where
+    one : (q : Bool) → drop 4 s ≡ quietBytes q ++ rulesOn sh → eqb (i .byte) 8 ≡ q
+    one true d = eq-eqb (i .byte) 8 (ap (λ (x : Item). x .byte) (ei ∙ ap (λ (x : Fetched). itemIn (x .taken)) (ef ∙ fetch-there s 4 8 (rulesOn sh) d (omega arith))))
+    one false d = ne-eqb (i .byte) 8 (λ q.
+        let w = taken-whole s 4 f i ef ei (omega arith) in
+        rules-else sh (sym (byte-at s 4 (rulesOn sh) d) ∙ sym (w .byte) ∙ q))

@@ -19,11 +19,12 @@ use Rattle.lists.specs.Lists.{last}
 use Rattle.sheet.specs.Sheet.{Sheet, rowsAt, ruleAt, after, allReached, openSlots}
 use Rattle.sheet.specs.Reading.{Progress, Reading, accepted, refused, Outcome, go, stop, lastTest, firstBroken, refuseOr, finishing, oneCommand, from, blank, reading, summaryOf}
 use Rattle.sheet.specs.Tables.{readAnswer}
-use Rattle.sheet.specs.words.Held.{placeOf, Holds, Linked, endOf, HeldOf, HeldFor, Meets, Scanned}
+use Rattle.sheet.specs.words.Held.{placeOf, Holds, endOf, HeldOf, HeldFor, Meets, Scanned}
 
 pub fresh-holds : Holds (record {
   phase = 0;
   size = record { states = 0; inputs = 0; outputs = 0 };
+  quiet = 0;
   rules = record { count = 0; key = 0 };
   faults = record { count = 0; key = 0 };
   starts = 0;
@@ -33,6 +34,7 @@ unfolding blank rowsAt ruleAt last after lastTest
 fresh-holds = record {
   phase = refl;
   size = refl;
+  quiet = refl;
   bounds = record { states = omega arith; inputs = omega arith; outputs = omega arith };
   rules = record {
     count = refl;
@@ -55,11 +57,8 @@ fresh-holds = record {
   };
   starts = record { key = refl; most = omega arith };
   tests = record { count = refl; most = omega arith; inputs = refl; most-inputs = omega arith; state = refl; digit = omega arith };
-  ordered = record { rules = λ _. refl; faults = λ _. refl; starts = λ _. refl; tests = λ _. refl; begun = λ k. absurd (omega arith) };
+  ordered = record { quiet = λ _. refl; rules = λ _. refl; faults = λ _. refl; starts = λ _. refl; tests = λ _. refl; begun = λ k. absurd (omega arith) };
 }
-
-pub linked : {c : State} {os ts ms : List ℕ} {p : Progress} → Holds c os ts ms p → Linked (c .size) ts ms (p .sheet)
-linked h = record { size = h .size; leads = h .rules .targets; faulty = h .faults .marks }
 
 held : {c : State} {os ts ms : List ℕ} {p : Progress} → Holds c os ts ms p → HeldOf c os ts ms (p .sheet)
 held {p} h = record { progress = p; same = refl; holds = h }

@@ -2,7 +2,7 @@
 use Prim.Native.Nat.{ℕ, zero, suc, _+_, _*_, _-_, _<_, _≤_}
 use mathlib.Core.Path.{_≡_, refl, ap, sym, _∙_, ap₂}
 use mathlib.Core.Bool.{Bool, true, false, cond}
-use mathlib.Core.List.{List, [], _∷_, _++_}
+use mathlib.Core.List.{List, [], _∷_}
 use native.Mathlib.Omega.{arith}
 use lib.Dec.{leb}
 use lib.ListN.{length, getD, take, drop, length-append, length-drop}
@@ -16,7 +16,7 @@ use Rattle.sheet.specs.declared.Parting.{Parting as PartAnswer}
 use Rattle.sheet.specs.declared.Parting.the-variants as part
 use Rattle.sheet.specs.Sheet.{Sheet}
 use Rattle.sheet.specs.Reading.{Result, Reading, accepted, refused, reading, summaryOf}
-use Rattle.sheet.specs.Encode.{testBytes, machineBytes, body, encode}
+use Rattle.sheet.specs.Encode.{quietBytes, testBytes, machineBytes, body, encode}
 use Rattle.sheet.specs.Part.{spanOf, spanIn, parting, partOf, LiesIn}
 use Rattle.sheet.specs.Tables.{readAnswer, partAnswer}
 use Rattle.sheet.specs.declared.Row.{Row}
@@ -27,9 +27,10 @@ use Rattle.sheet.specs.words.Held.{Digits}
 use Rattle.sheet.specs.words.Places.{spanFrom, OperandsFrom, TestFrom, Told, LaidOut, sizeIn}
 use Rattle.sheet.specs.laws.EncodedLaw.{encoded}
 use Rattle.sheet.specs.laws.AcceptedLaw.{well-formed, short-enough}
+use Rattle.sheet.specs.laws.InjectiveLaw.{tests-else, testsOn, startsOn}
 use Rattle.sheet.specs.laws.WakingLaw.{few-starts}
 use Rattle.sheet.proofs.RowTableLaw.{all-map}
-use Rattle.sheet.proofs.PlaceLaw.{calm-starts, testsOn, startsOn, faults-from, starts-from, tests-from, machine-length, tests-suc}
+use Rattle.sheet.proofs.PlaceLaw.{rulesAt, faults-from, starts-from, tests-from, machine-length, tests-suc}
 
 accepted-as : (d : Reading) (summary : Summary) → read.Accepted summary ≡ readAnswer d → (sh : Sheet) × (d ≡ accepted sh) × (summary ≡ summaryOf sh)
 accepted-as (accepted sh) summary e = (sh, refl, cc)
@@ -41,6 +42,9 @@ told s r summary e a = go (accepted-as (reading s) summary (sym a ∙ e))
   where
     go : (sh : Sheet) × (reading s ≡ accepted sh) × (summary ≡ summaryOf sh) → (sh : Sheet) × Told s summary sh
     go t = (t .0, record { is = t .1; same = t .2 })
+
+pub rules-start : (sh : Sheet) (q : Bool) → q ≡ sh .quiet → 4 + length (quietBytes q) ≡ rulesAt sh
+rules-start sh q e = rw e
 
 row-digits : (z : Size) → SizeIn z → (r : Row) → RowIn z r → Digits r
 row-digits z h r i =
@@ -69,39 +73,43 @@ module _ {s : List ℕ} {m : Summary} {sh : Sheet} (h : Told s m sh) where
   pub formed : WellFormed sh
   formed = well-formed s sh (h .is)
 
-  starts-at : drop (4 + 5 * m .rules + 5 * m .faults) s ≡ startsOn sh
-  starts-at = rw (rules-are, faults-are, ← encoded s sh (h .is)) (starts-from sh)
+  -- a place of the code is that of the sheet
+  module _ (r : ℕ) (e : r ≡ rulesAt sh) where
+    starts-at : drop (r + 5 * m .rules + 5 * m .faults) s ≡ startsOn sh
+    starts-at = rw (e, rules-are, faults-are, ← encoded s sh (h .is)) (starts-from sh)
 
-  -- the STARTs begin within the sheet, which is short
-  pub starts-room : (4 + 5 * m .rules + 5 * m .faults ≤ length s) × (length s ≤ 16384)
-  starts-room =
-      let k : length s - (4 + 5 * m .rules + 5 * m .faults) ≡ length (startsOn sh) = sym (length-drop (4 + 5 * m .rules + 5 * m .faults) s) ∙ ap length starts-at in
-      let some : 1 ≤ length (startsOn sh) = simp length-append (omega arith) in
-      (omega arith, short-enough s sh (h .is))
+    -- the STARTs begin within the sheet, which is short
+    pub starts-room : (r + 5 * m .rules + 5 * m .faults ≤ length s) × (length s ≤ 16384)
+    starts-room =
+        let k : length s - (r + 5 * m .rules + 5 * m .faults) ≡ length (startsOn sh) = sym (length-drop (r + 5 * m .rules + 5 * m .faults) s) ∙ ap length starts-at in
+        let some : 1 ≤ length (startsOn sh) = simp length-append (omega arith) in
+        (omega arith, short-enough s sh (h .is))
 
-  pub laid-out : (n : ℕ) → OperandsFrom s 7 (4 + 5 * m .rules + 5 * m .faults) n
-      → LaidOut s sh (record {
-        faults = 4 + 5 * m .rules;
-        starts = 4 + 5 * m .rules + 5 * m .faults;
-        waking = n;
-        tests = 4 + 5 * m .rules + 5 * m .faults + 2 * n;
-      })
-  laid-out n o =
-      let w = formed in
-      let e = encoded s sh (h .is) in
-      let many : n ≡ length (sh .starts) = o .counted (sh .starts) (testsOn sh) starts-at (calm-starts (sh .tests)) in
-      record {
-        faults = record {
-          rest = startsOn sh;
-          bytes = rw (rules-are, ← e) (faults-from sh);
-          digits = all-map (RowIn (sh .size)) Digits (row-digits (sh .size) (w .size)) (sh .faults) (w .faults);
-          few = w .few-faults;
-        };
-        starts = record { rest = testsOn sh; bytes = starts-at; few = few-starts w };
-        waking = many;
-        tests = record { bytes = rw (rules-are, faults-are, many, ← e) (tests-from sh); few = w .few-tests; short = short-enough s sh (h .is) };
-        begin = rw (rules-are, faults-are, many) (sym (machine-length sh));
-      }
+    pub laid-out : (q : Bool) → q ≡ sh .quiet → (n : ℕ) → OperandsFrom s 7 (r + 5 * m .rules + 5 * m .faults) n
+        → LaidOut s sh (record {
+          quiet = q;
+          faults = r + 5 * m .rules;
+          starts = r + 5 * m .rules + 5 * m .faults;
+          waking = n;
+          tests = r + 5 * m .rules + 5 * m .faults + 2 * n;
+        })
+    laid-out q eq n o =
+        let w = formed in
+        let is = encoded s sh (h .is) in
+        let many : n ≡ length (sh .starts) = o .counted (sh .starts) (testsOn sh) starts-at (tests-else 7 (sh .tests) refl refl) in
+        record {
+          quiet = eq;
+          faults = record {
+            rest = startsOn sh;
+            bytes = rw (e, rules-are, ← is) (faults-from sh);
+            digits = all-map (RowIn (sh .size)) Digits (row-digits (sh .size) (w .size)) (sh .faults) (w .faults);
+            few = w .few-faults;
+          };
+          starts = record { rest = testsOn sh; bytes = starts-at; few = few-starts w };
+          waking = many;
+          tests = record { bytes = rw (e, rules-are, faults-are, many, ← is) (tests-from sh); few = w .few-tests; short = short-enough s sh (h .is) };
+          begin = rw (e, rules-are, faults-are, many) (sym (machine-length sh));
+        }
 
 pub span-refused : (s : List ℕ) (i : ℕ) (r : ReadAnswer) (number place : ℕ) → r ≡ readAnswer (reading s) → r ≡ read.Refused number place → part.Refused number place ≡ partAnswer (parting s i)
 unfolding parting

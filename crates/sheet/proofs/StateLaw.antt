@@ -18,7 +18,7 @@ use Rattle.sheet.specs.declared.rules.Tests.{Tests}
 use Rattle.sheet.specs.declared.rules.State.{State}
 use Rattle.lists.specs.Lists.{maybe, last}
 use Rattle.sheet.specs.Sheet.{after}
-use Rattle.sheet.specs.Reading.{Progress, size, rule, fault, start, test, press, inOneTo16, sizeInRange, allowed, rises, lastTest, firstBroken, refusal, advance}
+use Rattle.sheet.specs.Reading.{Progress, size, quiet, rule, fault, start, test, press, unsized, sized, quieted, ruled, faulted, started, testing, during, inOneTo16, sizeInRange, allowed, rises, lastTest, firstBroken, refusal, advance}
 use Rattle.lists.specs.laws.TestLaw.{both, never}
 use Rattle.sheet.specs.laws.PhaseLaw.{press-length}
 use Rattle.sheet.specs.laws.RowLaw.{last-snoc}
@@ -61,30 +61,37 @@ at-most-16 n e = leb-true _ _ (both (leb 1 n) (leb n 16) e .1)
 
 -- in which phase a command byte stands
 module _ (phase b : ℕ) where
-  pub allowed-size : b ≡ 1 → allowed phase b ≡ true → phase ≡ 0
-  allowed-size e h = let k = leb-true phase 0 (both (leb 0 phase) (leb phase 0) (rw e at h) .1) in omega arith
+  -- between an earliest and a latest phase
+  within : (earliest latest : ℕ) → during earliest latest phase ≡ true → (earliest ≤ phase) × (phase ≤ latest)
+  within earliest latest h = let t = both (leb earliest phase) (leb phase latest) h in (leb-true earliest phase (t .0), leb-true phase latest (t .1))
 
-  pub allowed-rule : b ≡ 2 → allowed phase b ≡ true → phase ≤ 2
-  allowed-rule e h = leb-true phase 2 (both (leb 1 phase) (leb phase 2) (rw e at h) .1)
+  pub allowed-size : b ≡ 1 → allowed phase b ≡ true → phase ≡ unsized
+  allowed-size e h = let k = within unsized unsized (rw e at h) in omega arith
 
-  pub allowed-fault : b ≡ 3 → allowed phase b ≡ true → phase ≤ 3
-  allowed-fault e h = leb-true phase 3 (both (leb 1 phase) (leb phase 3) (rw e at h) .1)
+  pub allowed-quiet : b ≡ 8 → allowed phase b ≡ true → phase ≡ sized
+  allowed-quiet e h = let k = within sized sized (rw e at h) in omega arith
 
-  pub allowed-press : b ≡ 5 → allowed phase b ≡ true → 5 ≤ phase
-  allowed-press e h = leb-true 5 phase (both (leb 5 phase) (leb phase 5) (rw e at h) .0)
+  pub allowed-rule : b ≡ 2 → allowed phase b ≡ true → phase ≤ ruled
+  allowed-rule e h = within sized ruled (rw e at h) .1
 
-  pub allowed-start : b ≡ 7 → allowed phase b ≡ true → phase ≤ 4
-  allowed-start e h = leb-true phase 4 (both (leb 1 phase) (leb phase 4) (rw e at h) .1)
+  pub allowed-fault : b ≡ 3 → allowed phase b ≡ true → phase ≤ faulted
+  allowed-fault e h = within sized faulted (rw e at h) .1
 
--- a command byte that may stand somewhere is one of the seven
-pub known : (phase b : ℕ) → allowed phase b ≡ true → (1 ≤ b) × (b ≤ 7)
+  pub allowed-press : b ≡ 5 → allowed phase b ≡ true → testing ≤ phase
+  allowed-press e h = within testing testing (rw e at h) .0
+
+  pub allowed-start : b ≡ 7 → allowed phase b ≡ true → phase ≤ started
+  allowed-start e h = within sized started (rw e at h) .1
+
+-- a command byte that may stand somewhere is one of the eight
+pub known : (phase b : ℕ) → allowed phase b ≡ true → (1 ≤ b) × (b ≤ 8)
 known phase zero h = never (cc)
-known phase (suc b) h = (omega arith, top (leb (suc b) 7) refl)
+known phase (suc b) h = (omega arith, top (leb (suc b) 8) refl)
   where
-    top : (t : Bool) → leb (suc b) 7 ≡ t → suc b ≤ 7
-    top true e = leb-true (suc b) 7 e
+    top : (t : Bool) → leb (suc b) 8 ≡ t → suc b ≤ 8
+    top true e = leb-true (suc b) 8 e
     top false e =
-        let k = leb-false (suc b) 7 e in
+        let k = leb-false (suc b) 8 e in
         let no : allowed phase (suc b) ≡ false = simp (
           ne-eqb (suc b) 1 (λ q. omega arith),
           ne-eqb (suc b) 2 (λ q. omega arith),
@@ -93,34 +100,67 @@ known phase (suc b) h = (omega arith, top (leb (suc b) 7) refl)
           ne-eqb (suc b) 5 (λ q. omega arith),
           ne-eqb (suc b) 6 (λ q. omega arith),
           ne-eqb (suc b) 7 (λ q. omega arith),
+          ne-eqb (suc b) 8 (λ q. omega arith),
         ) in
         never (cc)
 
--- a byte that is none of the others is that of START
+-- a byte that is none of the others is that of QUIET
 above : (b n : ℕ) → n ≤ b → (b ≡ n → ⊥) → suc n ≤ b
 above b n h k = omega arith
 
 same : (b n : ℕ) → n ≤ b → b ≤ n → b ≡ n
 same b n h k = omega arith
 
-pub start-left : (b : ℕ) → (1 ≤ b) × (b ≤ 7) × (b ≡ 6 → ⊥) → (b ≡ 1 → ⊥) → (b ≡ 2 → ⊥) → (b ≡ 3 → ⊥) → (b ≡ 4 → ⊥) → (b ≡ 5 → ⊥) → b ≡ 7
-start-left b h k₁ k₂ k₃ k₄ k₅ = same b 7 (above b 6 (above b 5 (above b 4 (above b 3 (above b 2 (above b 1 (h .0) k₁) k₂) k₃) k₄) k₅) (h .2)) (h .1)
+pub quiet-left : (b : ℕ) → (1 ≤ b) × (b ≤ 8) × (b ≡ 6 → ⊥)
+    → (b ≡ 1 → ⊥) → (b ≡ 2 → ⊥) → (b ≡ 3 → ⊥) → (b ≡ 4 → ⊥) → (b ≡ 5 → ⊥) → (b ≡ 7 → ⊥) → b ≡ 8
+quiet-left b h k₁ k₂ k₃ k₄ k₅ k₇ =
+    same b 8 (above b 7 (above b 6 (above b 5 (above b 4 (above b 3 (above b 2 (above b 1 (h .0) k₁) k₂) k₃) k₄) k₅) (h .2)) k₇) (h .1)
 
 module _ (c : State) (os ts ms : List ℕ) (p : Progress) (h : Holds c os ts ms p) where
-  pub state-rule : (row : Row) (a : Ruled) (os' ts' : List ℕ) → p .phase ≤ 2 → RuleMeets (p .sheet) row a os' ts'
-      → Applies p 2 (rule row) (record { number = a .number; state = record { phase = 2; size = c .size; rules = a .rules; faults = c .faults; starts = c .starts; tests = c .tests } }) os' ts' ms
+  pub state-quiet : p .phase ≡ sized
+      → Applies p 8 quiet (record {
+        number = 0;
+        state = record { phase = quieted; size = c .size; quiet = 1; rules = c .rules; faults = c .faults; starts = c .starts; tests = c .tests };
+      }) os ts ms
+  unfolding refusal advance
+  state-quiet o = record {
+    number = refl;
+    state = λ q. record {
+      phase = refl;
+      size = h .size;
+      quiet = refl;
+      bounds = h .bounds;
+      rules = h .rules;
+      faults = h .faults;
+      starts = h .starts;
+      tests = h .tests;
+      ordered = record {
+        quiet = λ k. absurd (omega arith);
+        rules = λ _. h .ordered .rules (omega arith);
+        faults = λ _. h .ordered .faults (omega arith);
+        starts = λ _. h .ordered .starts (omega arith);
+        tests = λ _. h .ordered .tests (omega arith);
+        begun = λ k. absurd (omega arith);
+      };
+    };
+  }
+
+  pub state-rule : (row : Row) (a : Ruled) (os' ts' : List ℕ) → p .phase ≤ ruled → RuleMeets (p .sheet) row a os' ts'
+      → Applies p 2 (rule row) (record { number = a .number; state = record { phase = ruled; size = c .size; quiet = c .quiet; rules = a .rules; faults = c .faults; starts = c .starts; tests = c .tests } }) os' ts' ms
   unfolding advance
   state-rule row a os' ts' o m = record {
     number = m .number;
     state = λ q. record {
       phase = refl;
       size = h .size;
+      quiet = h .quiet;
       bounds = h .bounds;
       rules = m .rules q;
       faults = h .faults;
       starts = h .starts;
       tests = untested (p .sheet .rules ++ row ∷ []) (h .ordered .tests (omega arith)) (h .tests);
       ordered = record {
+        quiet = λ k. absurd (omega arith);
         rules = λ k. absurd (omega arith);
         faults = λ _. h .ordered .faults o;
         starts = λ _. h .ordered .starts (omega arith);
@@ -130,20 +170,22 @@ module _ (c : State) (os ts ms : List ℕ) (p : Progress) (h : Holds c os ts ms 
     };
   }
 
-  pub state-fault : (row : Row) (a : Faulted) (ms' : List ℕ) → p .phase ≤ 3 → FaultMeets (p .sheet) row a ms'
-      → Applies p 3 (fault row) (record { number = a .number; state = record { phase = 3; size = c .size; rules = c .rules; faults = a .faults; starts = c .starts; tests = c .tests } }) os ts ms'
+  pub state-fault : (row : Row) (a : Faulted) (ms' : List ℕ) → p .phase ≤ faulted → FaultMeets (p .sheet) row a ms'
+      → Applies p 3 (fault row) (record { number = a .number; state = record { phase = faulted; size = c .size; quiet = c .quiet; rules = c .rules; faults = a .faults; starts = c .starts; tests = c .tests } }) os ts ms'
   unfolding advance
   state-fault row a ms' o m = record {
     number = m .number;
     state = λ q. record {
       phase = refl;
       size = h .size;
+      quiet = h .quiet;
       bounds = h .bounds;
       rules = h .rules;
       faults = m .faults q;
       starts = h .starts;
       tests = h .tests;
       ordered = record {
+        quiet = λ k. absurd (omega arith);
         rules = λ k. absurd (omega arith);
         faults = λ k. absurd (omega arith);
         starts = λ _. h .ordered .starts o;
@@ -153,14 +195,15 @@ module _ (c : State) (os ts ms : List ℕ) (p : Progress) (h : Holds c os ts ms 
     };
   }
 
-  pub state-start : (t : ℕ) → p .phase ≤ 4 → t < c .size .states → c .starts ≤ t → (t ≡ 0 → ⊥)
-      → Applies p 7 (start t) (record { number = 0; state = record { phase = 4; size = c .size; rules = c .rules; faults = c .faults; starts = t + 1; tests = c .tests } }) os ts ms
+  pub state-start : (t : ℕ) → p .phase ≤ started → t < c .size .states → c .starts ≤ t → (t ≡ 0 → ⊥)
+      → Applies p 7 (start t) (record { number = 0; state = record { phase = started; size = c .size; quiet = c .quiet; rules = c .rules; faults = c .faults; starts = t + 1; tests = c .tests } }) os ts ms
   unfolding refusal firstBroken advance
   state-start t o m k n = record {
     number = simp (lt-leb (p .sheet .size .states) t (rw (← h .size) m), rises-true (p .sheet .starts) t (omega (arith, h .starts .key)), ne-eqb t 0 n);
     state = λ q. record {
       phase = refl;
       size = h .size;
+      quiet = h .quiet;
       bounds = h .bounds;
       rules = h .rules;
       faults = h .faults;
@@ -170,6 +213,7 @@ module _ (c : State) (os ts ms : List ℕ) (p : Progress) (h : Holds c os ts ms 
       };
       tests = h .tests;
       ordered = record {
+        quiet = λ k. absurd (omega arith);
         rules = λ k. absurd (omega arith);
         faults = λ k. absurd (omega arith);
         starts = λ k. absurd (omega arith);
@@ -201,20 +245,22 @@ module _ (c : State) (os ts ms : List ℕ) (p : Progress) (h : Holds c os ts ms 
     state = λ q. let w : _≡_ {A = ℕ} 7 0 = q in absurd (omega arith);
   }
 
-  pub state-press : (x : ℕ) (a : Pressed) → 5 ≤ p .phase → PressMeets (p .sheet) x a
-      → Applies p 5 (press x) (record { number = a .number; state = record { phase = 5; size = c .size; rules = c .rules; faults = c .faults; starts = c .starts; tests = a .tests } }) os ts ms
+  pub state-press : (x : ℕ) (a : Pressed) → testing ≤ p .phase → PressMeets (p .sheet) x a
+      → Applies p 5 (press x) (record { number = a .number; state = record { phase = testing; size = c .size; quiet = c .quiet; rules = c .rules; faults = c .faults; starts = c .starts; tests = a .tests } }) os ts ms
   unfolding advance
   state-press x a o m = record {
     number = m .number;
     state = λ q. record {
       phase = refl;
       size = h .size;
+      quiet = h .quiet;
       bounds = h .bounds;
       rules = h .rules;
       faults = h .faults;
       starts = h .starts;
       tests = m .tests q;
       ordered = record {
+        quiet = λ k. absurd (omega arith);
         rules = λ k. absurd (omega arith);
         faults = λ k. absurd (omega arith);
         starts = λ k. absurd (omega arith);
@@ -228,8 +274,9 @@ module _ (c : State) (os ts ms : List ℕ) (p : Progress) (h : Holds c os ts ms 
       → Applies p 4 test (record {
         number = 0;
         state = record {
-          phase = 5;
+          phase = testing;
           size = c .size;
+          quiet = c .quiet;
           rules = c .rules;
           faults = c .faults;
           starts = c .starts;
@@ -242,6 +289,7 @@ module _ (c : State) (os ts ms : List ℕ) (p : Progress) (h : Holds c os ts ms 
     state = λ q. record {
       phase = refl;
       size = h .size;
+      quiet = h .quiet;
       bounds = h .bounds;
       rules = h .rules;
       faults = h .faults;
@@ -255,6 +303,7 @@ module _ (c : State) (os ts ms : List ℕ) (p : Progress) (h : Holds c os ts ms 
         digit = omega arith;
       };
       ordered = record {
+        quiet = λ k. absurd (omega arith);
         rules = λ k. absurd (omega arith);
         faults = λ k. absurd (omega arith);
         starts = λ k. absurd (omega arith);
@@ -271,20 +320,22 @@ module _ (c : State) (os ts ms : List ℕ) (p : Progress) (h : Holds c os ts ms 
     state = λ q. let w : _≡_ {A = ℕ} 8 0 = q in absurd (omega arith);
   }
 
-  pub state-size : (z : Size) → p .phase ≡ 0 → inOneTo16 (z .states) ≡ true → inOneTo16 (z .inputs) ≡ true → inOneTo16 (z .outputs) ≡ true
-      → Applies p 1 (size z) (record { number = 0; state = record { phase = 1; size = z; rules = c .rules; faults = c .faults; starts = c .starts; tests = c .tests } }) os ts ms
+  pub state-size : (z : Size) → p .phase ≡ unsized → inOneTo16 (z .states) ≡ true → inOneTo16 (z .inputs) ≡ true → inOneTo16 (z .outputs) ≡ true
+      → Applies p 1 (size z) (record { number = 0; state = record { phase = sized; size = z; quiet = c .quiet; rules = c .rules; faults = c .faults; starts = c .starts; tests = c .tests } }) os ts ms
   unfolding refusal firstBroken advance
   state-size z o en ek em = record {
     number = simp (en, ek, em);
     state = λ q. record {
       phase = refl;
       size = refl;
+      quiet = h .quiet;
       bounds = record { states = at-most-16 (z .states) en; inputs = at-most-16 (z .inputs) ek; outputs = at-most-16 (z .outputs) em };
       rules = h .rules;
       faults = h .faults;
       starts = h .starts;
       tests = h .tests;
       ordered = record {
+        quiet = λ _. h .ordered .quiet (omega arith);
         rules = λ _. h .ordered .rules (omega arith);
         faults = λ _. h .ordered .faults (omega arith);
         starts = λ _. h .ordered .starts (omega arith);

@@ -1,5 +1,6 @@
 -- The bytes of a sheet.
 use Prim.Native.Nat.{ℕ}
+use mathlib.Core.Bool.{Bool, cond}
 use mathlib.Core.List.{List, [], _∷_, _++_}
 use Rattle.sheet.specs.declared.Row.{Row}
 use Rattle.sheet.specs.declared.Size.{Size}
@@ -29,9 +30,12 @@ testBytes (xs ∷ l) = 4 ∷ pressBytes xs ++ testBytes l
 unfoldable pub sizeBytes : Size → List ℕ
 sizeBytes z = 1 ∷ z .states ∷ z .inputs ∷ z .outputs ∷ []
 
+unfoldable pub quietBytes : Bool → List ℕ
+quietBytes quiet = cond quiet (8 ∷ []) []
+
 -- all before the tests
 unfoldable pub machineBytes : Sheet → List ℕ
-machineBytes sh = sizeBytes (sh .size) ++ (rowBytes 2 (sh .rules) ++ (rowBytes 3 (sh .faults) ++ startBytes (sh .starts)))
+machineBytes sh = sizeBytes (sh .size) ++ (quietBytes (sh .quiet) ++ (rowBytes 2 (sh .rules) ++ (rowBytes 3 (sh .faults) ++ startBytes (sh .starts))))
 
 -- all but the END
 unfoldable pub body : Sheet → List ℕ

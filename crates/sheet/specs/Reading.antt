@@ -21,6 +21,7 @@ Reading = Result Sheet
 
 pub data Command : Type 0 where
   size : Size → Command
+  quiet : Command
   rule : Row → Command
   fault : Row → Command
   start : ℕ → Command
@@ -35,26 +36,29 @@ unsized = 0
 abbrev pub sized : ℕ
 sized = 1
 
+abbrev pub quieted : ℕ
+quieted = 2
+
 abbrev pub ruled : ℕ
-ruled = 2
+ruled = 3
 
 abbrev pub faulted : ℕ
-faulted = 3
+faulted = 4
 
 abbrev pub started : ℕ
-started = 4
+started = 5
 
 abbrev pub testing : ℕ
-testing = 5
+testing = 6
 
 -- the phase that a command but END leads to, by its byte
 abbrev pub phaseAfter : ℕ → ℕ
-phaseAfter b = cond (eqb b 1) sized (cond (eqb b 2) ruled (cond (eqb b 3) faulted (cond (eqb b 7) started testing)))
+phaseAfter b = cond (eqb b 1) sized (cond (eqb b 2) ruled (cond (eqb b 3) faulted (cond (eqb b 7) started (cond (eqb b 8) quieted testing))))
 
 abbrev pub during : ℕ → ℕ → ℕ → Bool
 during earliest latest phase = leb earliest phase && leb phase latest
 
--- one SIZE, RULEs, FAULTs, STARTs, tests (a TEST with its PRESSes), one END: the phases in which a command byte may stand
+-- one SIZE, at most one QUIET, RULEs, FAULTs, STARTs, tests (a TEST with its PRESSes), one END: the phases in which a command byte may stand
 abbrev pub allowed : ℕ → ℕ → Bool
 allowed phase b =
     cond (eqb b 1) (during unsized unsized phase)
@@ -64,7 +68,8 @@ allowed phase b =
     (cond (eqb b 5) (during testing testing phase)
     (cond (eqb b 6) (during sized testing phase)
     (cond (eqb b 7) (during sized started phase)
-    false))))))
+    (cond (eqb b 8) (during sized sized phase)
+    false)))))))
 
 -- a command's bytes, its own byte among them
 abbrev pub width : ℕ → ℕ
@@ -86,7 +91,8 @@ commandOf b s at =
     (cond (eqb b 4) test
     (cond (eqb b 5) (press (getD s (at + 1) 0))
     (cond (eqb b 7) (start (getD s (at + 1) 0))
-    end)))))
+    (cond (eqb b 8) quiet
+    end))))))
 
 -- of tests in order, each with its number, the number of the first that is true; 0 for none
 unfoldable pub firstBroken : List (Bool × ℕ) → ℕ
@@ -126,6 +132,7 @@ ruleAfter rules xs x = maybe (after rules 0 xs) none (λ s. ruleAt rules s x)
 -- the first broken rule of a command, 0 for none
 unfoldable pub refusal : Sheet → Command → ℕ
 refusal sh (size z) = firstBroken ((not (sizeInRange z), 4) ∷ [])
+refusal sh quiet = 0
 refusal sh (rule r) = firstBroken ((not (inRange (sh .size) r), 5) ∷ (not (ascends pairOf (sh .rules) r), 6) ∷ [])
 refusal sh (fault r) =
     firstBroken
@@ -153,23 +160,27 @@ addPress (xs ∷ ys ∷ l) x = xs ∷ addPress (ys ∷ l) x
 
 -- the sheet with a part replaced
 abbrev pub withSize : Sheet → Size → Sheet
-withSize sh z = record { size = z; rules = sh .rules; faults = sh .faults; starts = sh .starts; tests = sh .tests }
+withSize sh z = record { size = z; quiet = sh .quiet; rules = sh .rules; faults = sh .faults; starts = sh .starts; tests = sh .tests }
+
+abbrev pub withQuiet : Sheet → Sheet
+withQuiet sh = record { size = sh .size; quiet = true; rules = sh .rules; faults = sh .faults; starts = sh .starts; tests = sh .tests }
 
 abbrev pub withRules : Sheet → List Row → Sheet
-withRules sh rules = record { size = sh .size; rules = rules; faults = sh .faults; starts = sh .starts; tests = sh .tests }
+withRules sh rules = record { size = sh .size; quiet = sh .quiet; rules = rules; faults = sh .faults; starts = sh .starts; tests = sh .tests }
 
 abbrev pub withFaults : Sheet → List Row → Sheet
-withFaults sh faults = record { size = sh .size; rules = sh .rules; faults = faults; starts = sh .starts; tests = sh .tests }
+withFaults sh faults = record { size = sh .size; quiet = sh .quiet; rules = sh .rules; faults = faults; starts = sh .starts; tests = sh .tests }
 
 abbrev pub withStarts : Sheet → List ℕ → Sheet
-withStarts sh starts = record { size = sh .size; rules = sh .rules; faults = sh .faults; starts = starts; tests = sh .tests }
+withStarts sh starts = record { size = sh .size; quiet = sh .quiet; rules = sh .rules; faults = sh .faults; starts = starts; tests = sh .tests }
 
 abbrev pub withTests : Sheet → List (List ℕ) → Sheet
-withTests sh tests = record { size = sh .size; rules = sh .rules; faults = sh .faults; starts = sh .starts; tests = tests }
+withTests sh tests = record { size = sh .size; quiet = sh .quiet; rules = sh .rules; faults = sh .faults; starts = sh .starts; tests = tests }
 
 -- the sheet with one command more
 unfoldable pub advance : Sheet → Command → Sheet
 advance sh (size z) = withSize sh z
+advance sh quiet = withQuiet sh
 advance sh (rule r) = withRules sh (sh .rules ++ r ∷ [])
 advance sh (fault r) = withFaults sh (sh .faults ++ r ∷ [])
 advance sh (start t) = withStarts sh (sh .starts ++ t ∷ [])
@@ -226,7 +237,7 @@ unfoldable pub blank : Progress
 blank =
     record {
       phase = unsized;
-      sheet = record { size = record { states = 0; inputs = 0; outputs = 0 }; rules = []; faults = []; starts = []; tests = [] };
+      sheet = record { size = record { states = 0; inputs = 0; outputs = 0 }; quiet = false; rules = []; faults = []; starts = []; tests = [] };
     }
 
 -- 01's Read: 1 before all else, then command by command

@@ -11,6 +11,7 @@ use Rattle.lists.specs.Lists.{maybe, first, any, all, count}
 
 pub record Sheet : Type 0 where
   pub size : Size
+  pub quiet : Bool
   pub rules : List Row
   pub faults : List Row
   pub starts : List ℕ
@@ -56,9 +57,9 @@ reachedWithin sh (suc j) t =
 unfoldable pub allReached : Sheet → Bool
 allReached sh = all (reachedWithin sh (sh .size .states)) (sh .size .states)
 
--- how many choices a pair without a RULE has: every output with every next state
+-- how many choices a pair without a RULE has: every output with every next state; on a quiet sheet (02) the one that gives output 0 and stays
 unfoldable pub unruledChoices : Sheet → ℕ
-unruledChoices sh = sh .size .outputs * sh .size .states
+unruledChoices sh = cond (sh .quiet) 1 (sh .size .outputs * sh .size .states)
 
 -- how many choices a state and an input of the sheet have: the RULE and its FAULTs
 unfoldable pub choicesAt : Sheet → ℕ → ℕ → ℕ

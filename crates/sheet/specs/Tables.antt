@@ -1,6 +1,6 @@
 -- What the code answers: 01's numbers and values for each case, and the tables of a sheet.
 use Prim.Native.Nat.{ℕ, suc, _/_, _%_}
-use mathlib.Core.Bool.{cond}
+use mathlib.Core.Bool.{false, cond}
 use mathlib.Core.List.{List, [], _∷_, map}
 use lib.Dec.{ltb}
 use lib.ListN.{length, getD, replicate}
@@ -52,7 +52,7 @@ abbrev pub noRow : Row
 noRow = record { source = 0; input = 0; output = 0; target = 0 }
 
 -- by pair for every state and input below 16, also beyond the sheet's own; by fault, by choice of a waking state and by test, with 0
--- past the last; and how many waking states there are
+-- past the last; how many waking states there are, and whether the sheet is quiet
 unfoldable pub tablesOf : Sheet → Tables
 tablesOf sh =
     record {
@@ -64,6 +64,7 @@ tablesOf sh =
       diverted = table (λ i. getD (sh .faults) i noRow .target);
       wakings = map (λ i. getD (wakings sh) i 0) (upTo 16);
       waking = wakingChoices sh;
+      quiet = sh .quiet;
       starts = table (λ i. cond (ltb i (length (sh .tests))) (spanOf sh i .start) 0);
       lengths = table (λ i. length (getD (sh .tests) i []));
     }
@@ -80,6 +81,7 @@ blankTables =
       diverted = replicate 256 0;
       wakings = replicate 16 0;
       waking = 0;
+      quiet = false;
       starts = replicate 256 0;
       lengths = replicate 256 0;
     }

@@ -8,7 +8,7 @@ ghost use lib.ListN.{length, getD};
 ghost use Rattle.sheet.specs.Sheet.{Sheet, choicesAt};
 ghost use Rattle.sheet.specs.words.Fetch.{rowFrom};
 ghost use Rattle.sheet.specs.Tables.{tablesOf, blankTables};
-ghost use Rattle.sheet.specs.words.Held.{Digits, Within16};
+ghost use Rattle.sheet.specs.words.Held.{Digits};
 ghost use Rattle.sheet.specs.words.Places.{FaultsFrom, StartsFrom, TestsFrom, Table, FaultTables, TestTables, sizeIn, Countable, Fillable};
 use crate::Row;
 use crate::Size;
@@ -17,6 +17,7 @@ use crate::Tables;
 use crate::fetch::Item;
 use crate::fetch::fetch_from;
 use crate::fetch::item_in;
+use crate::finish::unruled_choices;
 use crate::part::layout_of;
 use crate::part::test_at;
 
@@ -109,13 +110,12 @@ fn choices_of(faults: u16, next: u8, unruled: u16) -> u16
     unruled
 }
 
-// From the number of faults of each pair to its number of choices.
-fn count_choices(size: Size, target: &[u8; 256], choices: &mut [u16; 256])
-    requires { ⌜ Within16 size × ((sh : Sheet) × Countable size (now target) (now choices) sh) ⌝ }
-    ensures { λ _. ⌜ ((sh : Sheet) → Countable size (now (target .entry)) (now (choices .entry)) sh
+// From the number of faults of each pair to its number of choices; `unruled` is that of a pair without a rule.
+fn count_choices(unruled: u16, target: &[u8; 256], choices: &mut [u16; 256])
+    requires { ⌜ ((sh : Sheet) × Countable unruled (now target) (now choices) sh) ⌝ }
+    ensures { λ _. ⌜ ((sh : Sheet) → Countable unruled (now (target .entry)) (now (choices .entry)) sh
         → Table 256 (now (choices .exit)) (λ i. choicesAt sh (i / 16) (i % 16))) ⌝ }
 {
-    let unruled = (size.outputs as u16) * (size.states as u16);
     let mut p: usize = 0;
     while p < 256 {
         let n = choices[p];
@@ -191,6 +191,7 @@ pub(crate) fn fill(sheet: &[u8], summary: Summary, output: [u8; 256], target: [u
     let mut starts = [0u16; 256];
     let mut lengths = [0u16; 256];
     let layout = layout_of(sheet, summary);
+    let tests = layout.tests;
     fill_faults(
         sheet,
         layout.faults,
@@ -200,16 +201,11 @@ pub(crate) fn fill(sheet: &[u8], summary: Summary, output: [u8; 256], target: [u
         &mut mutated,
         &mut diverted,
     );
-    count_choices(size_of(summary), &target, &mut choices);
+    let unruled = unruled_choices(size_of(summary), layout.quiet);
+    count_choices(unruled, &target, &mut choices);
     let wakings = wakings_from(sheet, layout.starts, layout.waking);
     let waking = (layout.waking + 1) as u8;
-    fill_tests(
-        sheet,
-        layout.tests,
-        summary.tests,
-        &mut starts,
-        &mut lengths,
-    );
+    fill_tests(sheet, tests, summary.tests, &mut starts, &mut lengths);
     Tables {
         output,
         target,
@@ -219,6 +215,7 @@ pub(crate) fn fill(sheet: &[u8], summary: Summary, output: [u8; 256], target: [u
         diverted,
         wakings,
         waking,
+        quiet: layout.quiet,
         starts,
         lengths,
     }
@@ -247,6 +244,7 @@ pub(crate) fn blank() -> Tables
         diverted,
         wakings,
         waking,
+        quiet: false,
         starts,
         lengths,
     }

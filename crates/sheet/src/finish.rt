@@ -1,15 +1,16 @@
 // At END: nothing follows, every state is reached, at most 32 pairs are open (where a mutant wakes counts as one).
 ghost use mathlib.Core.Path.{_≡_};
-ghost use mathlib.Core.Bool.{Bool, _||_, _&&_};
+ghost use mathlib.Core.Bool.{Bool, _||_, _&&_, cond};
 ghost use mathlib.Core.List.{List};
-ghost use Prim.Native.Nat.{ℕ, _<_, _≤_};
+ghost use Prim.Native.Nat.{ℕ, _*_, _<_, _≤_};
 ghost use lib.ListN.{length};
 ghost use Rattle.lists.specs.Lists.{any, all, count};
 ghost use Rattle.sheet.specs.Sheet.{Sheet, leads, allReached, isOpen, wakingSlots, openSlots};
-ghost use Rattle.sheet.specs.Reading.{finishing};
-ghost use Rattle.sheet.specs.words.Held.{Within16, Leads, Marks, Follows, Linked, StartsHold, endOf};
+ghost use Rattle.sheet.specs.Reading.{Progress, finishing};
+ghost use Rattle.sheet.specs.words.Held.{Within16, Leads, Marks, Follows, Linked, StartsHold, Holds, endOf};
 use crate::Row;
 use crate::Size;
+use crate::rules::State;
 
 // How a reading ends: how many choices make up a mutant, or a refusal's number and place.
 pub(crate) enum End {
@@ -17,9 +18,21 @@ pub(crate) enum End {
     Refused(u8, usize),
 }
 
-fn is_open(size: Size, target: &[u8; 256], faulty: &[u8; 256], s: usize, x: usize) -> bool
-    requires { ⌜ Within16 size × (s < 16) × (x < 16) ⌝ }
-    ensures { λ r. ⌜ ((sh : Sheet) → Linked size (now (target .entry)) (now (faulty .entry)) sh → r ≡ isOpen sh s x) ⌝ }
+// How many choices a pair without a rule has.
+pub(crate) fn unruled_choices(size: Size, quiet: bool) -> u16
+    requires { ⌜ Within16 size ⌝ }
+    ensures { λ r. ⌜ r ≡ cond quiet 1 (size .outputs * size .states) ⌝ }
+{
+    if quiet {
+        return 1;
+    }
+    (size.outputs as u16) * (size.states as u16)
+}
+
+// `unruled` says whether a pair without a rule is open.
+fn is_open(unruled: bool, target: &[u8; 256], faulty: &[u8; 256], s: usize, x: usize) -> bool
+    requires { ⌜ (s < 16) × (x < 16) ⌝ }
+    ensures { λ r. ⌜ ((sh : Sheet) → Linked unruled (now (target .entry)) (now (faulty .entry)) sh → r ≡ isOpen sh s x) ⌝ }
 {
     let p = s * 16 + x;
     let t = target[p];
@@ -27,21 +40,21 @@ fn is_open(size: Size, target: &[u8; 256], faulty: &[u8; 256], s: usize, x: usiz
         let f = faulty[p];
         return f == 1;
     }
-    1 < (size.outputs as usize) * (size.states as usize)
+    unruled
 }
 
 // The number of open pairs at a state.
-fn open_at(size: Size, target: &[u8; 256], faulty: &[u8; 256], s: usize) -> usize
+fn open_at(size: Size, unruled: bool, target: &[u8; 256], faulty: &[u8; 256], s: usize) -> usize
     requires { ⌜ Within16 size × (s < 16) ⌝ }
     ensures few { λ r. ⌜ r ≤ 16 ⌝ }
-    ensures counted { λ r. ⌜ ((sh : Sheet) → Linked size (now (target .entry)) (now (faulty .entry)) sh
+    ensures counted { λ r. ⌜ ((sh : Sheet) → size ≡ sh .size → Linked unruled (now (target .entry)) (now (faulty .entry)) sh
         → r ≡ count (isOpen sh s) (sh .size .inputs)) ⌝ }
 {
     let k = size.inputs as usize;
     let mut n: usize = 0;
     let mut x: usize = 0;
     while x < k {
-        if is_open(size, target, faulty, s, x) {
+        if is_open(unruled, target, faulty, s, x) {
             n += 1;
         }
         x += 1;
@@ -58,16 +71,18 @@ fn waking_slots(starts: usize) -> usize
 }
 
 // How many choices make up a mutant: where it wakes, and the open pairs.
-fn open_slots(size: Size, starts: usize, target: &[u8; 256], faulty: &[u8; 256]) -> usize
-    requires { ⌜ Within16 size ⌝ }
-    ensures { λ r. ⌜ ((sh : Sheet) → Linked size (now (target .entry)) (now (faulty .entry)) sh → StartsHold starts (sh .starts)
-        → r ≡ openSlots sh) ⌝ }
+fn open_slots(state: State, target: &[u8; 256], faulty: &[u8; 256]) -> usize
+    requires { ⌜ Within16 (state .size) ⌝ }
+    ensures { λ r. ⌜ ((os : List ℕ) (p : Progress) → Holds state os (now (target .entry)) (now (faulty .entry)) p
+        → r ≡ openSlots (p .sheet)) ⌝ }
 {
+    let size = state.size;
+    let unruled = 1 < unruled_choices(size, state.quiet == 1);
     let m = size.states as usize;
-    let mut n = waking_slots(starts);
+    let mut n = waking_slots(state.starts);
     let mut s: usize = 0;
     while s < m {
-        n += open_at(size, target, faulty, s);
+        n += open_at(size, unruled, target, faulty, s);
         s += 1;
     }
     n
@@ -157,20 +172,19 @@ fn all_reached(size: Size, target: &[u8; 256]) -> bool
 pub(crate) fn finish(
     sheet: &[u8],
     at: usize,
-    size: Size,
-    starts: usize,
+    state: State,
     target: &[u8; 256],
     faulty: &[u8; 256],
 ) -> End
-    requires { ⌜ (at < length (now sheet)) × Within16 size ⌝ }
-    ensures { λ r. ⌜ ((sh : Sheet) → Linked size (now (target .entry)) (now (faulty .entry)) sh → StartsHold starts (sh .starts)
-        → r ≡ endOf (finishing sh (now (sheet .entry)) at)) ⌝ }
+    requires { ⌜ (at < length (now sheet)) × Within16 (state .size) ⌝ }
+    ensures { λ r. ⌜ ((os : List ℕ) (p : Progress) → Holds state os (now (target .entry)) (now (faulty .entry)) p
+        → r ≡ endOf (finishing (p .sheet) (now (sheet .entry)) at)) ⌝ }
 {
     if at + 1 < sheet.len() {
         return End::Refused(10, at + 1);
     }
-    if all_reached(size, target) {
-        let slots = open_slots(size, starts, target, faulty);
+    if all_reached(state.size, target) {
+        let slots = open_slots(state, target, faulty);
         if slots <= 32 {
             End::Accepted(slots)
         } else {

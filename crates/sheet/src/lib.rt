@@ -67,7 +67,8 @@ pub enum Parting {
 
 // What the layer above needs of an accepted sheet. By pair, at state * 16 + input: the rule's output and next state (255
 // where there is no rule), the number of choices, and the index of the first fault. By fault: its output and next state. By
-// choice: the waking states, and how many there are. By test: where its PRESS commands start, and how many they are.
+// choice: the waking states, and how many there are. Whether the sheet is quiet. By test: where its PRESS commands start, and how many
+// they are.
 pub struct Tables {
     pub output: [u8; 256],
     pub target: [u8; 256],
@@ -77,6 +78,7 @@ pub struct Tables {
     pub diverted: [u8; 256],
     pub wakings: [u8; 16],
     pub waking: u8,
+    pub quiet: bool,
     pub starts: [u16; 256],
     pub lengths: [u16; 256],
 }

@@ -1,17 +1,19 @@
 // Where the parts of a sheet that was read before stand, and the PRESS commands of a test.
 ghost use mathlib.Core.Path.{_≡_};
-ghost use Prim.Native.Nat.{_≤_};
+ghost use Prim.Native.Nat.{_+_, _≤_};
 ghost use lib.ListN.{length};
 ghost use Rattle.sheet.specs.Sheet.{Sheet};
-ghost use Rattle.sheet.specs.Reading.{width};
+ghost use Rattle.sheet.specs.Reading.{accepted, reading, width};
+ghost use Rattle.sheet.specs.Encode.{quietBytes};
 ghost use Rattle.sheet.specs.words.Places.{OperandsFrom, TestAt, TestFrom, Told, LaidOut};
 use crate::Span;
 use crate::Summary;
 use crate::fetch::fetch_from;
 use crate::fetch::item_in;
 
-// Where the FAULTs, the STARTs and the tests begin, and how many STARTs there are.
+// Whether a QUIET stands; where the FAULTs, the STARTs and the tests begin, and how many STARTs there are.
 pub(crate) struct Layout {
+    pub(crate) quiet: bool,
     pub(crate) faults: usize,
     pub(crate) starts: usize,
     pub(crate) waking: usize,
@@ -39,16 +41,35 @@ fn operands_from(sheet: &[u8], byte: u8, place: usize) -> usize
     }
 }
 
+// Does a QUIET stand after SIZE?
+fn is_quiet(sheet: &[u8]) -> bool
+    ensures { λ r. ⌜ ((sh : Sheet) → reading (now (sheet .entry)) ≡ accepted sh → r ≡ sh .quiet) ⌝ }
+{
+    let f = fetch_from(sheet, 4);
+    let taken = f.taken;
+    let item = item_in(taken);
+    item.byte == 8
+}
+
+// Where the RULEs begin.
+fn rules_at(quiet: bool) -> usize
+    ensures { λ r. ⌜ r ≡ 4 + length (quietBytes quiet) ⌝ }
+{
+    if quiet { 5 } else { 4 }
+}
+
 // The parts of an accepted sheet.
 pub(crate) fn layout_of(sheet: &[u8], summary: Summary) -> Layout
     requires { ⌜ ((sh : Sheet) × Told (now sheet) summary sh) ⌝ }
     ensures { λ r. ⌜ ((sh : Sheet) → Told (now (sheet .entry)) summary sh → LaidOut (now (sheet .entry)) sh r) ⌝ }
 {
-    let faults = 4 + 5 * summary.rules;
+    let quiet = is_quiet(sheet);
+    let faults = rules_at(quiet) + 5 * summary.rules;
     let starts = faults + 5 * summary.faults;
     let waking = operands_from(sheet, 7, starts);
     let tests = starts + 2 * waking;
     Layout {
+        quiet,
         faults,
         starts,
         waking,

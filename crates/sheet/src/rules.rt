@@ -14,6 +14,21 @@ use crate::Row;
 use crate::Size;
 use crate::fetch::Item;
 
+// How far a sheet has come, by rank.
+const UNSIZED: u8 = 0;
+
+const SIZED: u8 = 1;
+
+const QUIETED: u8 = 2;
+
+const RULED: u8 = 3;
+
+const FAULTED: u8 = 4;
+
+const STARTED: u8 = 5;
+
+const TESTING: u8 = 6;
+
 // The number of rules, and one more than the last one's key, 0 before the first. A key has the row's numbers as digits to
 // base 16: a greater key stands later.
 pub(crate) struct Rules {
@@ -34,13 +49,15 @@ pub(crate) struct Tests {
     pub(crate) state: usize,
 }
 
-// What is read so far, but for the tables. `starts` is one more than the last START's state, 0 before the first.
+// What is read so far, but for the tables. `starts` is one more than the last START's state, 0 before the first; `quiet` is 1 after QUIET,
+// 0 before.
 pub(crate) struct State {
     pub(crate) phase: u8,
     pub(crate) size: Size,
     pub(crate) rules: Rules,
     pub(crate) faults: Faults,
     pub(crate) starts: usize,
+    pub(crate) quiet: usize,
     pub(crate) tests: Tests,
 }
 
@@ -79,25 +96,28 @@ pub(crate) fn may_stand(phase: u8, byte: u8) -> bool
     ensures { λ r. ⌜ r ≡ allowed phase byte ⌝ }
 {
     if byte == 1 {
-        return is_during(0, 0, phase);
+        return is_during(UNSIZED, UNSIZED, phase);
     }
     if byte == 2 {
-        return is_during(1, 2, phase);
+        return is_during(SIZED, RULED, phase);
     }
     if byte == 3 {
-        return is_during(1, 3, phase);
+        return is_during(SIZED, FAULTED, phase);
     }
     if byte == 4 {
-        return is_during(1, 5, phase);
+        return is_during(SIZED, TESTING, phase);
     }
     if byte == 5 {
-        return is_during(5, 5, phase);
+        return is_during(TESTING, TESTING, phase);
     }
     if byte == 6 {
-        return is_during(1, 5, phase);
+        return is_during(SIZED, TESTING, phase);
     }
     if byte == 7 {
-        return is_during(1, 4, phase);
+        return is_during(SIZED, STARTED, phase);
+    }
+    if byte == 8 {
+        return is_during(SIZED, SIZED, phase);
     }
     false
 }
@@ -126,7 +146,7 @@ fn in_range(size: Size, row: Row) -> bool
 
 // SIZE
 fn do_size(state: State, size: Size) -> Applied
-    ensures { λ r. ⌜ ((os ts ms : List ℕ) (p : Progress) → p .phase ≡ 0 → Holds state os ts ms p
+    ensures { λ r. ⌜ ((os ts ms : List ℕ) (p : Progress) → p .phase ≡ reading.unsized → Holds state os ts ms p
         → Applies p 1 (reading.size size) r os ts ms) ⌝ }
 {
     if one_to_sixteen(size.states) {
@@ -138,11 +158,12 @@ fn do_size(state: State, size: Size) -> Applied
                 return Applied {
                     number: 0,
                     state: State {
-                        phase: 1,
+                        phase: SIZED,
                         size,
                         rules,
                         faults,
                         starts: state.starts,
+                        quiet: state.quiet,
                         tests,
                     },
                 };
@@ -150,6 +171,29 @@ fn do_size(state: State, size: Size) -> Applied
         }
     }
     Applied { number: 4, state }
+}
+
+// QUIET
+fn do_quiet(state: State) -> Applied
+    ensures { λ r. ⌜ ((os ts ms : List ℕ) (p : Progress) → p .phase ≡ reading.sized → Holds state os ts ms p
+        → Applies p 8 reading.quiet r os ts ms) ⌝ }
+{
+    let size = state.size;
+    let rules = state.rules;
+    let faults = state.faults;
+    let tests = state.tests;
+    Applied {
+        number: 0,
+        state: State {
+            phase: QUIETED,
+            size,
+            rules,
+            faults,
+            starts: state.starts,
+            quiet: 1,
+            tests,
+        },
+    }
 }
 
 // A RULE: 5 out of range, 6 not ascending.
@@ -186,7 +230,7 @@ fn add_rule(
 
 fn do_rule(state: State, row: Row, output: &mut [u8; 256], target: &mut [u8; 256]) -> Applied
     requires { ⌜ ((ms : List ℕ) × (p : Progress) × Holds state (now output) (now target) ms p) ⌝ }
-    ensures { λ r. ⌜ ((ms : List ℕ) (p : Progress) → p .phase ≤ 2 → Holds state (now (output .entry)) (now (target .entry)) ms p
+    ensures { λ r. ⌜ ((ms : List ℕ) (p : Progress) → p .phase ≤ reading.ruled → Holds state (now (output .entry)) (now (target .entry)) ms p
         → Applies p 2 (reading.rule row) r (now (output .exit)) (now (target .exit)) ms) ⌝ }
 {
     let size = state.size;
@@ -198,11 +242,12 @@ fn do_rule(state: State, row: Row, output: &mut [u8; 256], target: &mut [u8; 256
     Applied {
         number: a.number,
         state: State {
-            phase: 2,
+            phase: RULED,
             size,
             rules: added,
             faults,
             starts: state.starts,
+            quiet: state.quiet,
             tests,
         },
     }
@@ -272,7 +317,7 @@ fn do_fault(
     faulty: &mut [u8; 256],
 ) -> Applied
     requires { ⌜ ((p : Progress) × Holds state (now output) (now target) (now faulty) p) ⌝ }
-    ensures { λ r. ⌜ ((p : Progress) → p .phase ≤ 3 → Holds state (now (output .entry)) (now (target .entry)) (now (faulty .entry)) p
+    ensures { λ r. ⌜ ((p : Progress) → p .phase ≤ reading.faulted → Holds state (now (output .entry)) (now (target .entry)) (now (faulty .entry)) p
         → Applies p 3 (reading.fault row) r (now (output .entry)) (now (target .entry)) (now (faulty .exit))) ⌝ }
 {
     let size = state.size;
@@ -284,11 +329,12 @@ fn do_fault(
     Applied {
         number: a.number,
         state: State {
-            phase: 3,
+            phase: FAULTED,
             size,
             rules,
             faults: added,
             starts: state.starts,
+            quiet: state.quiet,
             tests,
         },
     }
@@ -297,7 +343,7 @@ fn do_fault(
 // A START: 5 out of range, 6 not ascending, 7 state 0.
 fn do_start(state: State, t: u8) -> Applied
     requires { ⌜ ((os ts ms : List ℕ) × (p : Progress) × Holds state os ts ms p) ⌝ }
-    ensures { λ r. ⌜ ((os ts ms : List ℕ) (p : Progress) → p .phase ≤ 4 → Holds state os ts ms p → Applies p 7 (reading.start t) r os ts ms) ⌝ }
+    ensures { λ r. ⌜ ((os ts ms : List ℕ) (p : Progress) → p .phase ≤ reading.started → Holds state os ts ms p → Applies p 7 (reading.start t) r os ts ms) ⌝ }
 {
     let size = state.size;
     let rules = state.rules;
@@ -315,11 +361,12 @@ fn do_start(state: State, t: u8) -> Applied
     Applied {
         number: 0,
         state: State {
-            phase: 4,
+            phase: STARTED,
             size,
             rules,
             faults,
             starts: (t as usize) + 1,
+            quiet: state.quiet,
             tests,
         },
     }
@@ -343,11 +390,12 @@ fn do_test(state: State) -> Applied
         Applied {
             number: 0,
             state: State {
-                phase: 5,
+                phase: TESTING,
                 size,
                 rules,
                 faults,
                 starts: state.starts,
+                quiet: state.quiet,
                 tests: added,
             },
         }
@@ -388,7 +436,7 @@ fn add_press(size: Size, tests: Tests, x: u8, target: &[u8; 256]) -> Pressed
 
 fn do_press(state: State, x: u8, target: &[u8; 256]) -> Applied
     requires { ⌜ ((os ms : List ℕ) × (p : Progress) × Holds state os (now target) ms p) ⌝ }
-    ensures { λ r. ⌜ ((os ms : List ℕ) (p : Progress) → 5 ≤ p .phase → Holds state os (now (target .entry)) ms p
+    ensures { λ r. ⌜ ((os ms : List ℕ) (p : Progress) → reading.testing ≤ p .phase → Holds state os (now (target .entry)) ms p
         → Applies p 5 (reading.press x) r os (now (target .entry)) ms) ⌝ }
 {
     let size = state.size;
@@ -400,11 +448,12 @@ fn do_press(state: State, x: u8, target: &[u8; 256]) -> Applied
     Applied {
         number: a.number,
         state: State {
-            phase: 5,
+            phase: TESTING,
             size,
             rules,
             faults,
             starts: state.starts,
+            quiet: state.quiet,
             tests: added,
         },
     }
@@ -418,7 +467,7 @@ pub(crate) fn apply(
     target: &mut [u8; 256],
     faulty: &mut [u8; 256],
 ) -> Applied
-    requires { ⌜ ((1 ≤ item .byte) × (item .byte ≤ 7) × (item .byte ≡ 6 → ⊥)) × ((p : Progress) × Holds state (now output) (now target) (now faulty) p) ⌝ }
+    requires { ⌜ ((1 ≤ item .byte) × (item .byte ≤ 8) × (item .byte ≡ 6 → ⊥)) × ((p : Progress) × Holds state (now output) (now target) (now faulty) p) ⌝ }
     ensures { λ r. ⌜ ((p : Progress) → allowed (p .phase) (item .byte) ≡ true
         → Holds state (now (output .entry)) (now (target .entry)) (now (faulty .entry)) p
         → Applies p (item .byte) (commandFrom item) r (now (output .exit)) (now (target .exit)) (now (faulty .exit))) ⌝ }
@@ -449,5 +498,8 @@ pub(crate) fn apply(
     if item.byte == 5 {
         return do_press(state, item.first, &*target);
     }
-    do_start(state, item.first)
+    if item.byte == 7 {
+        return do_start(state, item.first);
+    }
+    do_quiet(state)
 }

@@ -70,8 +70,7 @@ fn obey(
         → Meets (now (sheet .entry)) at (oneCommand p (now (sheet .entry)) at) r (now (output .exit)) (now (target .exit)) (now (faulty .exit))) ⌝ }
 {
     if item.byte == 6 {
-        let size = state.size;
-        let end = finish(sheet, at, size, state.starts, &*target, &*faulty);
+        let end = finish(sheet, at, state, &*target, &*faulty);
         let verdict = Verdict::Stop(end);
         Step { verdict, state }
     } else {
@@ -157,6 +156,7 @@ fn fresh() -> State
         rules,
         faults,
         starts: 0,
+        quiet: 0,
         tests,
     }
 }

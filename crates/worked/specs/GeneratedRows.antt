@@ -5,7 +5,7 @@ use mathlib.Core.List.{List, [], _∷_, map}
 use lib.ListN.{length, drop}
 use Rattle.sheet.specs.declared.Size.{Size}
 use Rattle.sheet.specs.Reading.{Result, accepted, refused}
-use Rattle.sheet.specs.Encode.{rowBytes, operandBytes, testBytes, sizeBytes, machineBytes, body, encode}
+use Rattle.sheet.specs.Encode.{rowBytes, operandBytes, testBytes, sizeBytes, quietBytes, machineBytes, body, encode}
 use Rattle.generator.specs.Generating.{third, drawn, ruleFrom, isFaulty, Draft, withPair, drafted, sheetFrom, generating}
 
 -- a seed, a size, the buffer's length, and the answer
@@ -55,7 +55,7 @@ generated =
     ∷ []
 
 pub generated-so : map (λ (r : Row). generating (r .seed) (r .size) (r .room)) generated ≡ map (λ (r : Row). r .result) generated
-unfolding generated drawn ruleFrom isFaulty withPair drafted sheetFrom generating rowBytes operandBytes testBytes sizeBytes machineBytes body encode
+unfolding generated drawn ruleFrom isFaulty withPair drafted sheetFrom generating rowBytes operandBytes testBytes sizeBytes quietBytes machineBytes body encode
 generated-so = refl
 
 -- of the 256 pairs, pair 223 gets the 32nd fault; pair 230 draws 0 as well and gets none
@@ -71,5 +71,5 @@ no-33rd = (refl, (refl, (refl, refl)))
 
 -- the sheet's length and its end: the FAULT of pair 223, END
 pub large-so : (length (encode (sheetFrom 7 (size 16 16 16))) ≡ 1445) × (drop 1439 (encode (sheetFrom 7 (size 16 16 16))) ≡ 0x03 ∷ 13 ∷ 15 ∷ 6 ∷ 6 ∷ 0x06 ∷ [])
-unfolding drawn ruleFrom isFaulty withPair drafted sheetFrom rowBytes operandBytes testBytes sizeBytes machineBytes body encode
+unfolding drawn ruleFrom isFaulty withPair drafted sheetFrom rowBytes operandBytes testBytes sizeBytes quietBytes machineBytes body encode
 large-so = (refl, refl)

@@ -35,7 +35,7 @@ refusals =
     ∷ row (0x01 ∷ 1 ∷ 1 ∷ 1 ∷ 0x02 ∷ 0 ∷ []) 2 4
     ∷ row (0x01 ∷ 1 ∷ 1 ∷ 1 ∷ 0x07 ∷ []) 2 4
     -- 3: an unknown byte; no SIZE, a second one, PRESS before TEST, RULE after FAULT, FAULT after TEST; before missing operands; START
-    -- before SIZE and after TEST, RULE and FAULT after START
+    -- before SIZE and after TEST, RULE and FAULT after START; QUIET before SIZE, again, after RULE and after START
     ∷ row (0x01 ∷ 1 ∷ 1 ∷ 1 ∷ 0x09 ∷ []) 3 4
     ∷ row (0x02 ∷ 0 ∷ 0 ∷ 0 ∷ 0 ∷ []) 3 0
     ∷ row (0x01 ∷ 1 ∷ 1 ∷ 1 ∷ 0x01 ∷ []) 3 4
@@ -46,6 +46,10 @@ refusals =
     ∷ row (0x01 ∷ 2 ∷ 1 ∷ 1 ∷ 0x04 ∷ 0x07 ∷ 1 ∷ []) 3 5
     ∷ row (0x01 ∷ 2 ∷ 1 ∷ 1 ∷ 0x07 ∷ 1 ∷ 0x02 ∷ 0 ∷ 0 ∷ 0 ∷ 1 ∷ []) 3 6
     ∷ row (0x01 ∷ 2 ∷ 1 ∷ 1 ∷ 0x02 ∷ 0 ∷ 0 ∷ 0 ∷ 1 ∷ 0x07 ∷ 1 ∷ 0x03 ∷ 0 ∷ 0 ∷ 0 ∷ 0 ∷ []) 3 11
+    ∷ row (0x08 ∷ []) 3 0
+    ∷ row (0x01 ∷ 1 ∷ 1 ∷ 1 ∷ 0x08 ∷ 0x08 ∷ []) 3 5
+    ∷ row (0x01 ∷ 1 ∷ 1 ∷ 1 ∷ 0x02 ∷ 0 ∷ 0 ∷ 0 ∷ 0 ∷ 0x08 ∷ []) 3 9
+    ∷ row (0x01 ∷ 2 ∷ 1 ∷ 1 ∷ 0x07 ∷ 1 ∷ 0x08 ∷ []) 3 6
     -- 4: a size of 0 or 17
     ∷ row (0x01 ∷ 1 ∷ 0 ∷ 1 ∷ 0x06 ∷ []) 4 0
     ∷ row (0x01 ∷ 1 ∷ 1 ∷ 17 ∷ 0x06 ∷ []) 4 0
@@ -80,6 +84,8 @@ refusals =
     -- 9: no RULE at state 0; none at the state that the test has reached
     ∷ row (0x01 ∷ 1 ∷ 1 ∷ 1 ∷ 0x04 ∷ 0x05 ∷ 0 ∷ []) 9 5
     ∷ row (0x01 ∷ 2 ∷ 1 ∷ 1 ∷ 0x02 ∷ 0 ∷ 0 ∷ 0 ∷ 1 ∷ 0x04 ∷ 0x05 ∷ 0 ∷ 0x05 ∷ 0 ∷ []) 9 12
+    -- also on a quiet sheet
+    ∷ row (0x01 ∷ 1 ∷ 1 ∷ 1 ∷ 0x08 ∷ 0x04 ∷ 0x05 ∷ 0 ∷ []) 9 6
     -- 10: a byte after END, before 11; 11 before 12: three states, eleven presses, no RULE
     ∷ row (0x01 ∷ 1 ∷ 1 ∷ 1 ∷ 0x06 ∷ 0 ∷ []) 10 5
     ∷ row (0x01 ∷ 2 ∷ 1 ∷ 1 ∷ 0x06 ∷ 0x06 ∷ []) 10 5

@@ -11,7 +11,7 @@ use Rattle.sheet.specs.declared.Span.{Span}
 use Rattle.lists.specs.Lists.{last, precedes, count, any, all, upTo, joined}
 use Rattle.sheet.specs.Sheet.{Sheet, rowsAt, ruleAt, after, leads, reachedWithin, allReached, unruledChoices, choicesAt, isOpen, openBelow, openPairs, wakings, wakingChoices, wakingSlots, openSlots}
 use Rattle.sheet.specs.Reading.{Result, accepted, refused, firstBroken, ascends, rises, lastTest, ruleAfter, refusal, addPress, advance, finishing, doing, oneCommand, from, blank, reading, summaryOf}
-use Rattle.sheet.specs.Encode.{rowBytes, operandBytes, testBytes, sizeBytes, machineBytes}
+use Rattle.sheet.specs.Encode.{rowBytes, operandBytes, testBytes, sizeBytes, quietBytes, machineBytes}
 use Rattle.sheet.specs.Part.{spanOf, parting}
 use Rattle.sheet.specs.laws.AcceptedLaw.{well-formed}
 use lib.Count.{ones}
@@ -23,7 +23,7 @@ use Rattle.model.specs.Suite.{Judgement, complete, survivor, wrongFrom, wrongIn
 use Rattle.model.specs.Operations.{reads, firstHigh, firstOver, withMutant, Response, responseOf, running, failing, comparing, judging, runOn, compareOn, judgeOn}
 use Rattle.model.specs.laws.UsedBitLaw.{ones-count}
 use Rattle.model.specs.laws.QuickJudgeLaw.{tabulate, cellAt, rounds, compareQuick, firstQuick, judgeQuick, quick}
-use Rattle.worked.specs.Sheets.{p1machine, p1, p2, p3, emptyTest, p4machine, p4, p5, p6, p9machine, bababa, p9, p10, stuck, chain, open32, open33, manyTests, p1start, onlyStart, equalStart, start31, start32}
+use Rattle.worked.specs.Sheets.{p1machine, p1, p2, p3, emptyTest, p4machine, p4, p5, p6, p9machine, bababa, p9, p10, stuck, chain, open32, open33, manyTests, p1start, onlyStart, equalStart, start31, start32, p4silent, p4quiet, p4quietStart, quiet200}
 
 -- the sheet that was read
 abbrev sheetOf : Result Sheet → Sheet
@@ -182,12 +182,30 @@ waking =
     ∷ read start32 (refused 12 16)
     ∷ []
 
+-- 02, Point 7: a pair without a rule has one choice, is not open and stays; conformance looks at defined sequences alone; with START
+unfoldable pub silent : List Row
+silent =
+    read p4quiet (summary 2 2 2 3 1 1 1)
+    ∷ open-pairs p4quiet (accepted (pair 1 1 ∷ []))
+    ∷ choices p4quiet (accepted (2 ∷ []))
+    ∷ part p4quiet 0 (accepted (record { start = 26; length = 4 }))
+    ∷ run p4quiet (1 ∷ []) (1 ∷ 1 ∷ 0 ∷ 1 ∷ []) 4 (ran (0 ∷ 0 ∷ 1 ∷ 1 ∷ []) 1 1)
+    ∷ failed p4quiet (1 ∷ []) (passed 1 1)
+    ∷ compared p4quiet (0 ∷ []) 4 (accepted none)
+    ∷ compared p4quiet (1 ∷ []) 4 (accepted (some (0 ∷ 1 ∷ 0 ∷ [])))
+    ∷ judged p4quiet 1 4 (accepted (survivor (1 ∷ []) (0 ∷ 1 ∷ 0 ∷ [])))
+    ∷ choices p4quietStart (accepted (2 ∷ 2 ∷ []))
+    ∷ run p4quietStart (1 ∷ 0 ∷ []) (1 ∷ 1 ∷ 0 ∷ []) 3 (ran (1 ∷ 0 ∷ 1 ∷ []) 2 3)
+    ∷ judged p4quietStart 2 4 (accepted (survivor (0 ∷ 1 ∷ []) (0 ∷ 1 ∷ 0 ∷ [])))
+    ∷ read quiet200 (summary 16 16 16 56 0 0 0)
+    ∷ []
+
 unfoldable pub rows : List Row
-rows = listed ++ (judged p10 4 16 (accepted complete) ∷ (further ++ (touching ++ waking)))
+rows = listed ++ (judged p10 4 16 (accepted complete) ∷ (further ++ (touching ++ (waking ++ silent))))
 
 -- the definitions that the rows compute with, by one name: to unfold it is to unfold them
 computing : Unit {0}
-unfolding p1machine p1 p2 p3 emptyTest p4machine p4 p5 p6 p9machine bababa p9 p10 stuck chain open32 open33 manyTests p1start onlyStart equalStart start31 start32 last precedes count any all upTo joined rowsAt ruleAt after leads reachedWithin allReached unruledChoices choicesAt isOpen openBelow openPairs wakings wakingChoices wakingSlots openSlots firstBroken ascends rises lastTest ruleAfter refusal addPress advance finishing doing oneCommand from blank reading summaryOf rowBytes operandBytes testBytes sizeBytes machineBytes spanOf parting outputsFrom rule unruled transitions suspects slots siteIn siteOf choiceLists mutants acts step initial startSlot outputs has markFrom markAll usedOn least shows within best shortest distance compareFrom comparePair wrongFrom wrongIn firstFailedIn firstFailedOf findingOf compareOf survivorAmong judgeOf firstHigh firstOver withMutant responseOf runOn running failing compareOn comparing judgeOn judging
+unfolding p1machine p1 p2 p3 emptyTest p4machine p4 p5 p6 p9machine bababa p9 p10 stuck chain open32 open33 manyTests p1start onlyStart equalStart start31 start32 p4silent p4quiet p4quietStart quiet200 last precedes count any all upTo joined rowsAt ruleAt after leads reachedWithin allReached unruledChoices choicesAt isOpen openBelow openPairs wakings wakingChoices wakingSlots openSlots firstBroken ascends rises lastTest ruleAfter refusal addPress advance finishing doing oneCommand from blank reading summaryOf rowBytes operandBytes testBytes sizeBytes quietBytes machineBytes spanOf parting outputsFrom rule unruled transitions suspects slots siteIn siteOf choiceLists mutants acts step initial startSlot outputs has markFrom markAll usedOn least shows within best shortest distance compareFrom comparePair wrongFrom wrongIn firstFailedIn firstFailedOf findingOf compareOf survivorAmong judgeOf firstHigh firstOver withMutant responseOf runOn running failing compareOn comparing judgeOn judging
 computing = tt
 
 -- P10's eight conforming mutants that pass are compared over all sequences of 16 inputs: a quicker judgement, proved to be
@@ -218,5 +236,5 @@ _&_ : {A B : Type 0} → A → B → A × B
 a & b = (a, b)
 
 pub rows-hold : AllHold rows
-unfolding computing ones rows listed further touching waking Holds AllHold
-rows-hold = refl & refl & refl & refl & refl & refl & refl & refl & refl & refl & refl & refl & refl & refl & refl & refl & refl & refl & refl & refl & refl & refl & refl & p10-holds & refl & refl & refl & refl & refl & refl & refl & refl & refl & refl & refl & refl & refl & refl & refl & refl & refl & refl & refl & refl & refl & refl & refl & refl & refl & refl & refl & refl & refl & refl & refl & refl & refl & refl & refl & refl & refl & open32-holds & refl & refl & refl & refl & refl & refl & refl & refl & refl & refl & refl & refl & refl & refl & refl & refl & refl & refl & refl & refl & refl & refl & refl & refl & tt
+unfolding computing ones rows listed further touching waking silent Holds AllHold
+rows-hold = refl & refl & refl & refl & refl & refl & refl & refl & refl & refl & refl & refl & refl & refl & refl & refl & refl & refl & refl & refl & refl & refl & refl & p10-holds & refl & refl & refl & refl & refl & refl & refl & refl & refl & refl & refl & refl & refl & refl & refl & refl & refl & refl & refl & refl & refl & refl & refl & refl & refl & refl & refl & refl & refl & refl & refl & refl & refl & refl & refl & refl & refl & open32-holds & refl & refl & refl & refl & refl & refl & refl & refl & refl & refl & refl & refl & refl & refl & refl & refl & refl & refl & refl & refl & refl & refl & refl & refl & refl & refl & refl & refl & refl & refl & refl & refl & refl & refl & refl & refl & refl & tt

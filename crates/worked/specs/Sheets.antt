@@ -1,7 +1,8 @@
 -- The bytes of the sheets that 01 lists, and of a few more: a command to a line.
-use Prim.Native.Nat.{ℕ}
+use Prim.Native.Nat.{ℕ, suc}
 use mathlib.Core.List.{List, [], _∷_, _++_}
 use lib.ListN.{replicate}
+use Rattle.lists.specs.Lists.{upTo, joined}
 
 -- P1's machine: two states, two inputs, two outputs
 unfoldable pub p1machine : List ℕ
@@ -149,3 +150,26 @@ start31 = 0x01 ∷ 2 ∷ 16 ∷ 1 ∷ 0x02 ∷ 0 ∷ 0 ∷ 0 ∷ 1 ∷ 0x07 ∷ 
 
 unfoldable pub start32 : List ℕ
 start32 = 0x01 ∷ 2 ∷ 16 ∷ 1 ∷ 0x02 ∷ 0 ∷ 0 ∷ 0 ∷ 1 ∷ 0x03 ∷ 0 ∷ 0 ∷ 0 ∷ 0 ∷ 0x07 ∷ 1 ∷ 0x06 ∷ []
+
+-- P4 with QUIET (02, Point 7)
+unfoldable pub p4silent : List ℕ
+p4silent =
+    0x01 ∷ 2 ∷ 2 ∷ 2 ∷
+    0x08 ∷
+    0x02 ∷ 0 ∷ 0 ∷ 1 ∷ 1 ∷
+    0x02 ∷ 1 ∷ 0 ∷ 0 ∷ 1 ∷
+    0x02 ∷ 1 ∷ 1 ∷ 1 ∷ 0 ∷
+    0x03 ∷ 1 ∷ 1 ∷ 1 ∷ 1 ∷ []
+
+unfoldable pub p4quiet : List ℕ
+p4quiet = p4silent ++ 0x04 ∷ 0x05 ∷ 0 ∷ 0x05 ∷ 1 ∷ 0x06 ∷ []
+
+-- and START 1
+unfoldable pub p4quietStart : List ℕ
+p4quietStart = p4silent ++ 0x07 ∷ 1 ∷ 0x04 ∷ 0x05 ∷ 0 ∷ 0x05 ∷ 1 ∷ 0x06 ∷ []
+
+-- sixteen states and inputs, RULEs at 56 pairs, QUIET
+unfoldable pub quiet200 : List ℕ
+quiet200 =
+    0x01 ∷ 16 ∷ 16 ∷ 16 ∷ 0x08 ∷
+    (joined (λ s. 0x02 ∷ s ∷ 0 ∷ 0 ∷ suc s ∷ 0x02 ∷ s ∷ 1 ∷ 0 ∷ 15 ∷ 0x02 ∷ s ∷ 2 ∷ 0 ∷ s ∷ 0x02 ∷ s ∷ 3 ∷ 0 ∷ s ∷ []) (upTo 14) ++ 0x06 ∷ [])

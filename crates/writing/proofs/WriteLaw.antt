@@ -78,7 +78,7 @@ module _ (d : Drawing) (room : ℕ) where
   unfolding writing
   write-cut l e = promised _ l l (puts-refused (writing d room) 2 l (rw e refl))
 
-  module _ (is-whole : isCut d ≡ false) (long : Bool) (is : long ≡ ltb 16384 (lengthOf (length (d .rules)) (length (d .faults)) (length (d .starts)) (length (d .lengths)) (length (d .presses)))) where
+  module _ (is-whole : isCut d ≡ false) (long : Bool) (is : long ≡ ltb 16384 (lengthOf (d .quiet) (length (d .rules)) (length (d .faults)) (length (d .starts)) (length (d .lengths)) (length (d .presses)))) where
     measured : long ≡ ltb 16384 (length (encode (sheetOf d)))
     measured = is ∙ ap (ltb 16384) (sym (sheet-length d (whole d is-whole)))
 

@@ -9,18 +9,19 @@ use Rattle.sheet.specs.declared.Size.{Size}
 use Rattle.lists.specs.Lists.{joined}
 use Rattle.sheet.specs.Sheet.{Sheet, rowOf}
 
--- rules and faults four bytes a row (s x o t); the STARTs' states; the lengths of the tests, and their inputs end to end
+-- whether the sheet is quiet; rules and faults four bytes a row (s x o t); the STARTs' states; the lengths of the tests, and their inputs end to end
 pub record Drawing : Type 0 where
   pub size : Size
+  pub quiet : Bool
   pub rules : List ℕ
   pub faults : List ℕ
   pub starts : List ℕ
   pub lengths : List ℕ
   pub presses : List ℕ
 
-abbrev pub drawing : Size → List ℕ → List ℕ → List ℕ → List ℕ → List ℕ → Drawing
-drawing size rules faults starts lengths presses =
-    record { size = size; rules = rules; faults = faults; starts = starts; lengths = lengths; presses = presses }
+abbrev pub drawing : Size → Bool → List ℕ → List ℕ → List ℕ → List ℕ → List ℕ → Drawing
+drawing size quiet rules faults starts lengths presses =
+    record { size = size; quiet = quiet; rules = rules; faults = faults; starts = starts; lengths = lengths; presses = presses }
 
 -- the whole rows of a table
 unfoldable pub rowsOf : List ℕ → List Row
@@ -47,6 +48,7 @@ unfoldable pub sheetOf : Drawing → Sheet
 sheetOf d =
     record {
       size = d .size;
+      quiet = d .quiet;
       rules = rowsOf (d .rules);
       faults = rowsOf (d .faults);
       starts = d .starts;
@@ -58,6 +60,7 @@ unfoldable pub drawingOf : Sheet → Drawing
 drawingOf sh =
     record {
       size = sh .size;
+      quiet = sh .quiet;
       rules = joined rowOf (sh .rules);
       faults = joined rowOf (sh .faults);
       starts = sh .starts;

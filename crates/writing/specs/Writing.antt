@@ -31,7 +31,7 @@ abbrev pub sheetWrites : Result (List ℕ) → List ℕ
 sheetWrites (accepted s) = s
 sheetWrites (refused number place) = []
 
--- the bytes are an accepted sheet, and its sizes, rules, faults, STARTs and tests are those of the tables
+-- the bytes are an accepted sheet, and its sizes, QUIET, rules, faults, STARTs and tests are those of the tables
 pub record Spells (d : Drawing) (s : List ℕ) : Type 0 where
   pub sheet : Sheet
   pub reads : reading s ≡ accepted sheet

@@ -2,13 +2,15 @@
 // Promises the sheet's bytes and length, or the refusal, and that a written sheet reads as the very tables it was made from.
 // Called by users, by `generator` and by `capi`.
 ghost use mathlib.Core.Path.{_≡_};
-ghost use Prim.Native.Nat.{ℕ};
+ghost use Prim.Native.Nat.{ℕ, _+_, _≤_};
+ghost use mathlib.Core.Bool.{Bool};
 ghost use mathlib.Core.List.{List};
 ghost use lib.Dec.{eqb, ltb};
 ghost use lib.ListN.{length};
 ghost use Rattle.sheet.specs.declared.Size.{Size as Sizes};
 ghost use Rattle.lists.specs.Lists.{overlay};
 ghost use Rattle.sheet.specs.Reading.{reading};
+ghost use Rattle.sheet.specs.Encode.{quietBytes};
 ghost use Rattle.writing.specs.Drawing.{total, isCut, drawing};
 ghost use Rattle.writing.specs.words.Spelled.{lengthOf};
 ghost use Rattle.writing.specs.Writing.{placed, writing, writtenAnswer, sheetWrites, ToldWritten};
@@ -44,8 +46,8 @@ fn adds_up(lengths: &[u16], presses: usize) -> bool
 }
 
 fn is_cut(rules: &[u8], faults: &[u8], lengths: &[u16], presses: &[u8]) -> bool
-    ensures { λ r. ⌜ ((size : Sizes) (starts : List ℕ)
-        → r ≡ isCut (drawing size (now (rules .entry)) (now (faults .entry)) starts (now (lengths .entry)) (now (presses .entry)))) ⌝ }
+    ensures { λ r. ⌜ ((size : Sizes) (quiet : Bool) (starts : List ℕ)
+        → r ≡ isCut (drawing size quiet (now (rules .entry)) (now (faults .entry)) starts (now (lengths .entry)) (now (presses .entry)))) ⌝ }
 {
     if rules.len() % 4 != 0 {
         return true;
@@ -56,9 +58,24 @@ fn is_cut(rules: &[u8], faults: &[u8], lengths: &[u16], presses: &[u8]) -> bool
     !adds_up(lengths, presses.len())
 }
 
+// The bytes of SIZE, of QUIET if it stands, and of END.
+fn frame(quiet: bool) -> usize
+    ensures few { λ r. ⌜ r ≤ 6 ⌝ }
+    ensures counted { λ r. ⌜ r ≡ 5 + length (quietBytes quiet) ⌝ }
+{
+    if quiet { 6 } else { 5 }
+}
+
 // Whether the sheet of tables of so many bytes, STARTs, tests and presses has over 16,384 bytes.
-fn is_long(rules: usize, faults: usize, starts: usize, tests: usize, presses: usize) -> bool
-    ensures { λ r. ⌜ r ≡ ltb 16384 (lengthOf rules faults starts tests presses) ⌝ }
+fn is_long(
+    quiet: bool,
+    rules: usize,
+    faults: usize,
+    starts: usize,
+    tests: usize,
+    presses: usize,
+) -> bool
+    ensures { λ r. ⌜ r ≡ ltb 16384 (lengthOf quiet rules faults starts tests presses) ⌝ }
 {
     if rules > 16384 {
         return true;
@@ -75,7 +92,7 @@ fn is_long(rules: usize, faults: usize, starts: usize, tests: usize, presses: us
     if presses > 16384 {
         return true;
     }
-    5 + 5 * (rules / 4) + 5 * (faults / 4) + 2 * starts + tests + 2 * presses > 16384
+    frame(quiet) + 5 * (rules / 4) + 5 * (faults / 4) + 2 * starts + tests + 2 * presses > 16384
 }
 
 // A sheet to a buffer's front, where reading accepts it and there is room.
@@ -94,10 +111,11 @@ fn put(sheet: &[u8], buffer: &mut [u8]) -> Written
     Written::Done(spell::bytes(sheet, buffer, 0))
 }
 
-// The sheet of the tables at the buffer's front: rules and faults four bytes a row (s x o t), the STARTs' states, the lengths of the
+// The sheet of the tables at the buffer's front: whether it is quiet, rules and faults four bytes a row (s x o t), the STARTs' states, the lengths of the
 // tests, and their presses end to end.
 pub fn write(
     size: Size,
+    quiet: bool,
     rules: &[u8],
     faults: &[u8],
     starts: &[u8],
@@ -105,14 +123,15 @@ pub fn write(
     presses: &[u8],
     buffer: &mut [u8],
 ) -> Written
-    ensures answer { λ r. ⌜ r ≡ writtenAnswer (writing (drawing size (now (rules .entry)) (now (faults .entry)) (now (starts .entry)) (now (lengths .entry)) (now (presses .entry))) (length (now (buffer .entry)))) ⌝ }
-    ensures bytes { λ r. ⌜ now (buffer .exit) ≡ overlay (sheetWrites (writing (drawing size (now (rules .entry)) (now (faults .entry)) (now (starts .entry)) (now (lengths .entry)) (now (presses .entry))) (length (now (buffer .entry))))) (now (buffer .entry)) ⌝ }
-    ensures told { λ r. ⌜ ToldWritten (drawing size (now (rules .entry)) (now (faults .entry)) (now (starts .entry)) (now (lengths .entry)) (now (presses .entry))) r (now (buffer .exit)) ⌝ }
+    ensures answer { λ r. ⌜ r ≡ writtenAnswer (writing (drawing size quiet (now (rules .entry)) (now (faults .entry)) (now (starts .entry)) (now (lengths .entry)) (now (presses .entry))) (length (now (buffer .entry)))) ⌝ }
+    ensures bytes { λ r. ⌜ now (buffer .exit) ≡ overlay (sheetWrites (writing (drawing size quiet (now (rules .entry)) (now (faults .entry)) (now (starts .entry)) (now (lengths .entry)) (now (presses .entry))) (length (now (buffer .entry))))) (now (buffer .entry)) ⌝ }
+    ensures told { λ r. ⌜ ToldWritten (drawing size quiet (now (rules .entry)) (now (faults .entry)) (now (starts .entry)) (now (lengths .entry)) (now (presses .entry))) r (now (buffer .exit)) ⌝ }
 {
     if is_cut(rules, faults, lengths, presses) {
         return Written::Refused(2, 0);
     }
     if is_long(
+        quiet,
         rules.len(),
         faults.len(),
         starts.len(),
@@ -122,6 +141,15 @@ pub fn write(
         return Written::Refused(1, 0);
     }
     let mut sheet = [0u8; 16384];
-    let end = spell::spell(size, rules, faults, starts, lengths, presses, &mut sheet);
+    let end = spell::spell(
+        size,
+        quiet,
+        rules,
+        faults,
+        starts,
+        lengths,
+        presses,
+        &mut sheet,
+    );
     put(&sheet[..end], buffer)
 }

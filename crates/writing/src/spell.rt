@@ -3,7 +3,7 @@ ghost use mathlib.Core.Path.{_≡_};
 ghost use mathlib.Core.List.{[], _∷_};
 ghost use Prim.Native.Nat.{_+_, _≤_, _<_};
 ghost use lib.ListN.{length};
-ghost use Rattle.sheet.specs.Encode.{rowBytes, operandBytes, pressBytes, testBytes, encode};
+ghost use Rattle.sheet.specs.Encode.{quietBytes, rowBytes, operandBytes, pressBytes, testBytes, encode};
 ghost use Rattle.writing.specs.Drawing.{rowsOf, testsOf, total, drawing, sheetOf};
 ghost use Rattle.writing.specs.words.Spelled.{Spelled};
 use sheet::Size;
@@ -35,6 +35,17 @@ fn command(b: u8, operands: &[u8], sheet: &mut [u8], at: usize) -> usize
 {
     let to = byte(b, sheet, at);
     bytes(operands, sheet, to)
+}
+
+// QUIET, if it stands.
+fn quieted(quiet: bool, sheet: &mut [u8], at: usize) -> usize
+    requires { ⌜ at + length (quietBytes quiet) ≤ length (now sheet) ⌝ }
+    ensures { λ r. ⌜ Spelled (now (sheet .entry)) (now (sheet .exit)) at r (quietBytes quiet) ⌝ }
+{
+    if quiet {
+        return byte(8, sheet, at);
+    }
+    at
 }
 
 // A command for each whole row of a table.
@@ -102,6 +113,7 @@ fn tests(lengths: &[u16], inputs: &[u8], sheet: &mut [u8], at: usize) -> usize
 // The sheet of tables whose lengths add up to no more than the presses.
 pub(crate) fn spell(
     size: Size,
+    quiet: bool,
     rules: &[u8],
     faults: &[u8],
     starts: &[u8],
@@ -110,11 +122,12 @@ pub(crate) fn spell(
     sheet: &mut [u8],
 ) -> usize
     requires { ⌜ total (now lengths) ≤ length (now inputs) ⌝ }
-    requires { ⌜ length (encode (sheetOf (drawing size (now rules) (now faults) (now starts) (now lengths) (now inputs)))) ≤ length (now sheet) ⌝ }
-    ensures { λ r. ⌜ Spelled (now (sheet .entry)) (now (sheet .exit)) 0 r (encode (sheetOf (drawing size (now (rules .entry)) (now (faults .entry)) (now (starts .entry)) (now (lengths .entry)) (now (inputs .entry))))) ⌝ }
+    requires { ⌜ length (encode (sheetOf (drawing size quiet (now rules) (now faults) (now starts) (now lengths) (now inputs)))) ≤ length (now sheet) ⌝ }
+    ensures { λ r. ⌜ Spelled (now (sheet .entry)) (now (sheet .exit)) 0 r (encode (sheetOf (drawing size quiet (now (rules .entry)) (now (faults .entry)) (now (starts .entry)) (now (lengths .entry)) (now (inputs .entry))))) ⌝ }
 {
     let sizes = [size.states, size.inputs, size.outputs];
-    let ruled = command(1, &sizes, sheet, 0);
+    let sized = command(1, &sizes, sheet, 0);
+    let ruled = quieted(quiet, sheet, sized);
     let faulted = rows(2, rules, sheet, ruled);
     let started = rows(3, faults, sheet, faulted);
     let tested = operands(7, starts, sheet, started);

@@ -12,6 +12,7 @@ mod c {
             states: u8,
             inputs: u8,
             outputs: u8,
+            quiet: u8,
             rules: *const u8,
             rules_length: usize,
             faults: *const u8,
@@ -41,6 +42,7 @@ mod c {
 /// Number, place, the sheet's length. The sheet is written to the front of the buffer.
 pub fn write(
     [states, inputs, outputs]: [u8; 3],
+    quiet: bool,
     rules: &[u8],
     faults: &[u8],
     starts: &[u8],
@@ -55,6 +57,7 @@ pub fn write(
             states,
             inputs,
             outputs,
+            quiet.into(),
             rules.as_ptr(),
             rules.len(),
             faults.as_ptr(),
@@ -82,6 +85,7 @@ pub fn checked_write(tables: &Tables, room: usize) -> Result<Vec<u8>, Refusal> {
     let mut answer = Answer::new();
     write(
         tables.size,
+        tables.quiet,
         rules.content(),
         faults.content(),
         starts.content(),

@@ -6,14 +6,14 @@ use Prim.Native.Nat.{ℕ, _+_, _-_, _/_, _%_, _<_, _≤_}
 use native.Mathlib.Omega.{arith}
 use native.Mathlib.Nat.{mod-lt}
 use native.Mathlib.Decide.{ℕ-discrete, decLt}
-use borrow.Author.Tests.{eq-eqb, ne-eqb, lt-ltb, le-ltb}
-use mathlib.Core.Bool.{false}
-use lib.Dec.{eqb}
+use borrow.Author.Tests.{eq-eqb, ne-eqb, lt-ltb, le-ltb, ltb-true}
+use mathlib.Core.Bool.{Bool, true, false, cond}
+use lib.Dec.{eqb, ltb}
 use lib.ListN.{getD}
 use Rattle.model.specs.Machine.{Move}
 use Rattle.lists.specs.laws.TestLaw.{never}
 use Rattle.block.specs.Layout.{pair, waking, ruleOutput, ruleTarget, siteAt, firstFault, mutated, diverted, choicesOf, statesOf, inputsOf, wakeAt}
-use Rattle.block.specs.Tabulated.{Wf, choicesAt, choiceOf, chosen, ruleOf, stepOf, startOf, Ranged, StepIs}
+use Rattle.block.specs.Tabulated.{Wf, choicesAt, stayAt, choiceOf, chosen, ruleOf, stepOf, startOf, Ranged, StepIs}
 use Rattle.block.specs.declared.layout.Step.{Step}
 
 pub choice-waking : (m : List ℕ) (c : ℕ) → choiceOf m waking c ≡ record { output = 0; target = wakeAt m c }
@@ -23,9 +23,21 @@ choice-waking m c = refl
 not-waking : (k : ℕ) → k < 256 → eqb k waking ≡ false
 not-waking k l = ne-eqb k waking (λ z. omega (arith, l, z))
 
-pub choice-unruled : (m : List ℕ) (k c : ℕ) → k < 256 → ruleTarget m k ≡ 255 → choiceOf m k c ≡ record { output = c / statesOf m; target = c % statesOf m }
+pub choice-unruled : (m : List ℕ) (k c : ℕ) → k < 256 → ruleTarget m k ≡ 255 → (siteAt m k ≡ 255 → ⊥)
+    → choiceOf m k c ≡ record { output = c / statesOf m; target = c % statesOf m }
 unfolding choiceOf
-choice-unruled m k c l e = rw (not-waking k l, eq-eqb _ _ e)
+choice-unruled m k c l e n = rw (not-waking k l, eq-eqb _ _ e, ne-eqb _ _ n)
+
+pub choice-stays : (m : List ℕ) (k c : ℕ) → k < 256 → ruleTarget m k ≡ 255 → siteAt m k ≡ 255 → choiceOf m k c ≡ stayAt m k
+unfolding choiceOf
+choice-stays m k c l e f = rw (not-waking k l, eq-eqb _ _ e, eq-eqb _ _ f)
+
+stay-low : (m : List ℕ) (k : ℕ) → 1 ≤ statesOf m → stayAt m k .target < statesOf m
+stay-low m k l = go (ltb (k / 16) (statesOf m)) refl
+  where
+    go : (b : Bool) → ltb (k / 16) (statesOf m) ≡ b → cond b (k / 16) 0 < statesOf m
+    go true e = ltb-true (k / 16) (statesOf m) e
+    go false e = l
 
 pub choice-rule : (m : List ℕ) (k : ℕ) → k < 256 → (ruleTarget m k ≡ 255 → ⊥) → choiceOf m k 0 ≡ record { output = ruleOutput m k; target = ruleTarget m k }
 unfolding choiceOf
@@ -63,8 +75,12 @@ choice-few {m} k c wf lk lc = go (ℕ-discrete (siteAt m k) 255)
 pub choice-low : {m : List ℕ} (k c : ℕ) → Wf m → k < 257 → c < choicesAt m k → choiceOf m k c .target < statesOf m
 choice-low {m} k c wf lk lc = go (decLt k 256)
   where
+    unruled : k < 256 → ruleTarget m k ≡ 255 → Dec (siteAt m k ≡ 255) → choiceOf m k c .target < statesOf m
+    unruled l e (yes f) = rw (choice-stays m k c l e f) (stay-low m k (wf .some-states))
+    unruled l e (no n) = rw (choice-unruled m k c l e n) (mod-lt c (wf .some-states))
+
     at-pair : k < 256 → Dec (ruleTarget m k ≡ 255) → Dec (c ≡ 0) → choiceOf m k c .target < statesOf m
-    at-pair l (yes e) z = rw (choice-unruled m k c l e) (mod-lt c (wf .some-states))
+    at-pair l (yes e) z = unruled l e (ℕ-discrete (siteAt m k) 255)
     at-pair l (no n) (yes z) = rw (z, choice-rule m k l n) (wf .rules k l n)
     at-pair l (no n) (no z) = rw (choice-fault m k c l n z) (wf .targets (firstFault m k + c - 1) (omega (arith, wf .faults k c l n lc, z)))
 
@@ -91,11 +107,15 @@ chosen-low {m} {b} wf r k l = go (ℕ-discrete (siteAt m k) 255)
     go (no n) = rw (chosen-some m b k n, choices-some m k n) (r .at (siteAt m k) (wf .sites k l n))
 
 -- ---- what `transition` answers
-pub is-unruled : {m : List ℕ} (k c n : ℕ) (r : Step) → k < 256 → ruleTarget m k ≡ 255 → n ≡ statesOf m → (1 ≤ n → c < 256 → (r .output ≡ c / n) × (r .target ≡ c % n)) → StepIs m k c r
-is-unruled {m} k c n r lk e en f = record {
-  output = λ wf lc. rw (choice-unruled m k c lk e, ← en) (f (omega (arith, en, wf .some-states)) (choice-few k c wf (omega (arith, lk)) lc) .0);
-  target = λ wf lc. rw (choice-unruled m k c lk e, ← en) (f (omega (arith, en, wf .some-states)) (choice-few k c wf (omega (arith, lk)) lc) .1);
+pub is-unruled : {m : List ℕ} (k c n : ℕ) (r : Step) → k < 256 → ruleTarget m k ≡ 255 → (siteAt m k ≡ 255 → ⊥) → n ≡ statesOf m
+    → (1 ≤ n → c < 256 → (r .output ≡ c / n) × (r .target ≡ c % n)) → StepIs m k c r
+is-unruled {m} k c n r lk e s en f = record {
+  output = λ wf lc. rw (choice-unruled m k c lk e s, ← en) (f (omega (arith, en, wf .some-states)) (choice-few k c wf (omega (arith, lk)) lc) .0);
+  target = λ wf lc. rw (choice-unruled m k c lk e s, ← en) (f (omega (arith, en, wf .some-states)) (choice-few k c wf (omega (arith, lk)) lc) .1);
 }
+
+pub is-staying : {m : List ℕ} (k c : ℕ) (r : Step) → k < 256 → ruleTarget m k ≡ 255 → siteAt m k ≡ 255 → r .output ≡ 0 → r .target ≡ stayAt m k .target → StepIs m k c r
+is-staying {m} k c r l e f eo et = record { output = λ wf lc. rw (choice-stays m k c l e f) eo; target = λ wf lc. rw (choice-stays m k c l e f) et }
 
 pub is-rule : {m : List ℕ} (k c : ℕ) (r : Step) → k < 256 → (ruleTarget m k ≡ 255 → ⊥) → c ≡ 0 → r .output ≡ ruleOutput m k → r .target ≡ ruleTarget m k → StepIs m k c r
 is-rule {m} k c r l n z eo et = record { output = λ wf lc. rw (z, choice-rule m k l n) eo; target = λ wf lc. rw (z, choice-rule m k l n) et }

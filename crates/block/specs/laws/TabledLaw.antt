@@ -12,7 +12,7 @@ use lib.Dec.{eqb, ltb}
 use lib.ListN.{length, getD, replicate, List·getD-eq-default}
 use Rattle.sheet.specs.declared.Row.{Row}
 use Rattle.lists.specs.Lists.{maybe, isNone, first}
-use Rattle.sheet.specs.Sheet.{Sheet, rowsAt, ruleAt, unruledChoices, choicesAt as choicesIn, wakingChoices, wakingSlots}
+use Rattle.sheet.specs.Sheet.{Sheet, rowsAt, ruleAt, unruledChoices, choicesAt as choicesIn, isOpen, wakingChoices, wakingSlots}
 use Rattle.sheet.specs.Tables.{firstAt, firstFault as firstRow, noRow}
 use Rattle.lists.specs.laws.TestLaw.{never}
 use Rattle.sheet.specs.laws.TablesLaw.{fault-at, fault-below}
@@ -23,15 +23,15 @@ use Rattle.model.specs.Mutant.{moveOf, rule, transitions, Suspect, suspects, sl
 use Rattle.model.specs.Log.{GivesLog}
 use Rattle.lists.specs.laws.AllLaw.{all-every, all-imp, all-map, all-append, all-replicate, all-getD}
 use Rattle.model.specs.laws.StaysLaw.{rule-row, rule-in}
-use Rattle.model.specs.laws.SuspectLaw.{slot-count, site-is, site-one, site-outside, waking-slot, waking-apart}
-use Rattle.model.specs.laws.TransitionLaw.{rule-choice, fault-choice, unruled-choice, choices-few, choices-some as some-choice}
+use Rattle.model.specs.laws.SuspectLaw.{slotsBefore, slot-count, site-none, site-open, site-is, site-one, site-outside, waking-slot, waking-apart}
+use Rattle.model.specs.laws.TransitionLaw.{rule-choice, fault-choice, unruled-choice, only-choice, open-unruled, shut-unruled, choices-few, choices-some as some-choice}
 use Rattle.model.specs.laws.OperationLaw.{mutant-length, in-range-at}
 use Rattle.model.specs.laws.StepLaw.{step-at, step-outside, choice-below, choiceOf as choiceAt}
 use Rattle.block.specs.Layout.{pair, waking, ruleOutput, ruleTarget, siteAt, firstFault, mutated, diverted, choicesOf}
 use Rattle.block.specs.Tabulated.{choicesAt, choiceOf, chosen, ruleOf, stepOf, startOf, pairOf, Ranged, Wf}
 use Rattle.block.specs.Logged.{GivesOf, observations}
 use Rattle.block.specs.Tabled.{Tabled}
-use Rattle.block.specs.laws.ChoiceLaw.{choice-waking, choice-unruled, choice-rule, choice-fault, choices-none, choices-some, chosen-none, chosen-some, start-is}
+use Rattle.block.specs.laws.ChoiceLaw.{choice-waking, choice-unruled, choice-stays, choice-rule, choice-fault, choices-none, choices-some, chosen-none, chosen-some, start-is}
 
 -- ---- numbers
 
@@ -82,12 +82,14 @@ module _ {sh : Sheet} {m : List ℕ} (bl : Tabled sh m) where
     low : pair s x < 256
     state : pair s x / 16 ≡ s
     input : pair s x % 16 ≡ x
+    in-states : s < sh .size .states
+    in-inputs : x < sh .size .inputs
 
   here : (s x : ℕ) → s < sh .size .states → x < sh .size .inputs → Here s x
   here s x ls lx =
       let a = wf .size .states .few in
       let b = wf .size .inputs .few in
-      record { low = omega arith; state = omega arith; input = omega arith }
+      record { low = omega arith; state = omega arith; input = omega arith; in-states = ls; in-inputs = lx }
 
   -- ---- the specification
 
@@ -167,9 +169,22 @@ module _ {sh : Sheet} {m : List ℕ} (bl : Tabled sh m) where
   fault-move f l = rw (bl .fault-outputs f l, bl .fault-targets f l) refl
 
   choice-at : (s x c : ℕ) → Here s x → c < choicesIn sh s x → choiceOf m (pair s x) c ≡ getD (transitions sh s x) c idle
-  unfolding choicesIn unruledChoices
+  unfolding choicesIn
   choice-at s x c h l = go (ruleAt (sh .rules) s x) refl l
     where
+      -- without a rule: a suspect has every transition, another pair stays
+      unruled : ruleAt (sh .rules) s x ≡ none → c < unruledChoices sh → (b : Bool) → isOpen sh s x ≡ b → choiceOf m (pair s x) c ≡ getD (transitions sh s x) c idle
+      unruled e k true o =
+          let site : siteAt m (pair s x) ≡ slotsBefore sh s x = site-at s x h ∙ rw (site-open sh s x (h .in-states) (h .in-inputs) o) refl in
+          let low = site-low s x (slotsBefore sh s x) (site-open sh s x (h .in-states) (h .in-inputs) o) in
+          choice-unruled m (pair s x) c (h .low) (target-at s x h ∙ rw e refl) (λ z. omega (arith, site, low, z))
+          ∙ rw (bl .states) (sym (unruled-choice sh s x c e (open-unruled sh s x e o) k))
+      unruled e k false o =
+          let one = shut-unruled sh wf s x e o in
+          let z : c ≡ 0 = omega (arith, one) in
+          choice-stays m (pair s x) c (h .low) (target-at s x h ∙ rw e refl) (site-at s x h ∙ rw (site-none sh s x o) refl)
+          ∙ rw (h .state, bl .states, lt-ltb s (sh .size .states) (h .in-states), z) (sym (only-choice sh s x e (h .in-states) one))
+
       ruled : (r : Row) → ruleAt (sh .rules) s x ≡ some r → (ruleTarget m (pair s x) ≡ 255 → ⊥) → (d : ℕ) → d < suc (length (rowsAt (sh .faults) s x)) →
           choiceOf m (pair s x) d ≡ getD (transitions sh s x) d idle
       ruled r e ne zero k = choice-rule m (pair s x) (h .low) ne ∙ rw (target-at s x h, output-at s x h, e) (sym (rule-choice sh s x r e))
@@ -180,9 +195,9 @@ module _ {sh : Sheet} {m : List ℕ} (bl : Tabled sh m) where
           ∙ rw f (fault-move (firstRow (sh .faults) s x + d) (omega (arith, fault-below s x wf d h′, wf .few-faults)))
           ∙ ap moveOf (sym (fault-at s x wf d h′)) ∙ sym (fault-choice sh s x d r e)
 
-      go : (o : Option Row) → ruleAt (sh .rules) s x ≡ o → c < maybe o (sh .size .outputs * sh .size .states) (λ r. suc (length (rowsAt (sh .faults) s x))) →
+      go : (o : Option Row) → ruleAt (sh .rules) s x ≡ o → c < maybe o (unruledChoices sh) (λ r. suc (length (rowsAt (sh .faults) s x))) →
           choiceOf m (pair s x) c ≡ getD (transitions sh s x) c idle
-      go none e k = choice-unruled m (pair s x) c (h .low) (target-at s x h ∙ rw e refl) ∙ rw (bl .states) (sym (unruled-choice sh s x c e k))
+      go none e k = unruled e k (isOpen sh s x) refl
       go (some r) e k = ruled r e (λ z. rule-target-low s x r e (sym (target-at s x h ∙ rw e refl) ∙ z)) c k
 
   -- ---- the waking state

@@ -15,7 +15,7 @@ use Rattle.sheet.specs.declared.Size.{Size}
 use Rattle.lists.specs.Lists.{All, Ascending}
 use Rattle.sheet.specs.Sheet.{Sheet, after, openSlots}
 use Rattle.sheet.specs.Reading.{accepted, reading}
-use Rattle.sheet.specs.Encode.{operandBytes, testBytes, encode}
+use Rattle.sheet.specs.Encode.{quietBytes, operandBytes, testBytes, encode}
 use Rattle.sheet.specs.WellFormed.{SizeIn, RowIn, Mutates, Reachable, WellFormed}
 use Rattle.sheet.specs.laws.RowLaw.{rule-has, after-snoc}
 use Rattle.sheet.specs.laws.WakingLaw.{no-choice, open-slots}
@@ -47,7 +47,7 @@ module _ (seed : ℕ) (z : Size) (w : SizeIn z) where
   draft = drafted z seed (z .states * z .inputs)
 
   abbrev sheet : Sheet
-  sheet = record { size = z; rules = draft .rules; faults = draft .faults; starts = []; tests = [] }
+  sheet = record { size = z; quiet = false; rules = draft .rules; faults = draft .faults; starts = []; tests = [] }
 
   holds : Drafted z (z .states * z .inputs) draft
   holds = drafts z w seed (z .states * z .inputs) (omega arith)
@@ -107,7 +107,7 @@ module _ (seed : ℕ) (z : Size) (w : SizeIn z) where
       }
 
   pub short : length (encode (sheetFrom seed z)) ≤ 16384
-  unfolding sheetFrom operandBytes testBytes
+  unfolding sheetFrom quietBytes operandBytes testBytes
   short =
       omega (arith, parts-length sheet, rows-length 2 (draft .rules), rows-length 3 (draft .faults), holds .rules .many, holds .faults .few, few-pairs z w)
 
@@ -122,6 +122,7 @@ module _ (seed : ℕ) (z : Size) (w : SizeIn z) where
         sheet = sheet;
         reads = read-back;
         size = refl;
+        loud = refl;
         unstarted = refl;
         untested = refl;
         ruled = ruled;

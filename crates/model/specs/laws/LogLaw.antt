@@ -11,7 +11,7 @@ use lib.Dec.{eqb}
 use lib.ListN.{length, length-append}
 use Rattle.lists.specs.Lists.{maybe}
 use Rattle.sheet.specs.Sheet.{Sheet}
-use Rattle.sheet.specs.Encode.{rowBytes, startBytes, pressBytes, testBytes, sizeBytes, machineBytes, body, encode}
+use Rattle.sheet.specs.Encode.{rowBytes, startBytes, quietBytes, pressBytes, testBytes, sizeBytes, machineBytes, body, encode}
 use Rattle.sheet.specs.WellFormed.{WellFormed}
 use Rattle.lists.specs.laws.TestLaw.{never}
 use Rattle.sheet.specs.laws.PartLaw.{presses-length}
@@ -146,7 +146,7 @@ module _ (sh : Sheet) where
   tests-inside : 5 + length (testBytes (sh .tests)) ≤ length (encode sh)
   unfolding encode body machineBytes sizeBytes
   tests-inside =
-      let rows = rowBytes 2 (sh .rules) ++ (rowBytes 3 (sh .faults) ++ startBytes (sh .starts)) in
+      let rows = quietBytes (sh .quiet) ++ (rowBytes 2 (sh .rules) ++ (rowBytes 3 (sh .faults) ++ startBytes (sh .starts))) in
       let e = length-append (rows ++ testBytes (sh .tests)) (6 ∷ []) in
       let f = length-append rows (testBytes (sh .tests)) in
       omega arith

@@ -5,7 +5,7 @@ use mathlib.Core.Path.{_≡_, refl}
 use mathlib.Core.Bool.{Bool, true, false, cond, _&&_}
 use mathlib.Core.Option.{Option, none, some}
 use mathlib.Core.List.{List, [], _∷_, map}
-use borrow.Author.Tests.{eqb-true}
+use borrow.Author.Tests.{eqb-true, ltb-true}
 use lib.Dec.{eqb, ltb}
 use lib.ListN.{getD}
 use Rattle.sheet.specs.declared.Row.{Row}
@@ -16,7 +16,7 @@ use Rattle.sheet.specs.WellFormed.{RowIn, WellFormed}
 use Rattle.sheet.specs.laws.WakingLaw.{waking-in}
 use Rattle.lists.specs.laws.TestLaw.{never}
 use Rattle.model.specs.Machine.{Move, Pair}
-use Rattle.model.specs.Mutant.{moveOf, rule, unruled, transitions, suspects, siteIn, slotOf, idle, acts, step, startSlot, initial, against}
+use Rattle.model.specs.Mutant.{moveOf, rule, stay, unruled, transitions, suspects, siteIn, slotOf, idle, acts, step, startSlot, initial, against}
 use Rattle.lists.specs.laws.AllLaw.{all-imp, all-getD, all-first, all-map, all-joined}
 use Rattle.lists.specs.laws.MemberLaw.{upTo-below}
 
@@ -83,9 +83,9 @@ module _ (sh : Sheet) (wf : WellFormed sh) where
           }
 
   -- every transition of a state and an input is in range
-  pub transitions-in : (s x : ℕ) → All (MoveIn (sh .size)) (transitions sh s x)
+  pub transitions-in : (s x : ℕ) → s < sh .size .states → All (MoveIn (sh .size)) (transitions sh s x)
   unfolding transitions unruled
-  transitions-in s x = go (ruleAt (sh .rules) s x) refl
+  transitions-in s x ls = go (ruleAt (sh .rules) s x) refl
     where
       In : Move → Type 0
       In = MoveIn (sh .size)
@@ -102,11 +102,15 @@ module _ (sh : Sheet) (wf : WellFormed sh) where
           (all-imp (λ (t : ℕ). In (record { output = o; target = t })) (λ (t : ℕ). t < sh .size .states)
           (λ t l. record { output = lo; target = l }) (upTo (sh .size .states)) (upTo-below (sh .size .states)))
 
-      go : (o : Option Row) → ruleAt (sh .rules) s x ≡ o →
-          All In (maybe o (joined moves (upTo (sh .size .outputs))) (λ r. moveOf r ∷ map moveOf (rowsAt (sh .faults) s x)))
-      go none e =
+      unruled-in : (quiet : Bool) → All In (cond quiet (stay s ∷ []) (joined moves (upTo (sh .size .outputs))))
+      unruled-in true = (record { output = wf .size .outputs .some; target = ls }, tt)
+      unruled-in false =
           all-joined In moves (upTo (sh .size .outputs))
           (all-imp (λ (o : ℕ). All In (moves o)) (λ (o : ℕ). o < sh .size .outputs) moves-in (upTo (sh .size .outputs)) (upTo-below (sh .size .outputs)))
+
+      go : (o : Option Row) → ruleAt (sh .rules) s x ≡ o →
+          All In (maybe o (cond (sh .quiet) (stay s ∷ []) (joined moves (upTo (sh .size .outputs)))) (λ r. moveOf r ∷ map moveOf (rowsAt (sh .faults) s x)))
+      go none e = unruled-in (sh .quiet)
       go (some r) e = (
         row-in r (rule-row s x r e),
         all-map In moveOf (rowsAt (sh .faults) s x)
@@ -117,7 +121,7 @@ module _ (sh : Sheet) (wf : WellFormed sh) where
   -- what a mutant does is in range, whatever its bytes, the state and the input
   pub step-in : (b : List ℕ) (s x : ℕ) → MoveIn (sh .size) (step sh b s x)
   unfolding step acts
-  step-in b s x = go (ltb s (sh .size .states) && ltb x (sh .size .inputs))
+  step-in b s x = go (ltb s (sh .size .states)) refl (ltb x (sh .size .inputs))
     where
       idle-in : MoveIn (sh .size) idle
       idle-in = record { output = wf .size .outputs .some; target = some-state }
@@ -125,9 +129,10 @@ module _ (sh : Sheet) (wf : WellFormed sh) where
       i : ℕ
       i = maybe (slotOf sh (siteIn (suspects sh) s x)) zero (λ i. getD b i 0)
 
-      go : (c : Bool) → MoveIn (sh .size) (cond c (getD (transitions sh s x) i idle) idle)
-      go true = all-getD (MoveIn (sh .size)) (transitions sh s x) i idle (transitions-in s x) idle-in
-      go false = idle-in
+      go : (c : Bool) → ltb s (sh .size .states) ≡ c → (d : Bool) → MoveIn (sh .size) (cond (c && d) (getD (transitions sh s x) i idle) idle)
+      go true e true = all-getD (MoveIn (sh .size)) (transitions sh s x) i idle (transitions-in s x (ltb-true s (sh .size .states) e)) idle-in
+      go true e false = idle-in
+      go false e d = idle-in
 
 -- the specification and a mutant of a well-formed sheet
 pub closed : (sh : Sheet) (b : List ℕ) → WellFormed sh → Closed (against sh b)

@@ -1,6 +1,6 @@
 -- The transitions of a state and an input: how many there are, and which one a choice names.
 use Prim.Native.Nat.{ℕ, zero, suc, _+_, _*_, _/_, _%_, _<_, _≤_}
-use native.Mathlib.Nat.{div-lt-iff-lt-mul, div-add-mod', mod-lt, mul-zero, mul-pos, mul-le-mul, mul-le-mul-right}
+use native.Mathlib.Nat.{div-lt-iff-lt-mul, div-add-mod', mod-lt, mul-zero, zero-mul, suc-mul, mul-pos, mul-le-mul, mul-le-mul-right}
 use native.Mathlib.Omega.{arith}
 use mathlib.Core.Path.{_≡_, refl, sym, _∙_, ap}
 use mathlib.Core.Logic.{inl, inr, by-cases}
@@ -8,35 +8,43 @@ use native.Mathlib.Decide.{ℕ-discrete, decLt}
 use mathlib.Core.Bool.{Bool, true, false, cond}
 use mathlib.Core.Option.{Option, none, some}
 use mathlib.Core.List.{List, [], _∷_, _++_, map}
+use borrow.Author.Tests.{ltb-true, ltb-false}
 use lib.ListN.{length, getD, length-map, List·getD-append, List·getD-map}
 use lib.Seq.{getD-append-add}
 use Rattle.sheet.specs.declared.Row.{Row}
 use Rattle.sheet.specs.declared.Size.{Size}
 use Rattle.lists.specs.Lists.{maybe, All, Ascending, Before, upTo, joined}
-use Rattle.sheet.specs.Sheet.{Sheet, rowOf, isAt, rowsAt, ruleAt, unruledChoices, choicesAt}
+use Rattle.sheet.specs.Sheet.{Sheet, rowOf, isAt, rowsAt, ruleAt, unruledChoices, choicesAt, isOpen}
 use Rattle.sheet.specs.Tables.{noRow}
 use Rattle.sheet.specs.WellFormed.{Mutates, WellFormed}
 use Rattle.model.specs.Machine.{Move}
-use Rattle.model.specs.Mutant.{moveOf, unruled, transitions, idle}
+use Rattle.model.specs.Mutant.{moveOf, stay, unruled, transitions, idle}
 use Rattle.lists.specs.laws.ListLaw.{all-both, ascending-of, getD-map-below, joined-split, length-upTo, getD-upTo, length-joined-even}
 use Rattle.model.specs.laws.StaysLaw.{RowAt, rows-at, rule-row}
 
--- without a rule every output goes with every next state
-pub unruled-count : (sh : Sheet) → length (unruled sh) ≡ sh .size .outputs * sh .size .states
-unfolding unruled
-unruled-count sh =
-    length-joined-even (λ o. map (λ t. record { output = o; target = t }) (upTo (sh .size .states))) (sh .size .states) (sh .size .outputs)
-    (λ o. length-map (upTo (sh .size .states)) (λ t. record { output = o; target = t }) ∙ length-upTo (sh .size .states))
+-- without a rule every output goes with every next state, but on a quiet sheet
+pub unruled-count : (sh : Sheet) (s : ℕ) → length (unruled sh s) ≡ unruledChoices sh
+unfolding unruled unruledChoices
+unruled-count sh s = go (sh .quiet)
+  where
+    moves : ℕ → List Move
+    moves o = map (λ t. record { output = o; target = t }) (upTo (sh .size .states))
+
+    go : (quiet : Bool) → length (cond quiet (stay s ∷ []) (joined moves (upTo (sh .size .outputs)))) ≡ cond quiet 1 (sh .size .outputs * sh .size .states)
+    go true = refl
+    go false =
+        length-joined-even moves (sh .size .states) (sh .size .outputs)
+        (λ o. length-map (upTo (sh .size .states)) (λ t. record { output = o; target = t }) ∙ length-upTo (sh .size .states))
 
 -- as many transitions as choices
 pub transition-count : (sh : Sheet) (s x : ℕ) → length (transitions sh s x) ≡ choicesAt sh s x
-unfolding transitions choicesAt unruledChoices
+unfolding transitions choicesAt
 transition-count sh s x = go (ruleAt (sh .rules) s x)
   where
     go : (o : Option Row) →
-        length (maybe o (unruled sh) (λ r. moveOf r ∷ map moveOf (rowsAt (sh .faults) s x)))
-        ≡ maybe o (sh .size .outputs * sh .size .states) (λ r. suc (length (rowsAt (sh .faults) s x)))
-    go none = unruled-count sh
+        length (maybe o (unruled sh s) (λ r. moveOf r ∷ map moveOf (rowsAt (sh .faults) s x)))
+        ≡ maybe o (unruledChoices sh) (λ r. suc (length (rowsAt (sh .faults) s x)))
+    go none = unruled-count sh s
     go (some r) = ap suc (length-map (rowsAt (sh .faults) s x) moveOf)
 
 -- with a rule, choice 0 is the rule
@@ -79,11 +87,46 @@ unruled-at n m c l =
     row-length : (k o : ℕ) → length (row k o) ≡ k
     row-length k o = length-map (upTo k) (λ t. record { output = o; target = t }) ∙ length-upTo k
 
--- without a rule, choice c is the output c / n and the next state c % n
-pub unruled-choice : (sh : Sheet) (s x c : ℕ) → ruleAt (sh .rules) s x ≡ none → c < sh .size .outputs * sh .size .states →
-    getD (transitions sh s x) c idle ≡ record { output = c / sh .size .states; target = c % sh .size .states }
-unfolding transitions unruled
-unruled-choice sh s x c e l = rw e (unruled-at (sh .size .states) (sh .size .outputs) c l)
+-- without a rule, but on a quiet sheet, choice c is the output c / n and the next state c % n
+module _ (sh : Sheet) (s x c : ℕ) (e : ruleAt (sh .rules) s x ≡ none) where
+  unquiet-choice : sh .quiet ≡ false → c < sh .size .outputs * sh .size .states →
+      getD (transitions sh s x) c idle ≡ record { output = c / sh .size .states; target = c % sh .size .states }
+  unfolding transitions unruled
+  unquiet-choice q l = rw (e, q) (unruled-at (sh .size .states) (sh .size .outputs) c l)
+
+  -- so it is where there are several
+  pub unruled-choice : 1 < unruledChoices sh → c < unruledChoices sh →
+      getD (transitions sh s x) c idle ≡ record { output = c / sh .size .states; target = c % sh .size .states }
+  unfolding unruledChoices
+  unruled-choice several l = go (sh .quiet) refl several l
+    where
+      go : (quiet : Bool) → sh .quiet ≡ quiet → 1 < cond quiet 1 (sh .size .outputs * sh .size .states) → c < cond quiet 1 (sh .size .outputs * sh .size .states) →
+          getD (transitions sh s x) c idle ≡ record { output = c / sh .size .states; target = c % sh .size .states }
+      go true q h k = absurd (omega arith)
+      go false q h k = unquiet-choice q k
+
+-- so a suspect has them
+pub open-unruled : (sh : Sheet) (s x : ℕ) → ruleAt (sh .rules) s x ≡ none → isOpen sh s x ≡ true → 1 < unruledChoices sh
+unfolding isOpen choicesAt
+open-unruled sh s x e o = ltb-true 1 (unruledChoices sh) (rw e at o)
+
+-- and where there is one it stays: the sheet is quiet, or has one state and one output
+pub only-choice : (sh : Sheet) (s x : ℕ) → ruleAt (sh .rules) s x ≡ none → s < sh .size .states → unruledChoices sh ≡ 1 →
+    getD (transitions sh s x) 0 idle ≡ stay s
+unfolding transitions unruled unruledChoices
+only-choice sh s x e ls one = go (sh .quiet) refl one
+  where
+    single : (o n : ℕ) → s < n → o * n ≡ 1 → n ≡ 1
+    single zero n l h = absurd (omega (arith, zero-mul n))
+    single (suc o) n l h = omega (arith, suc-mul o n)
+
+    go : (quiet : Bool) → sh .quiet ≡ quiet → cond quiet 1 (sh .size .outputs * sh .size .states) ≡ 1 → getD (transitions sh s x) 0 idle ≡ stay s
+    go true q h = rw (e, q) refl
+    go false q h =
+        let n = sh .size .states in
+        let one-state : n ≡ 1 = single (sh .size .outputs) n ls h in
+        let zeroth : s ≡ 0 = omega arith in
+        unquiet-choice sh s x 0 e q (omega arith) ∙ rw (one-state, zeroth) refl
 
 -- from lo on and below n; and not r
 abbrev InFrom : {A : Type 0} → (A → ℕ) → ℕ → ℕ → A → Type 0
@@ -180,19 +223,40 @@ module _ (z : Size) (s x : ℕ) where
       λ i. record { source = es i; input = ei i; output = eo i; target = et i }))
 
 module _ (sh : Sheet) (wf : WellFormed sh) where
+  unruled-some : 1 ≤ unruledChoices sh
+  unfolding unruledChoices
+  unruled-some = go (sh .quiet)
+    where
+      go : (quiet : Bool) → 1 ≤ cond quiet 1 (sh .size .outputs * sh .size .states)
+      go true = omega arith
+      go false = mul-pos (wf .size .outputs .some) (wf .size .states .some)
+
+  -- a pair without a rule that is no suspect has one
+  pub shut-unruled : (s x : ℕ) → ruleAt (sh .rules) s x ≡ none → isOpen sh s x ≡ false → unruledChoices sh ≡ 1
+  unfolding isOpen choicesAt
+  shut-unruled s x e o = let few = ltb-false 1 (unruledChoices sh) (rw e at o) in omega (arith, unruled-some, few)
+
   -- every state and input has a choice
   pub choices-some : (s x : ℕ) → 1 ≤ choicesAt sh s x
-  unfolding choicesAt unruledChoices
+  unfolding choicesAt
   choices-some s x = go (ruleAt (sh .rules) s x)
     where
-      go : (o : Option Row) → 1 ≤ maybe o (sh .size .outputs * sh .size .states) (λ r. suc (length (rowsAt (sh .faults) s x)))
-      go none = mul-pos (wf .size .outputs .some) (wf .size .states .some)
+      go : (o : Option Row) → 1 ≤ maybe o (unruledChoices sh) (λ r. suc (length (rowsAt (sh .faults) s x)))
+      go none = unruled-some
       go (some r) = omega arith
 
   moves-few : sh .size .outputs * sh .size .states ≤ 256
   moves-few =
       let h : sh .size .outputs * sh .size .states ≤ 16 * 16 = mul-le-mul (wf .size .outputs .few) (wf .size .states .few) in
       omega arith
+
+  unruled-few : unruledChoices sh ≤ 256
+  unfolding unruledChoices
+  unruled-few = go (sh .quiet)
+    where
+      go : (quiet : Bool) → cond quiet 1 (sh .size .outputs * sh .size .states) ≤ 256
+      go true = omega arith
+      go false = moves-few
 
   -- the faults of a pair are fewer than all moves: they differ from each other and from the rule
   pub faults-few : (s x : ℕ) (r : Row) → ruleAt (sh .rules) s x ≡ some r →
@@ -219,10 +283,9 @@ module _ (sh : Sheet) (wf : WellFormed sh) where
 
   -- a pair has at most 256 choices
   pub choices-few : (s x : ℕ) → choicesAt sh s x ≤ 256
-  unfolding choicesAt unruledChoices
+  unfolding choicesAt
   choices-few s x = go (ruleAt (sh .rules) s x) refl
     where
-      go : (o : Option Row) → ruleAt (sh .rules) s x ≡ o →
-          maybe o (sh .size .outputs * sh .size .states) (λ r. suc (length (rowsAt (sh .faults) s x))) ≤ 256
-      go none e = moves-few
+      go : (o : Option Row) → ruleAt (sh .rules) s x ≡ o → maybe o (unruledChoices sh) (λ r. suc (length (rowsAt (sh .faults) s x))) ≤ 256
+      go none e = unruled-few
       go (some r) e = omega (arith, faults-few s x r e, moves-few)

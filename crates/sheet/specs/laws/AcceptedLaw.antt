@@ -15,7 +15,7 @@ use Rattle.sheet.specs.Reading.{accepted, refused, from, Progress, rowAt
 use Rattle.sheet.specs.WellFormed.{SizeIn, RowIn, Mutates, StartIn, TestIn, WellFormed}
 use Rattle.lists.specs.laws.TestLaw.{never}
 use Rattle.lists.specs.laws.AllLaw.{all-snoc, all-none}
-use Rattle.sheet.specs.laws.ReadingLaw.{Moves, by-size, by-rule, by-fault, by-start, by-test, by-press, accepting}
+use Rattle.sheet.specs.laws.ReadingLaw.{Moves, by-size, by-quiet, by-rule, by-fault, by-start, by-test, by-press, accepting}
 use Rattle.sheet.specs.laws.PhaseLaw.{Ordered, ordered-blank, ordered-on, press-length}
 use Rattle.sheet.specs.laws.RowLaw.{before-trans, ascending-snoc}
 use Rattle.sheet.specs.laws.ReachedLaw.{reached-each}
@@ -82,6 +82,21 @@ module _ {p : Progress} {s : List ℕ} {at : ℕ} (g : Good p) where
         faults-mutate = g .faults-mutate;
         few-faults = g .few-faults;
         starts = all-none _ (p .sheet .starts) (g .ordered .starts (omega arith));
+        starts-ascend = g .starts-ascend;
+        few-tests = g .few-tests;
+        tests = g .tests;
+      }
+  good-on (by-quiet m) =
+      record {
+        ordered = ordered-on (g .ordered) (by-quiet m);
+        size = λ k. g .size (m .early);
+        rules = g .rules;
+        rules-ascend = g .rules-ascend;
+        faults = g .faults;
+        faults-ascend = g .faults-ascend;
+        faults-mutate = g .faults-mutate;
+        few-faults = g .few-faults;
+        starts = g .starts;
         starts-ascend = g .starts-ascend;
         few-tests = g .few-tests;
         tests = g .tests;

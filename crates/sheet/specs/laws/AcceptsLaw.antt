@@ -1,5 +1,6 @@
 -- Every well-formed sheet of at most 16,384 bytes is accepted.
 use mathlib.Core.Path.{_≡_, refl, ap, sym, _∙_, subst}
+use mathlib.Core.Bool.{Bool, true, false}
 use mathlib.Core.Option.{Option, none, some}
 use mathlib.Core.List.{List, [], _∷_, _++_, append-assoc, append-nil}
 use Prim.Native.Nat.{ℕ, _+_, _<_, _≤_}
@@ -11,12 +12,13 @@ use Rattle.sheet.specs.declared.Row.{Row}
 use Rattle.sheet.specs.declared.Size.{Size}
 use Rattle.lists.specs.Lists.{maybe, Before}
 use Rattle.sheet.specs.Sheet.{Sheet, pairOf, rowOf, ruleAt, after}
-use Rattle.sheet.specs.Reading.{accepted, size, rule, fault, start, test, press, rowAt, sizeAt, lastTest, addPress, refusal, advance, blank, reading}
-use Rattle.sheet.specs.Encode.{sizeBytes, rowBytes, operandBytes, startBytes, pressBytes, testBytes, machineBytes, body, encode}
+use Rattle.sheet.specs.Reading.{accepted, size, quiet, rule, fault, start, test, press, sized, quieted, ruled, faulted, started, testing, rowAt, sizeAt, lastTest, addPress, refusal, advance, blank, reading}
+use Rattle.sheet.specs.Encode.{sizeBytes, quietBytes, rowBytes, operandBytes, startBytes, pressBytes, testBytes, encode}
 use Rattle.sheet.specs.WellFormed.{RowIn, Mutates, StartIn, TestIn, WellFormed}
 use Rattle.lists.specs.laws.TestLaw.{never}
 use Rattle.lists.specs.laws.AllLaw.{all-at}
-use Rattle.sheet.specs.laws.ReadingLaw.{by-size, by-rule, by-fault, by-start, by-test, by-press, refusal-end}
+use Rattle.sheet.specs.laws.ReadingLaw.{by-size, by-quiet, by-rule, by-fault, by-start, by-test, by-press, refusal-quiet, refusal-end}
+use Rattle.sheet.specs.laws.InjectiveLaw.{testsOn, startsOn, faultsOn, rulesOn, encode-parts}
 use Rattle.sheet.specs.laws.RowLaw.{last-snoc, ascending-last}
 use Rattle.sheet.specs.laws.ReachedLaw.{each-reached}
 use Rattle.sheet.specs.laws.CommandLaw.{Follows, FaultRight, StartRight, right-size, right-rule, right-fault, right-start, right-test, right-press}
@@ -57,24 +59,24 @@ record Read (s : List ℕ) (earliest latest : ℕ) (sh : Sheet) (l : List ℕ) :
   going : Going s (record { phase = phase; sheet = sh }) at
   left : Left s at l
 
-abbrev part : Size → List Row → List Row → List ℕ → List (List ℕ) → Sheet
-part z rules faults starts tests = record { size = z; rules = rules; faults = faults; starts = starts; tests = tests }
+abbrev part : Size → Bool → List Row → List Row → List ℕ → List (List ℕ) → Sheet
+part z q rules faults starts tests = record { size = z; quiet = q; rules = rules; faults = faults; starts = starts; tests = tests }
 
 module _ {s : List ℕ} {sh : Sheet} {l : List ℕ} where
   -- later phases may come
   widen : (a b c d : ℕ) → c ≤ a → b ≤ d → Read s a b sh l → Read s c d sh l
   widen a b c d h k r = record { phase = r .phase; at = r .at; early = omega (arith, r .early); late = omega (arith, r .late); going = r .going; left = r .left }
 
-  read-rule : (r : Row) → Follows pairOf (sh .size) (sh .rules) r → Read s 1 2 sh (2 ∷ r .source ∷ r .input ∷ r .output ∷ r .target ∷ l) → Read s 1 2 (advance sh (rule r)) l
+  read-rule : (r : Row) → Follows pairOf (sh .size) (sh .rules) r → Read s sized ruled sh (2 ∷ r .source ∷ r .input ∷ r .output ∷ r .target ∷ l) → Read s sized ruled (advance sh (rule r)) l
   read-rule r f h =
       let same = row-is {r = r} (h .left) in
       record {
-        phase = 2;
+        phase = ruled;
         at = h .at + 5;
         early = omega arith;
         late = omega arith;
         left = left-after (h .left) 5;
-        going = subst (λ (q : Row). Going s (record { phase = 2; sheet = advance sh (rule q) }) (h .at + 5)) same
+        going = subst (λ (q : Row). Going s (record { phase = ruled; sheet = advance sh (rule q) }) (h .at + 5)) same
             (going-on (h .going) (by-rule (record {
               byte = first-byte (h .left);
               early = h .early;
@@ -84,16 +86,16 @@ module _ {s : List ℕ} {sh : Sheet} {l : List ℕ} where
             })));
       }
 
-  read-fault : (r : Row) → FaultRight sh r → Read s 1 3 sh (3 ∷ r .source ∷ r .input ∷ r .output ∷ r .target ∷ l) → Read s 1 3 (advance sh (fault r)) l
+  read-fault : (r : Row) → FaultRight sh r → Read s sized faulted sh (3 ∷ r .source ∷ r .input ∷ r .output ∷ r .target ∷ l) → Read s sized faulted (advance sh (fault r)) l
   read-fault r f h =
       let same = row-is {r = r} (h .left) in
       record {
-        phase = 3;
+        phase = faulted;
         at = h .at + 5;
         early = omega arith;
         late = omega arith;
         left = left-after (h .left) 5;
-        going = subst (λ (q : Row). Going s (record { phase = 3; sheet = advance sh (fault q) }) (h .at + 5)) same
+        going = subst (λ (q : Row). Going s (record { phase = faulted; sheet = advance sh (fault q) }) (h .at + 5)) same
             (going-on (h .going) (by-fault (record {
               byte = first-byte (h .left);
               early = h .early;
@@ -103,16 +105,16 @@ module _ {s : List ℕ} {sh : Sheet} {l : List ℕ} where
             })));
       }
 
-  read-start : (t : ℕ) → StartRight sh t → Read s 1 4 sh (7 ∷ t ∷ l) → Read s 1 4 (advance sh (start t)) l
+  read-start : (t : ℕ) → StartRight sh t → Read s sized started sh (7 ∷ t ∷ l) → Read s sized started (advance sh (start t)) l
   read-start t f h =
       let same : getD s (h .at + 1) 0 ≡ t = byte-at (h .left) 1 in
       record {
-        phase = 4;
+        phase = started;
         at = h .at + 2;
         early = omega arith;
         late = omega arith;
         left = left-after (h .left) 2;
-        going = subst (λ (u : ℕ). Going s (record { phase = 4; sheet = advance sh (start u) }) (h .at + 2)) same
+        going = subst (λ (u : ℕ). Going s (record { phase = started; sheet = advance sh (start u) }) (h .at + 2)) same
             (going-on (h .going) (by-start (record {
               byte = first-byte (h .left);
               early = h .early;
@@ -122,10 +124,10 @@ module _ {s : List ℕ} {sh : Sheet} {l : List ℕ} where
             })));
       }
 
-  read-test : length (sh .tests) < 256 → Read s 1 5 sh (4 ∷ l) → Read s 5 5 (advance sh test) l
+  read-test : length (sh .tests) < 256 → Read s sized testing sh (4 ∷ l) → Read s testing testing (advance sh test) l
   read-test f h =
       record {
-        phase = 5;
+        phase = testing;
         at = h .at + 1;
         early = omega arith;
         late = omega arith;
@@ -139,16 +141,16 @@ module _ {s : List ℕ} {sh : Sheet} {l : List ℕ} where
         }));
       }
 
-  read-press : (x : ℕ) → refusal sh (press x) ≡ 0 → Read s 5 5 sh (5 ∷ x ∷ l) → Read s 5 5 (advance sh (press x)) l
+  read-press : (x : ℕ) → refusal sh (press x) ≡ 0 → Read s testing testing sh (5 ∷ x ∷ l) → Read s testing testing (advance sh (press x)) l
   read-press x f h =
       let same : getD s (h .at + 1) 0 ≡ x = byte-at (h .left) 1 in
       record {
-        phase = 5;
+        phase = testing;
         at = h .at + 2;
         early = omega arith;
         late = omega arith;
         left = left-after (h .left) 2;
-        going = subst (λ (y : ℕ). Going s (record { phase = 5; sheet = advance sh (press y) }) (h .at + 2)) same
+        going = subst (λ (y : ℕ). Going s (record { phase = testing; sheet = advance sh (press y) }) (h .at + 2)) same
             (going-on (h .going) (by-press (record {
               byte = first-byte (h .left);
               early = h .early;
@@ -189,8 +191,27 @@ press-last (y ∷ []) xs x = refl
 press-last (y ∷ z ∷ l) xs x = rw (press-last (z ∷ l) xs x)
 
 module _ (sh : Sheet) (w : WellFormed sh) (s : List ℕ) where
+  read-quiet : (q : Bool) (l : List ℕ) → Read s sized sized (part (sh .size) false [] [] [] []) (quietBytes q ++ l) → Read s sized ruled (part (sh .size) q [] [] [] []) l
+  unfolding quietBytes advance
+  read-quiet false l h = widen sized sized sized ruled (omega arith) (omega arith) h
+  read-quiet true l h =
+      record {
+        phase = quieted;
+        at = h .at + 1;
+        early = omega arith;
+        late = omega arith;
+        left = left-after (h .left) 1;
+        going = going-on (h .going) (by-quiet (record {
+          byte = first-byte (h .left);
+          early = h .early;
+          late = h .late;
+          room = room-for (h .left) 1 (omega arith) (omega arith);
+          right = refusal-quiet (part (sh .size) false [] [] [] []);
+        }));
+      }
+
   read-rules : (done rest : List Row) (l : List ℕ) → done ++ rest ≡ sh .rules
-      → Read s 1 2 (part (sh .size) done [] [] []) (rowBytes 2 rest ++ l) → Read s 1 2 (part (sh .size) (sh .rules) [] [] []) l
+      → Read s sized ruled (part (sh .size) (sh .quiet) done [] [] []) (rowBytes 2 rest ++ l) → Read s sized ruled (part (sh .size) (sh .quiet) (sh .rules) [] [] []) l
   unfolding rowBytes advance
   read-rules done [] l e h = rw (← e, append-nil done) h
   read-rules done (r ∷ rest) l e h =
@@ -201,7 +222,7 @@ module _ (sh : Sheet) (w : WellFormed sh) (s : List ℕ) where
       }) h)
 
   read-faults : (done rest : List Row) (l : List ℕ) → done ++ rest ≡ sh .faults
-      → Read s 1 3 (part (sh .size) (sh .rules) done [] []) (rowBytes 3 rest ++ l) → Read s 1 3 (part (sh .size) (sh .rules) (sh .faults) [] []) l
+      → Read s sized faulted (part (sh .size) (sh .quiet) (sh .rules) done [] []) (rowBytes 3 rest ++ l) → Read s sized faulted (part (sh .size) (sh .quiet) (sh .rules) (sh .faults) [] []) l
   unfolding rowBytes advance
   read-faults done [] l e h = rw (← e, append-nil done) h
   read-faults done (r ∷ rest) l e h =
@@ -216,7 +237,7 @@ module _ (sh : Sheet) (w : WellFormed sh) (s : List ℕ) where
       }) h)
 
   read-starts : (done rest l : List ℕ) → done ++ rest ≡ sh .starts
-      → Read s 1 4 (part (sh .size) (sh .rules) (sh .faults) done []) (startBytes rest ++ l) → Read s 1 4 (part (sh .size) (sh .rules) (sh .faults) (sh .starts) []) l
+      → Read s sized started (part (sh .size) (sh .quiet) (sh .rules) (sh .faults) done []) (startBytes rest ++ l) → Read s sized started (part (sh .size) (sh .quiet) (sh .rules) (sh .faults) (sh .starts) []) l
   unfolding operandBytes advance
   read-starts done [] l e h = rw (← e, append-nil done) h
   read-starts done (t ∷ rest) l e h =
@@ -228,45 +249,45 @@ module _ (sh : Sheet) (w : WellFormed sh) (s : List ℕ) where
 
   -- the sheet with these tests
   abbrev upto : List (List ℕ) → Sheet
-  upto tests = part (sh .size) (sh .rules) (sh .faults) (sh .starts) tests
+  upto tests = part (sh .size) (sh .quiet) (sh .rules) (sh .faults) (sh .starts) tests
 
   read-presses : (before : List (List ℕ)) (done rest : List ℕ) (l : List ℕ) → TestIn (sh .rules) (done ++ rest)
-      → Read s 5 5 (upto (before ++ done ∷ [])) (pressBytes rest ++ l) → Read s 5 5 (upto (before ++ (done ++ rest) ∷ [])) l
+      → Read s testing testing (upto (before ++ done ∷ [])) (pressBytes rest ++ l) → Read s testing testing (upto (before ++ (done ++ rest) ∷ [])) l
   unfolding operandBytes advance
   read-presses before done [] l t h = rw (append-nil done) h
   read-presses before done (x ∷ rest) l t h =
       let t' : TestIn (sh .rules) ((done ++ x ∷ []) ++ rest) = rw append-snoc t in
       let right : refusal (upto (before ++ done ∷ [])) (press x) ≡ 0 =
       right-press (upto (before ++ done ∷ [])) x (w .rules) (rw (last-test before done) (test-front (sh .rules) (done ++ x ∷ []) rest t')) in
-      let h' : Read s 5 5 (upto (before ++ (done ++ x ∷ []) ∷ [])) (pressBytes rest ++ l) = rw (press-last before done x) at (read-press x right h) in
+      let h' : Read s testing testing (upto (before ++ (done ++ x ∷ []) ∷ [])) (pressBytes rest ++ l) = rw (press-last before done x) at (read-press x right h) in
       rw (append-snoc done x rest) at (read-presses before (done ++ x ∷ []) rest l t' h')
 
-  read-tests : (done rest : List (List ℕ)) (l : List ℕ) → done ++ rest ≡ sh .tests → Read s 1 5 (upto done) (testBytes rest ++ l) → Read s 1 5 sh l
+  read-tests : (done rest : List (List ℕ)) (l : List ℕ) → done ++ rest ≡ sh .tests → Read s sized testing (upto done) (testBytes rest ++ l) → Read s sized testing sh l
   unfolding testBytes advance
-  read-tests done [] l e h = subst (λ (tests : List (List ℕ)). Read s 1 5 (upto tests) l) (sym (append-nil done) ∙ e) h
+  read-tests done [] l e h = subst (λ (tests : List (List ℕ)). Read s sized testing (upto tests) l) (sym (append-nil done) ∙ e) h
   read-tests done (xs ∷ rest) l e h =
-      let begun : Read s 5 5 (upto (done ++ [] ∷ [])) (pressBytes xs ++ (testBytes rest ++ l)) =
+      let begun : Read s testing testing (upto (done ++ [] ∷ [])) (pressBytes xs ++ (testBytes rest ++ l)) =
       read-test (short-of done xs rest 256 (rw e (w .few-tests))) (rw append-assoc at h) in
       read-tests (done ++ xs ∷ []) rest l (append-snoc done xs rest ∙ e)
-      (widen 5 5 1 5 (omega arith) (omega arith) (read-presses done [] xs (testBytes rest ++ l) (all-at (TestIn (sh .rules)) done xs rest (rw e (w .tests))) begun))
+      (widen testing testing sized testing (omega arith) (omega arith) (read-presses done [] xs (testBytes rest ++ l) (all-at (TestIn (sh .rules)) done xs rest (rw e (w .tests))) begun))
 
-  read-end : Read s 1 5 sh (6 ∷ []) → reading s ≡ accepted sh
+  read-end : Read s sized testing sh (6 ∷ []) → reading s ≡ accepted sh
   read-end h =
       going-end (h .going) (record { byte = first-byte (h .left); early = h .early; late = h .late; room = room-for (h .left) 1 (omega arith) (omega arith); right = refusal-end sh })
       ∙ finishes sh s (h .at) (omega (arith, length-drop (h .at) s, left-length (h .left))) (each-reached sh (omega (arith, w .size .states .some)) (w .rules) (w .reached)) (w .few-open)
 
-  read-size : (l : List ℕ) → length s ≤ 16384 → s ≡ sizeBytes (sh .size) ++ l → Read s 1 2 (part (sh .size) [] [] [] []) l
+  read-size : (l : List ℕ) → length s ≤ 16384 → s ≡ sizeBytes (sh .size) ++ l → Read s sized sized (part (sh .size) false [] [] [] []) l
   unfolding sizeBytes advance blank
   read-size l k e =
       let whole : Left s 0 (sizeBytes (sh .size) ++ l) = record { bytes = e } in
       let same = size-is {z = sh .size} whole in
       record {
-        phase = 1;
+        phase = sized;
         at = 4;
         early = omega arith;
         late = omega arith;
         left = left-after whole 4;
-        going = subst (λ (z : Size). Going s (record { phase = 1; sheet = part z [] [] [] [] }) 4) same
+        going = subst (λ (z : Size). Going s (record { phase = sized; sheet = part z false [] [] [] [] }) 4) same
             (going-on (going-start s k) (by-size (record {
               byte = first-byte whole;
               early = omega arith;
@@ -278,14 +299,11 @@ module _ (sh : Sheet) (w : WellFormed sh) (s : List ℕ) where
 
 -- a well-formed sheet of at most 16,384 bytes is accepted, from its encoding
 pub accepts : (sh : Sheet) → WellFormed sh → length (encode sh) ≤ 16384 → reading (encode sh) ≡ accepted sh
-unfolding encode body machineBytes
 accepts sh w k =
     let s = encode sh in
-    let tests : List ℕ = testBytes (sh .tests) ++ 6 ∷ [] in
-    let starts : List ℕ = startBytes (sh .starts) ++ tests in
-    let faults : List ℕ = rowBytes 3 (sh .faults) ++ starts in
-    let z = read-size sh w s (rowBytes 2 (sh .rules) ++ faults) k (simp append-assoc) in
-    let r = read-rules sh w s [] (sh .rules) faults refl z in
-    let f = read-faults sh w s [] (sh .faults) starts refl (widen 1 2 1 3 (omega arith) (omega arith) r) in
-    let u = read-starts sh w s [] (sh .starts) tests refl (widen 1 3 1 4 (omega arith) (omega arith) f) in
-    read-end sh w s (read-tests sh w s [] (sh .tests) (6 ∷ []) refl (widen 1 4 1 5 (omega arith) (omega arith) u))
+    let z = read-size sh w s (quietBytes (sh .quiet) ++ rulesOn sh) k (encode-parts sh) in
+    let q = read-quiet sh w s (sh .quiet) (rulesOn sh) z in
+    let r = read-rules sh w s [] (sh .rules) (faultsOn sh) refl q in
+    let f = read-faults sh w s [] (sh .faults) (startsOn sh) refl (widen sized ruled sized faulted (omega arith) (omega arith) r) in
+    let u = read-starts sh w s [] (sh .starts) (testsOn sh) refl (widen sized faulted sized started (omega arith) (omega arith) f) in
+    read-end sh w s (read-tests sh w s [] (sh .tests) (6 ∷ []) refl (widen sized started sized testing (omega arith) (omega arith) u))

@@ -1,6 +1,6 @@
 -- An accepted sheet's bytes are its encoding.
 use mathlib.Core.Path.{_≡_, refl, ap, sym, _∙_}
-use mathlib.Core.Bool.{cond}
+use mathlib.Core.Bool.{true, false, cond}
 use mathlib.Core.List.{List, [], _∷_, _++_, append-assoc, append-nil}
 use Prim.Native.Nat.{ℕ, zero, suc, _+_, _<_, _≤_}
 use native.Mathlib.Nat.{add-zero, add-suc}
@@ -12,9 +12,9 @@ use borrow.Author.Tests.{ne-eqb}
 use Rattle.sheet.specs.declared.Row.{Row}
 use Rattle.sheet.specs.declared.Size.{Size}
 use Rattle.sheet.specs.Sheet.{Sheet}
-use Rattle.sheet.specs.Reading.{accepted, size, rule, fault, start, test, press, Progress, rowAt, sizeAt, addPress, advance, blank, reading}
-use Rattle.sheet.specs.Encode.{sizeBytes, rowBytes, operandBytes, pressBytes, testBytes, machineBytes, body, encode}
-use Rattle.sheet.specs.laws.ReadingLaw.{Moves, by-size, by-rule, by-fault, by-start, by-test, by-press, Ends, accepting}
+use Rattle.sheet.specs.Reading.{accepted, size, quiet, rule, fault, start, test, press, Progress, rowAt, sizeAt, addPress, advance, blank, reading}
+use Rattle.sheet.specs.Encode.{sizeBytes, quietBytes, rowBytes, operandBytes, pressBytes, testBytes, machineBytes, body, encode}
+use Rattle.sheet.specs.laws.ReadingLaw.{Moves, by-size, by-quiet, by-rule, by-fault, by-start, by-test, by-press, Ends, accepting}
 use Rattle.sheet.specs.laws.PhaseLaw.{Ordered, ordered-blank, ordered-on}
 
 -- n bytes from at + i
@@ -54,6 +54,14 @@ tests-press (xs ∷ []) x h = rw (operands-snoc 5 xs x, append-nil (pressBytes x
 tests-press (xs ∷ ys ∷ l) x h =
     rw (tests-press (ys ∷ l) x (omega arith)) (ap (λ (t : List ℕ). 4 ∷ t) (sym (append-assoc (pressBytes xs) (testBytes (ys ∷ l)) (5 ∷ x ∷ []))))
 
+no-quiet : quietBytes false ≡ []
+unfolding quietBytes
+no-quiet = refl
+
+is-quiet : quietBytes true ≡ 8 ∷ []
+unfolding quietBytes
+is-quiet = refl
+
 no-rows : (b : ℕ) → rowBytes b [] ≡ []
 unfolding rowBytes
 no-rows b = refl
@@ -67,9 +75,13 @@ unfolding testBytes
 no-tests = refl
 
 module _ (sh : Sheet) where
-  body-size : (z : Size) → sh .rules ≡ [] → sh .faults ≡ [] → sh .starts ≡ [] → sh .tests ≡ [] → body (advance sh (size z)) ≡ sizeBytes z
+  body-size : (z : Size) → sh .quiet ≡ false → sh .rules ≡ [] → sh .faults ≡ [] → sh .starts ≡ [] → sh .tests ≡ [] → body (advance sh (size z)) ≡ sizeBytes z
   unfolding body advance machineBytes
-  body-size z er ef es et = rw (er, ef, es, et, no-rows 2, no-rows 3, no-starts, no-tests) (simp append-nil)
+  body-size z eq er ef es et = rw (eq, er, ef, es, et, no-quiet, no-rows 2, no-rows 3, no-starts, no-tests) (simp append-nil)
+
+  body-quiet : sh .quiet ≡ false → sh .rules ≡ [] → sh .faults ≡ [] → sh .starts ≡ [] → sh .tests ≡ [] → body (advance sh quiet) ≡ body sh ++ 8 ∷ []
+  unfolding body advance machineBytes
+  body-quiet eq er ef es et = rw (eq, er, ef, es, et, no-quiet, is-quiet, no-rows 2, no-rows 3, no-starts, no-tests) (simp (append-nil, append-assoc))
 
   body-rule : (r : Row) → sh .faults ≡ [] → sh .starts ≡ [] → sh .tests ≡ [] → body (advance sh (rule r)) ≡ body sh ++ 2 ∷ r .source ∷ r .input ∷ r .output ∷ r .target ∷ []
   unfolding body advance machineBytes
@@ -109,7 +121,11 @@ module _ {s : List ℕ} {p : Progress} {at : ℕ} (h : Wrote s p at) where
   wrote-on (by-size m) =
       let o = h .ordered in
       let unsized : p .phase ≡ 0 = omega arith in
-      taken s at 4 (m .room) ∙ (rw (h .bytes, unsized, add-zero at, m .byte) (sym (body-size (p .sheet) (sizeAt s at) (o .rules (omega arith)) (o .faults (omega arith)) (o .starts (omega arith)) (o .tests (omega arith)))))
+      taken s at 4 (m .room) ∙ (rw (h .bytes, unsized, add-zero at, m .byte) (sym (body-size (p .sheet) (sizeAt s at) (o .quiet (omega arith)) (o .rules (omega arith)) (o .faults (omega arith)) (o .starts (omega arith)) (o .tests (omega arith)))))
+  wrote-on (by-quiet m) =
+      let o = h .ordered in
+      taken s at 1 (m .room) ∙ (rw (begun (m .early), add-zero at, m .byte)
+      (sym (body-quiet (p .sheet) (o .quiet (m .late)) (o .rules (omega arith)) (o .faults (omega arith)) (o .starts (omega arith)) (o .tests (omega arith)))))
   wrote-on (by-rule m) =
       taken s at 5 (m .room) ∙ (rw (begun (m .early), add-zero at, m .byte) (sym (body-rule (p .sheet) (rowAt s at) (h .ordered .faults (m .late)) (h .ordered .starts (omega arith)) (h .ordered .tests (omega arith)))))
   wrote-on (by-fault m) =

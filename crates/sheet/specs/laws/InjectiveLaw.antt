@@ -1,6 +1,6 @@
 -- The bytes of a sheet determine it.
 use mathlib.Core.Path.{_≡_, refl, ap, ap₂, sym, _∙_}
-use mathlib.Core.Bool.{false}
+use mathlib.Core.Bool.{Bool, true, false}
 use mathlib.Core.List.{List, [], _∷_, _++_, append-assoc}
 use Prim.Native.Nat.{ℕ}
 use native.Mathlib.Omega.{arith}
@@ -9,10 +9,10 @@ use lib.ListN.{getD, drop}
 use borrow.Author.Tests.{eqb-false}
 use Rattle.sheet.specs.declared.Row.{Row}
 use Rattle.sheet.specs.Sheet.{Sheet}
-use Rattle.sheet.specs.Encode.{sizeBytes, rowBytes, operandBytes, startBytes, pressBytes, testBytes, machineBytes, body, encode}
+use Rattle.sheet.specs.Encode.{sizeBytes, quietBytes, rowBytes, operandBytes, startBytes, pressBytes, testBytes, machineBytes, body, encode}
 
 -- the bytes begin with another command than b
-abbrev Else : ℕ → List ℕ → Type 0
+abbrev pub Else : ℕ → List ℕ → Type 0
 Else b l = getD l 0 0 ≡ b → ⊥
 
 front : {l m : List ℕ} → l ≡ m → getD l 0 0 ≡ getD m 0 0
@@ -38,23 +38,28 @@ operands-same b [] (y ∷ ys) l m hl hm e = absurd (hl (front e))
 operands-same b (x ∷ xs) [] l m hl hm e = absurd (hm (front (sym e)))
 operands-same b (x ∷ xs) (y ∷ ys) l m hl hm e = let z = operands-same b xs ys l m hl hm (cc) in let s = z .0 in (cc, z .1)
 
--- tests begin with TEST, or END follows
-tests-else : (b : ℕ) (l : List (List ℕ)) → eqb b 4 ≡ false → eqb b 6 ≡ false → Else b (testBytes l ++ 6 ∷ [])
+-- before END stand tests, before these rows and other commands
+pub tests-else : (b : ℕ) (l : List (List ℕ)) → eqb b 4 ≡ false → eqb b 6 ≡ false → Else b (testBytes l ++ 6 ∷ [])
 unfolding testBytes
 tests-else b [] h k e = eqb-false b 6 k (sym e)
 tests-else b (xs ∷ l) h k e = eqb-false b 4 h (sym e)
 
--- before them stand STARTs, and before these FAULTs
-starts-else : (b : ℕ) (starts : List ℕ) (l : List (List ℕ)) → eqb b 7 ≡ false → eqb b 4 ≡ false → eqb b 6 ≡ false
-    → Else b (startBytes starts ++ (testBytes l ++ 6 ∷ []))
+pub operands-else : (b c : ℕ) (xs l : List ℕ) → eqb b c ≡ false → Else b l → Else b (operandBytes c xs ++ l)
 unfolding operandBytes
-starts-else b [] l g h k e = tests-else b l h k e
-starts-else b (t ∷ ts) l g h k e = eqb-false b 7 g (sym e)
+operands-else b c [] l h k e = k e
+operands-else b c (x ∷ xs) l h k e = eqb-false b c h (sym e)
 
-faults-else : (faults : List Row) (starts : List ℕ) (l : List (List ℕ)) → Else 2 (rowBytes 3 faults ++ (startBytes starts ++ (testBytes l ++ 6 ∷ [])))
+pub rows-else : (b c : ℕ) (rows : List Row) (l : List ℕ) → eqb b c ≡ false → Else b l → Else b (rowBytes c rows ++ l)
 unfolding rowBytes
-faults-else [] starts l e = starts-else 2 starts l refl refl refl e
-faults-else (r ∷ rs) starts l e = omega arith
+rows-else b c [] l h k e = k e
+rows-else b c (r ∷ rows) l h k e = eqb-false b c h (sym e)
+
+quiet-same : (p q : Bool) (l m : List ℕ) → Else 8 l → Else 8 m → quietBytes p ++ l ≡ quietBytes q ++ m → (p ≡ q) × (l ≡ m)
+unfolding quietBytes
+quiet-same true true l m hl hm e = (refl, cc)
+quiet-same true false l m hl hm e = absurd (hm (front (sym e)))
+quiet-same false true l m hl hm e = absurd (hl (front e))
+quiet-same false false l m hl hm e = (refl, e)
 
 tests-same : (t u : List (List ℕ)) → testBytes t ++ 6 ∷ [] ≡ testBytes u ++ 6 ∷ [] → t ≡ u
 unfolding testBytes
@@ -69,21 +74,47 @@ tests-same (xs ∷ t) (ys ∷ u) e =
     cc
 
 -- the bytes part by part
-pub encode-parts : (sh : Sheet)
-    → encode sh ≡ sizeBytes (sh .size) ++ (rowBytes 2 (sh .rules) ++ (rowBytes 3 (sh .faults) ++ (startBytes (sh .starts) ++ (testBytes (sh .tests) ++ 6 ∷ []))))
-unfolding encode body machineBytes
-encode-parts sh = simp append-assoc
+module _ (sh : Sheet) where
+  abbrev pub testsOn : List ℕ
+  testsOn = testBytes (sh .tests) ++ 6 ∷ []
+
+  abbrev pub startsOn : List ℕ
+  startsOn = startBytes (sh .starts) ++ testsOn
+
+  abbrev pub faultsOn : List ℕ
+  faultsOn = rowBytes 3 (sh .faults) ++ startsOn
+
+  abbrev pub rulesOn : List ℕ
+  rulesOn = rowBytes 2 (sh .rules) ++ faultsOn
+
+  pub encode-parts : encode sh ≡ sizeBytes (sh .size) ++ (quietBytes (sh .quiet) ++ rulesOn)
+  unfolding encode body machineBytes
+  encode-parts = simp append-assoc
+
+  faults-else : Else 2 faultsOn
+  faults-else = rows-else 2 3 (sh .faults) startsOn refl (operands-else 2 7 (sh .starts) testsOn refl (tests-else 2 (sh .tests) refl refl))
+
+  starts-else : Else 3 startsOn
+  starts-else = operands-else 3 7 (sh .starts) testsOn refl (tests-else 3 (sh .tests) refl refl)
+
+  -- no QUIET stands where the RULEs begin
+  pub rules-else : Else 8 rulesOn
+  rules-else =
+      rows-else 8 2 (sh .rules) faultsOn refl (rows-else 8 3 (sh .faults) startsOn refl
+      (operands-else 8 7 (sh .starts) testsOn refl (tests-else 8 (sh .tests) refl refl)))
 
 pub encode-injective : (a b : Sheet) → encode a ≡ encode b → a ≡ b
 unfolding sizeBytes
 encode-injective a b e =
     let f = sym (encode-parts a) ∙ e ∙ encode-parts b in
-    let r = rows-same 2 (a .rules) (b .rules) _ _ (faults-else (a .faults) (a .starts) (a .tests)) (faults-else (b .faults) (b .starts) (b .tests)) (ap (drop 4) f) in
-    let q = rows-same 3 (a .faults) (b .faults) _ _ (starts-else 3 (a .starts) (a .tests) refl refl refl) (starts-else 3 (b .starts) (b .tests) refl refl refl) (r .1) in
+    let o = quiet-same (a .quiet) (b .quiet) _ _ (rules-else a) (rules-else b) (ap (drop 4) f) in
+    let r = rows-same 2 (a .rules) (b .rules) _ _ (faults-else a) (faults-else b) (o .1) in
+    let q = rows-same 3 (a .faults) (b .faults) _ _ (starts-else a) (starts-else b) (r .1) in
     let p = operands-same 7 (a .starts) (b .starts) _ _ (tests-else 7 (a .tests) refl refl) (tests-else 7 (b .tests) refl refl) (q .1) in
     let t = tests-same (a .tests) (b .tests) (p .1) in
     λ i. record {
       size = record { states = getD (f i) 1 0; inputs = getD (f i) 2 0; outputs = getD (f i) 3 0 };
+      quiet = o .0 i;
       rules = r .0 i;
       faults = q .0 i;
       starts = p .0 i;

@@ -1,18 +1,20 @@
 -- What each phase leaves empty: the parts of a sheet come one after another.
 use mathlib.Core.Path.{_≡_, refl, ap}
+use mathlib.Core.Bool.{false}
 use mathlib.Core.List.{List, [], _∷_}
 use Prim.Native.Nat.{ℕ, suc, _<_, _≤_}
 use native.Mathlib.Omega.{arith}
 use lib.ListN.{length, length-append}
-use Rattle.sheet.specs.Reading.{Progress, addPress, advance, blank}
-use Rattle.sheet.specs.laws.ReadingLaw.{Moves, by-size, by-rule, by-fault, by-start, by-test, by-press}
+use Rattle.sheet.specs.Reading.{Progress, sized, quieted, ruled, faulted, started, testing, addPress, advance, blank}
+use Rattle.sheet.specs.laws.ReadingLaw.{Moves, by-size, by-quiet, by-rule, by-fault, by-start, by-test, by-press}
 
 pub record Ordered (p : Progress) : Type 0 where
-  pub rules : p .phase ≤ 1 → p .sheet .rules ≡ []
-  pub faults : p .phase ≤ 2 → p .sheet .faults ≡ []
-  pub starts : p .phase ≤ 3 → p .sheet .starts ≡ []
-  pub tests : p .phase ≤ 4 → p .sheet .tests ≡ []
-  pub begun : 5 ≤ p .phase → 0 < length (p .sheet .tests)
+  pub quiet : p .phase ≤ sized → p .sheet .quiet ≡ false
+  pub rules : p .phase ≤ quieted → p .sheet .rules ≡ []
+  pub faults : p .phase ≤ ruled → p .sheet .faults ≡ []
+  pub starts : p .phase ≤ faulted → p .sheet .starts ≡ []
+  pub tests : p .phase ≤ started → p .sheet .tests ≡ []
+  pub begun : testing ≤ p .phase → 0 < length (p .sheet .tests)
 
 -- a PRESS adds no test
 pub press-length : (l : List (List ℕ)) (x : ℕ) → length (addPress l x) ≡ length l
@@ -24,12 +26,22 @@ press-length (y ∷ w ∷ l) x = ap suc (press-length (w ∷ l) x)
 -- the blank progress is ordered, and every command keeps the order
 pub ordered-blank : Ordered blank
 unfolding blank
-ordered-blank = record { rules = λ _. refl; faults = λ _. refl; starts = λ _. refl; tests = λ _. refl; begun = λ k. absurd (omega arith) }
+ordered-blank = record { quiet = λ _. refl; rules = λ _. refl; faults = λ _. refl; starts = λ _. refl; tests = λ _. refl; begun = λ k. absurd (omega arith) }
 
 pub ordered-on : {p q : Progress} {s : List ℕ} {at e : ℕ} → Ordered p → Moves p s at q e → Ordered q
 unfolding advance
 ordered-on o (by-size h) =
     record {
+      quiet = λ k. o .quiet (omega arith);
+      rules = λ k. o .rules (omega arith);
+      faults = λ k. o .faults (omega arith);
+      starts = λ k. o .starts (omega arith);
+      tests = λ k. o .tests (omega arith);
+      begun = λ k. absurd (omega arith);
+    }
+ordered-on o (by-quiet h) =
+    record {
+      quiet = λ k. absurd (omega arith);
       rules = λ k. o .rules (omega arith);
       faults = λ k. o .faults (omega arith);
       starts = λ k. o .starts (omega arith);
@@ -38,6 +50,7 @@ ordered-on o (by-size h) =
     }
 ordered-on o (by-rule h) =
     record {
+      quiet = λ k. absurd (omega arith);
       rules = λ k. absurd (omega arith);
       faults = λ k. o .faults (omega arith);
       starts = λ k. o .starts (omega arith);
@@ -46,6 +59,7 @@ ordered-on o (by-rule h) =
     }
 ordered-on o (by-fault h) =
     record {
+      quiet = λ k. absurd (omega arith);
       rules = λ k. absurd (omega arith);
       faults = λ k. absurd (omega arith);
       starts = λ k. o .starts (omega arith);
@@ -54,6 +68,7 @@ ordered-on o (by-fault h) =
     }
 ordered-on o (by-start h) =
     record {
+      quiet = λ k. absurd (omega arith);
       rules = λ k. absurd (omega arith);
       faults = λ k. absurd (omega arith);
       starts = λ k. absurd (omega arith);
@@ -62,6 +77,7 @@ ordered-on o (by-start h) =
     }
 ordered-on o (by-test h) =
     record {
+      quiet = λ k. absurd (omega arith);
       rules = λ k. absurd (omega arith);
       faults = λ k. absurd (omega arith);
       starts = λ k. absurd (omega arith);
@@ -70,6 +86,7 @@ ordered-on o (by-test h) =
     }
 ordered-on o (by-press h) =
     record {
+      quiet = λ k. absurd (omega arith);
       rules = λ k. absurd (omega arith);
       faults = λ k. absurd (omega arith);
       starts = λ k. absurd (omega arith);

@@ -7,9 +7,9 @@ use native.Mathlib.Omega.{arith}
 use lib.ListN.{length}
 use borrow.Author.Tests.{lt-leb, le-leb, le-ltb}
 use Rattle.sheet.specs.Sheet.{Sheet, allReached, openSlots}
-use Rattle.sheet.specs.Reading.{accepted, Progress, go, stop, finishing, doing, oneCommand, from, blank, reading}
+use Rattle.sheet.specs.Reading.{accepted, Progress, unsized, sized, ruled, faulted, started, testing, go, stop, finishing, doing, oneCommand, from, blank, reading}
 use Rattle.sheet.specs.laws.BrokenLaw.{unbroken-all}
-use Rattle.sheet.specs.laws.ReadingLaw.{Moves, by-size, by-rule, by-fault, by-start, by-test, by-press, moves-on, Ends, checks}
+use Rattle.sheet.specs.laws.ReadingLaw.{Moves, by-size, by-quiet, by-rule, by-fault, by-start, by-test, by-press, moves-on, Ends, checks}
 
 -- enough fuel is left
 pub record Going (s : List ℕ) (p : Progress) (at : ℕ) : Type 0 where
@@ -27,22 +27,24 @@ module _ {p : Progress} {s : List ℕ} {at : ℕ} where
   pub stepped : {q : Progress} {e : ℕ} → Moves p s at q e → oneCommand p s at ≡ go q e
   unfolding oneCommand doing
   stepped (by-size m) =
-      rw (lt-leb (length s) at (omega arith), m .byte, le-leb 0 (p .phase) (m .early), le-leb (p .phase) 0 (m .late), le-ltb (length s) (at + 4) (m .room), m .right)
+      rw (lt-leb (length s) at (omega arith), m .byte, le-leb unsized (p .phase) (m .early), le-leb (p .phase) unsized (m .late), le-ltb (length s) (at + 4) (m .room), m .right)
+  stepped (by-quiet m) =
+      rw (lt-leb (length s) at (omega arith), m .byte, le-leb sized (p .phase) (m .early), le-leb (p .phase) sized (m .late), le-ltb (length s) (at + 1) (m .room), m .right)
   stepped (by-rule m) =
-      rw (lt-leb (length s) at (omega arith), m .byte, le-leb 1 (p .phase) (m .early), le-leb (p .phase) 2 (m .late), le-ltb (length s) (at + 5) (m .room), m .right)
+      rw (lt-leb (length s) at (omega arith), m .byte, le-leb sized (p .phase) (m .early), le-leb (p .phase) ruled (m .late), le-ltb (length s) (at + 5) (m .room), m .right)
   stepped (by-fault m) =
-      rw (lt-leb (length s) at (omega arith), m .byte, le-leb 1 (p .phase) (m .early), le-leb (p .phase) 3 (m .late), le-ltb (length s) (at + 5) (m .room), m .right)
+      rw (lt-leb (length s) at (omega arith), m .byte, le-leb sized (p .phase) (m .early), le-leb (p .phase) faulted (m .late), le-ltb (length s) (at + 5) (m .room), m .right)
   stepped (by-start m) =
-      rw (lt-leb (length s) at (omega arith), m .byte, le-leb 1 (p .phase) (m .early), le-leb (p .phase) 4 (m .late), le-ltb (length s) (at + 2) (m .room), m .right)
+      rw (lt-leb (length s) at (omega arith), m .byte, le-leb sized (p .phase) (m .early), le-leb (p .phase) started (m .late), le-ltb (length s) (at + 2) (m .room), m .right)
   stepped (by-test m) =
-      rw (lt-leb (length s) at (omega arith), m .byte, le-leb 1 (p .phase) (m .early), le-leb (p .phase) 5 (m .late), le-ltb (length s) (at + 1) (m .room), m .right)
+      rw (lt-leb (length s) at (omega arith), m .byte, le-leb sized (p .phase) (m .early), le-leb (p .phase) testing (m .late), le-ltb (length s) (at + 1) (m .room), m .right)
   stepped (by-press m) =
-      rw (lt-leb (length s) at (omega arith), m .byte, le-leb 5 (p .phase) (m .early), le-leb (p .phase) 5 (m .late), le-ltb (length s) (at + 2) (m .room), m .right)
+      rw (lt-leb (length s) at (omega arith), m .byte, le-leb testing (p .phase) (m .early), le-leb (p .phase) testing (m .late), le-ltb (length s) (at + 2) (m .room), m .right)
 
   -- END stops it
   pub stopped : Ends p s at → oneCommand p s at ≡ stop (finishing (p .sheet) s at)
   unfolding oneCommand doing
-  stopped m = rw (lt-leb (length s) at (omega arith), m .byte, le-leb 1 (p .phase) (m .early), le-leb (p .phase) 5 (m .late), le-ltb (length s) (at + 1) (m .room))
+  stopped m = rw (lt-leb (length s) at (omega arith), m .byte, le-leb sized (p .phase) (m .early), le-leb (p .phase) testing (m .late), le-ltb (length s) (at + 1) (m .room))
 
   -- with one command more
   pub going-on : {q : Progress} {e : ℕ} → Going s p at → Moves p s at q e → Going s q e

@@ -8,7 +8,7 @@ use lib.ListN.{length, getD}
 use lib.Dec.{leb, ltb, eqb}
 use borrow.Author.Tests.{leb-true, leb-false, ltb-true, ltb-false, eqb-true, eqb-false, ne-eqb, not-false}
 use Rattle.sheet.specs.Sheet.{Sheet, allReached, openSlots}
-use Rattle.sheet.specs.Reading.{accepted, refused, Reading, Command, size, rule, fault, start, test, press, end, Progress, Outcome, go, stop, unsized, sized, ruled, faulted, started, testing, during, allowed, width, rowAt, sizeAt, firstBroken, refusal, advance, refuseOr, finishing, doing, oneCommand, resume, from, blank, reading}
+use Rattle.sheet.specs.Reading.{accepted, refused, Reading, Command, size, quiet, rule, fault, start, test, press, end, Progress, Outcome, go, stop, unsized, sized, quieted, ruled, faulted, started, testing, during, allowed, width, rowAt, sizeAt, firstBroken, refusal, advance, refuseOr, finishing, doing, oneCommand, resume, from, blank, reading}
 use Rattle.lists.specs.laws.TestLaw.{never, both}
 use Rattle.sheet.specs.laws.BrokenLaw.{broken-most, unbroken}
 
@@ -27,6 +27,7 @@ next p phase c = record { phase = phase; sheet = advance (p .sheet) c }
 -- the ways in which one command leads on
 pub data Moves (p : Progress) (s : List ℕ) (at : ℕ) : Progress → ℕ → Type 0 where
   by-size : Stands p s at 1 unsized unsized (size (sizeAt s at)) → Moves p s at (next p sized (size (sizeAt s at))) (at + 4)
+  by-quiet : Stands p s at 8 sized sized quiet → Moves p s at (next p quieted quiet) (at + 1)
   by-rule : Stands p s at 2 sized ruled (rule (rowAt s at)) → Moves p s at (next p ruled (rule (rowAt s at))) (at + 5)
   by-fault : Stands p s at 3 sized faulted (fault (rowAt s at)) → Moves p s at (next p faulted (fault (rowAt s at))) (at + 5)
   by-start : Stands p s at 7 sized started (start (getD s (at + 1) 0)) → Moves p s at (next p started (start (getD s (at + 1) 0))) (at + 2)
@@ -52,6 +53,7 @@ pub data Case (p : Progress) (s : List ℕ) (at : ℕ) : Outcome → Type 0 wher
 refusal-most : (sh : Sheet) (c : Command) → refusal sh c ≤ 12
 unfolding refusal
 refusal-most sh (size z) = broken-most 12 _ (omega arith, tt)
+refusal-most sh quiet = omega arith
 refusal-most sh (rule r) = broken-most 12 _ (omega arith, (omega arith, tt))
 refusal-most sh (fault r) = broken-most 12 _ (omega arith, (omega arith, (omega arith, (omega arith, tt))))
 refusal-most sh (start t) = broken-most 12 _ (omega arith, (omega arith, (omega arith, tt)))
@@ -59,7 +61,11 @@ refusal-most sh test = broken-most 12 _ (omega arith, tt)
 refusal-most sh (press x) = broken-most 12 _ (omega arith, (omega arith, (omega arith, tt)))
 refusal-most sh end = omega arith
 
--- END itself breaks no rule
+-- QUIET and END themselves break no rule
+pub refusal-quiet : (sh : Sheet) → refusal sh quiet ≡ 0
+unfolding refusal
+refusal-quiet sh = refl
+
 pub refusal-end : (sh : Sheet) → refusal sh end ≡ 0
 unfolding refusal
 refusal-end sh = refl
@@ -72,6 +78,7 @@ data Known : ℕ → Type 0 where
   k5 : Known 5
   k6 : Known 6
   k7 : Known 7
+  k8 : Known 8
 
 known : (phase b : ℕ) → allowed phase b ≡ true → Known b
 known phase zero h = never (cc)
@@ -82,8 +89,9 @@ known phase (suc (suc (suc (suc zero)))) h = k4
 known phase (suc (suc (suc (suc (suc zero))))) h = k5
 known phase (suc (suc (suc (suc (suc (suc zero)))))) h = k6
 known phase (suc (suc (suc (suc (suc (suc (suc zero))))))) h = k7
-known phase (suc (suc (suc (suc (suc (suc (suc (suc b)))))))) h =
-    let b' : ℕ = suc (suc (suc (suc (suc (suc (suc (suc b))))))) in
+known phase (suc (suc (suc (suc (suc (suc (suc (suc zero)))))))) h = k8
+known phase (suc (suc (suc (suc (suc (suc (suc (suc (suc b))))))))) h =
+    let b' : ℕ = suc (suc (suc (suc (suc (suc (suc (suc (suc b)))))))) in
     let no-byte : allowed phase b' ≡ false = simp (
       ne-eqb b' 1 (λ q. omega arith),
       ne-eqb b' 2 (λ q. omega arith),
@@ -92,6 +100,7 @@ known phase (suc (suc (suc (suc (suc (suc (suc (suc b)))))))) h =
       ne-eqb b' 5 (λ q. omega arith),
       ne-eqb b' 6 (λ q. omega arith),
       ne-eqb b' 7 (λ q. omega arith),
+      ne-eqb b' 8 (λ q. omega arith),
     ) in
     never (cc)
 
@@ -118,6 +127,7 @@ module _ (p : Progress) (s : List ℕ) (at : ℕ) where
   done b k5 e a k = judged _ _ (press (getD s (at + 1) 0)) (omega arith) (λ r. by-press (stands 5 _ _ _ e a k r)) _ refl
   done b k6 e a k = ends (stands 6 _ _ end e a k (refusal-end (p .sheet)))
   done b k7 e a k = judged _ _ (start (getD s (at + 1) 0)) (omega arith) (λ r. by-start (stands 7 _ _ _ e a k r)) _ refl
+  done b k8 e a k = judged _ _ quiet (omega arith) (λ r. by-quiet (stands 8 _ _ _ e a k r)) _ refl
 
   -- every outcome of one command is one of these
   pub case : Case p s at (oneCommand p s at)
@@ -144,6 +154,7 @@ module _ (p : Progress) (s : List ℕ) (at : ℕ) where
 -- a command takes a byte at least, and bytes of the sheet
 pub moves-on : {p q : Progress} {s : List ℕ} {at e : ℕ} → Moves p s at q e → (at < e) × (e ≤ length s)
 moves-on (by-size h) = let k = h .room in (omega arith, omega arith)
+moves-on (by-quiet h) = let k = h .room in (omega arith, omega arith)
 moves-on (by-rule h) = let k = h .room in (omega arith, omega arith)
 moves-on (by-fault h) = let k = h .room in (omega arith, omega arith)
 moves-on (by-start h) = let k = h .room in (omega arith, omega arith)

@@ -10,7 +10,7 @@ use Rattle.sheet.specs.declared.fetch.Item.{Item}
 use Rattle.sheet.specs.declared.fetch.Taken.{Taken}
 use Rattle.sheet.specs.declared.fetch.Taken.the-variants.{Whole, Short, Nothing}
 use Rattle.sheet.specs.declared.fetch.Fetched.{Fetched}
-use Rattle.sheet.specs.Reading.{Command, size, rule, fault, start, test, press, end, width}
+use Rattle.sheet.specs.Reading.{Command, size, quiet, rule, fault, start, test, press, end, width}
 
 -- the byte i of a command of w bytes, 0 where it has none
 abbrev pub operandOf : List ℕ → ℕ → ℕ → ℕ → ℕ
@@ -57,7 +57,8 @@ commandFrom k =
     (cond (eqb (k .byte) 4) test
     (cond (eqb (k .byte) 5) (press (k .first))
     (cond (eqb (k .byte) 7) (start (k .first))
-    end)))))
+    (cond (eqb (k .byte) 8) quiet
+    end))))))
 
 abbrev pub noItem : Item
 noItem = record { byte = 0; first = 0; second = 0; third = 0; fourth = 0 }

@@ -4,6 +4,7 @@ use mathlib.Core.Path.{_≡_}
 use mathlib.Core.Bool.{Bool, true, cond}
 use mathlib.Core.Option.{Option, none, some}
 use mathlib.Core.List.{List, [], _∷_, _++_}
+use lib.Dec.{ltb}
 use lib.ListN.{length, getD}
 use Rattle.sheet.specs.declared.Row.{Row}
 use Rattle.sheet.specs.declared.Size.{Size}
@@ -21,7 +22,7 @@ use Rattle.sheet.specs.declared.scan.Verdict.the-variants as verdict
 use Rattle.sheet.specs.declared.scan.Step.{Step}
 use Rattle.sheet.specs.declared.scan.Done.{Done}
 use Rattle.lists.specs.Lists.{maybe, last, All, any}
-use Rattle.sheet.specs.Sheet.{Sheet, rowsAt, ruleAt, after, leads, openSlots}
+use Rattle.sheet.specs.Sheet.{Sheet, rowsAt, ruleAt, after, leads, unruledChoices, openSlots}
 use Rattle.sheet.specs.laws.PhaseLaw.{Ordered}
 use Rattle.sheet.specs.Reading.{Reading, accepted, refused, Command, rule, fault, press, Progress, Outcome, go, stop, phaseAfter, lastTest, addPress, refusal, advance}
 
@@ -117,10 +118,14 @@ pub record PressMeets (sh : Sheet) (x : ℕ) (r : Pressed) : Type 0 where
   pub number : r .number ≡ refusal sh (press x)
   pub tests : r .number ≡ 0 → TestsHold (r .tests) (sh .rules) (addPress (sh .tests) x)
 
+abbrev pub markOf : Bool → ℕ
+markOf b = cond b 1 0
+
 -- the state and the lent tables say what is read so far
 pub record Holds (c : State) (os ts ms : List ℕ) (p : Progress) : Type 0 where
   pub phase : c .phase ≡ p .phase
   pub size : c .size ≡ p .sheet .size
+  pub quiet : c .quiet ≡ markOf (p .sheet .quiet)
   pub bounds : Within16 (c .size)
   pub rules : RulesHold (c .rules) os ts (p .sheet .rules)
   pub faults : FaultsHold (c .faults) ms (p .sheet .faults)
@@ -135,9 +140,6 @@ pub record Applies (p : Progress) (b : ℕ) (command : Command) (r : Applied) (o
   pub number : r .number ≡ refusal (p .sheet) command
   pub state : r .number ≡ 0 → Holds (r .state) os ts ms (advanced p b command)
 
-abbrev pub markOf : Bool → ℕ
-markOf b = cond b 1 0
-
 -- sixteen bytes that mark the states of which g holds
 pub record Marks (l : List ℕ) (g : ℕ → Bool) : Type 0 where
   pub size : length l ≡ 16
@@ -147,9 +149,9 @@ pub record Marks (l : List ℕ) (g : ℕ → Bool) : Type 0 where
 pub record Follows (z : Size) (rules : List Row) (f g : ℕ → Bool) : Type 0 where
   pub each : (s t : ℕ) → s < z .states → f s ≡ true → any (λ x. leads rules s x t) (z .inputs) ≡ true → g t ≡ true
 
--- size, rules and faults are those of a sheet
-pub record Linked (z : Size) (ts ms : List ℕ) (sh : Sheet) : Type 0 where
-  pub size : z ≡ sh .size
+-- rules, faults and whether a pair without a rule is open are those of a sheet
+pub record Linked (unruled : Bool) (ts ms : List ℕ) (sh : Sheet) : Type 0 where
+  pub unruled-is : unruled ≡ ltb 1 (unruledChoices sh)
   pub leads : Leads ts (sh .rules)
   pub faulty : ByPair ms (λ s x. present (rowsAt (sh .faults) s x))
 

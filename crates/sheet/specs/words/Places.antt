@@ -11,25 +11,22 @@ use Rattle.sheet.specs.declared.Size.{Size}
 use Rattle.sheet.specs.declared.Summary.{Summary}
 use Rattle.sheet.specs.declared.part.Layout.{Layout}
 use Rattle.lists.specs.Lists.{All}
-use Rattle.sheet.specs.Sheet.{Sheet, rowsAt, ruleAt}
+use Rattle.sheet.specs.Sheet.{Sheet, rowsAt, ruleAt, unruledChoices}
 use Rattle.sheet.specs.Reading.{accepted, reading, summaryOf}
 use Rattle.sheet.specs.Encode.{rowBytes, operandBytes, startBytes, pressBytes, testBytes, machineBytes}
 use Rattle.sheet.specs.Tables.{firstFault, noRow}
+use Rattle.sheet.specs.laws.InjectiveLaw.{Else}
 use Rattle.sheet.specs.words.Held.{Digits, ByPair, ruleOutput, Leads}
-
--- the next byte is another
-abbrev pub Calm : ℕ → List ℕ → Type 0
-Calm b rest = getD rest 0 0 ≡ b → ⊥
 
 -- n commands with the byte b and one operand stand from a place on
 pub record OperandsFrom (s : List ℕ) (b place n : ℕ) : Type 0 where
   pub within : place + 2 * n ≤ length s
-  pub counted : (xs rest : List ℕ) → drop place s ≡ operandBytes b xs ++ rest → Calm b rest → n ≡ length xs
+  pub counted : (xs rest : List ℕ) → drop place s ≡ operandBytes b xs ++ rest → Else b rest → n ≡ length xs
 
 -- the PRESS commands of the test that stands at a place
 pub record TestAt (s : List ℕ) (at : ℕ) (r : Span) : Type 0 where
   pub within : r .start + r .length ≤ length s
-  pub found : (xs rest : List ℕ) → drop at s ≡ 4 ∷ (pressBytes xs ++ rest) → Calm 5 rest → r ≡ record { start = at + 1; length = 2 * length xs }
+  pub found : (xs rest : List ℕ) → drop at s ≡ 4 ∷ (pressBytes xs ++ rest) → Else 5 rest → r ≡ record { start = at + 1; length = 2 * length xs }
 
 -- the PRESS commands of the test i, of tests that stand from a place on
 abbrev pub spanFrom : ℕ → List (List ℕ) → ℕ → Span
@@ -65,6 +62,7 @@ pub record Told (s : List ℕ) (summary : Summary) (sh : Sheet) : Type 0 where
 
 -- where the parts of a sheet stand in its bytes
 pub record LaidOut (s : List ℕ) (sh : Sheet) (r : Layout) : Type 0 where
+  pub quiet : r .quiet ≡ sh .quiet
   pub faults : FaultsFrom s (r .faults) (sh .faults)
   pub starts : StartsFrom s (r .starts) (sh .starts)
   pub waking : r .waking ≡ length (sh .starts)
@@ -91,9 +89,9 @@ pub record TestTables (starts lengths : List ℕ) (place : ℕ) (l : List (List 
 abbrev pub sizeIn : Summary → Size
 sizeIn m = record { states = m .states; inputs = m .inputs; outputs = m .outputs }
 
--- what counting choices starts from: the rules, and how many faults each pair has
-pub record Countable (z : Size) (targets counts : List ℕ) (sh : Sheet) : Type 0 where
-  pub size : z ≡ sh .size
+-- what counting choices starts from: the rules, how many choices a pair has without one, and how many faults each pair has
+pub record Countable (unruled : ℕ) (targets counts : List ℕ) (sh : Sheet) : Type 0 where
+  pub unruled-is : unruled ≡ unruledChoices sh
   pub leads : Leads targets (sh .rules)
   pub counts-are : ByPair counts (λ s x. length (rowsAt (sh .faults) s x))
   pub few : length (sh .faults) ≤ 256

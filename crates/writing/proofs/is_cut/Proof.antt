@@ -10,18 +10,18 @@ use Rattle.writing.proofs.is_cut.Tie as tie
 
 returns : tie.Need-returns
 unfolding isCut
-returns c size starts = rw (ne-eqb (length (c .before .before .before .before .before .args .rules .now) % 4) 0 (c .if1 .taken)) refl
+returns c size quiet starts = rw (ne-eqb (length (c .before .before .before .before .before .args .rules .now) % 4) 0 (c .if1 .taken)) refl
 
 returns-2 : tie.Need-returns-2
 unfolding isCut
-returns-2 c size starts =
+returns-2 c size quiet starts =
     let entry = c .before .before .before .before .before .before in
     let a = entry .args in
     rw (eq-eqb (length (a .rules .now) % 4) 0 (c .before .if1 .left), ne-eqb (length (a .faults .now) % 4) 0 (c .if2 .taken)) refl
 
 returns-3 : tie.Need-returns-3
 unfolding isCut
-returns-3 c size starts =
+returns-3 c size quiet starts =
     let entry = c .before .before .before .before .before .before .before in
     let a = entry .args in
     rw (eq-eqb (length (a .rules .now) % 4) 0 (c .before .before .if1 .left), eq-eqb (length (a .faults .now) % 4) 0 (c .before .if2 .left), c .adds-up .ensures) refl

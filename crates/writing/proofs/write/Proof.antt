@@ -14,16 +14,16 @@ returns : tie.Need-returns
 returns c =
     let entry = c .before .before .before .before .before .before .before .before in
     let a = entry .args in
-    let d = drawing (a .size) (a .rules .now) (a .faults .now) (a .starts .now) (a .lengths .now) (a .presses .now) in
-    write-cut d (length (a .buffer .now)) (a .buffer .now) (sym (c .before .is-cut .ensures (a .size) (a .starts .now)) ∙ c .if1 .taken)
+    let d = drawing (a .size) (a .quiet) (a .rules .now) (a .faults .now) (a .starts .now) (a .lengths .now) (a .presses .now) in
+    write-cut d (length (a .buffer .now)) (a .buffer .now) (sym (c .before .is-cut .ensures (a .size) (a .quiet) (a .starts .now)) ∙ c .if1 .taken)
 
 returns-2 : tie.Need-returns-2
 returns-2 c =
     let at-is-cut = c .before .before .before in
     let entry = at-is-cut .before .before .before .before .before .before .before in
     let a = entry .args in
-    let d = drawing (a .size) (a .rules .now) (a .faults .now) (a .starts .now) (a .lengths .now) (a .presses .now) in
-    write-long d (length (a .buffer .now)) (sym (at-is-cut .is-cut .ensures (a .size) (a .starts .now)) ∙ c .before .before .if1 .left) (c .before .is-long .result) (c .before .is-long .ensures) (a .buffer .now) (c .if2 .taken)
+    let d = drawing (a .size) (a .quiet) (a .rules .now) (a .faults .now) (a .starts .now) (a .lengths .now) (a .presses .now) in
+    write-long d (length (a .buffer .now)) (sym (at-is-cut .is-cut .ensures (a .size) (a .quiet) (a .starts .now)) ∙ c .before .before .if1 .left) (c .before .is-long .result) (c .before .is-long .ensures) (a .buffer .now) (c .if2 .taken)
 
 spell-requires : tie.Need-spell-requires
 spell-requires c κs =
@@ -31,8 +31,8 @@ spell-requires c κs =
     let at-is-cut = at-if1 .before in
     let entry = at-is-cut .before .before .before .before .before .before .before in
     let a = entry .args in
-    let d = drawing (a .size) (a .rules .now) (a .faults .now) (a .starts .now) (a .lengths .now) (a .presses .now) in
-    (omega (arith, whole d (sym (at-is-cut .is-cut .ensures (a .size) (a .starts .now)) ∙ at-if1 .if1 .left) .tests), spell-room d (length (a .buffer .now)) (sym (at-is-cut .is-cut .ensures (a .size) (a .starts .now)) ∙ at-if1 .if1 .left) (c .before .before .is-long .result) (c .before .before .is-long .ensures) (c .before .if2 .left))
+    let d = drawing (a .size) (a .quiet) (a .rules .now) (a .faults .now) (a .starts .now) (a .lengths .now) (a .presses .now) in
+    (omega (arith, whole d (sym (at-is-cut .is-cut .ensures (a .size) (a .quiet) (a .starts .now)) ∙ at-if1 .if1 .left) .tests), spell-room d (length (a .buffer .now)) (sym (at-is-cut .is-cut .ensures (a .size) (a .quiet) (a .starts .now)) ∙ at-if1 .if1 .left) (c .before .before .is-long .result) (c .before .before .is-long .ensures) (c .before .if2 .left))
 
 array-share-prefix-sheet : tie.Need-array-share-prefix-sheet
 array-share-prefix-sheet c =
@@ -42,8 +42,8 @@ array-share-prefix-sheet c =
     let at-is-cut = at-if1 .before in
     let entry = at-is-cut .before .before .before .before .before .before .before in
     let a = entry .args in
-    let d = drawing (a .size) (a .rules .now) (a .faults .now) (a .starts .now) (a .lengths .now) (a .presses .now) in
-    spelled-inside d (length (a .buffer .now)) (sym (at-is-cut .is-cut .ensures (a .size) (a .starts .now)) ∙ at-if1 .if1 .left) (at-is-long .is-long .result) (at-is-long .is-long .ensures) (at-if2 .if2 .left) (c .before .spell .ensures)
+    let d = drawing (a .size) (a .quiet) (a .rules .now) (a .faults .now) (a .starts .now) (a .lengths .now) (a .presses .now) in
+    spelled-inside d (length (a .buffer .now)) (sym (at-is-cut .is-cut .ensures (a .size) (a .quiet) (a .starts .now)) ∙ at-if1 .if1 .left) (at-is-long .is-long .result) (at-is-long .is-long .ensures) (at-if2 .if2 .left) (c .before .spell .ensures)
 
 slice-aggregate-put : tie.Need-slice-aggregate-put
 slice-aggregate-put c =
@@ -53,8 +53,8 @@ slice-aggregate-put c =
     let at-is-cut = at-if1 .before in
     let entry = at-is-cut .before .before .before .before .before .before .before in
     let a = entry .args in
-    let d = drawing (a .size) (a .rules .now) (a .faults .now) (a .starts .now) (a .lengths .now) (a .presses .now) in
-    sym (length-take-le _ _ (spelled-inside d (length (a .buffer .now)) (sym (at-is-cut .is-cut .ensures (a .size) (a .starts .now)) ∙ at-if1 .if1 .left) (at-is-long .is-long .result) (at-is-long .is-long .ensures) (at-if2 .if2 .left) (c .before .before .spell .ensures)))
+    let d = drawing (a .size) (a .quiet) (a .rules .now) (a .faults .now) (a .starts .now) (a .lengths .now) (a .presses .now) in
+    sym (length-take-le _ _ (spelled-inside d (length (a .buffer .now)) (sym (at-is-cut .is-cut .ensures (a .size) (a .quiet) (a .starts .now)) ∙ at-if1 .if1 .left) (at-is-long .is-long .result) (at-is-long .is-long .ensures) (at-if2 .if2 .left) (c .before .before .spell .ensures)))
 
 returns-3 : tie.Need-returns-3
 returns-3 c =
@@ -64,8 +64,8 @@ returns-3 c =
     let at-is-cut = at-if1 .before in
     let entry = at-is-cut .before .before .before .before .before .before .before in
     let a = entry .args in
-    let d = drawing (a .size) (a .rules .now) (a .faults .now) (a .starts .now) (a .lengths .now) (a .presses .now) in
-    write-spelled d (length (a .buffer .now)) (sym (at-is-cut .is-cut .ensures (a .size) (a .starts .now)) ∙ at-if1 .if1 .left) (at-is-long .is-long .result) (at-is-long .is-long .ensures)
+    let d = drawing (a .size) (a .quiet) (a .rules .now) (a .faults .now) (a .starts .now) (a .lengths .now) (a .presses .now) in
+    write-spelled d (length (a .buffer .now)) (sym (at-is-cut .is-cut .ensures (a .size) (a .quiet) (a .starts .now)) ∙ at-if1 .if1 .left) (at-is-long .is-long .result) (at-is-long .is-long .ensures)
     (c .before .before .put .result) (a .buffer .now) _ _ (at-spell .spell .ensures .front) (c .before .before .put .ensures)
 
 pub write-spec : {M : Type 1} → statement M

@@ -2,7 +2,7 @@ use borrow.Author.Needs.{needs}
 use native.Mathlib.Omega.{arith}
 use Prim.Native.Nat.{_<_}
 use mathlib.Core.Path.{refl}
-use Rattle.block.specs.laws.ChoiceLaw.{is-waking, is-unruled, is-rule, is-fault, is-none}
+use Rattle.block.specs.laws.ChoiceLaw.{is-waking, is-rule, is-fault, is-none}
 use Rattle.block.proofs.layout.transition.Statement.{statement}
 use Rattle.block.proofs.layout.transition.Tie as tie
 
@@ -12,9 +12,8 @@ low c = omega (arith, c .before .pre, c .if1 .left)
 
 returns-2 : tie.Need-returns-2
 returns-2 c =
-    let at-rule-target = c .before .before .before in
-    let entry = at-rule-target .before .before in
-    is-unruled (entry .args .k) (entry .args .c) (c .before .states .result) (c .unruled .result) (low (at-rule-target .before)) (rw (at-rule-target .rule-target .ensures) at (c .before .before .if2 .taken)) (c .before .states .ensures) (c .unruled .ensures)
+    let at-rule-target = c .before .before in
+    c .unspecified .ensures (rw (at-rule-target .rule-target .ensures) at (c .before .if2 .taken))
 
 returns-3 : tie.Need-returns-3
 returns-3 c =
@@ -46,6 +45,6 @@ transition-spec =
     (tie.spec
     (λ c κs. search needs)
     (λ c. is-waking _ _ _ (c .before .if1 .taken) (c .wake .ensures .0) (c .wake .ensures .1))
-    (λ c κs. search needs) (λ c κs. search needs) (λ c κs. search needs) returns-2 (λ c κs. search needs) returns-3
+    (λ c κs. search needs) (λ c κs. search needs) returns-2 (λ c κs. search needs) returns-3
     (λ c. search needs) (λ c. search needs) (λ c κs. search needs) (λ c κs. search needs) (λ c. search needs) (λ c. search needs)
     returns-4 (λ c. search needs) (λ c. search needs) (λ c. search needs) (λ c. search needs) returns-5)

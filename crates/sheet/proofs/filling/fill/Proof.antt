@@ -14,21 +14,26 @@ fill-faults-requires c κs =
     let l = at-layout-of .layout-of .ensures sh (h .told) in
     ((sh .faults, l .faults, faults-are (h .told)), faults-none)
 
+unruled-choices-requires : tie.Need-unruled-choices-requires
+unruled-choices-requires c κs =
+    let entry = c .before .before .before .before .before .before .before .before in
+    rw (c .size-of .ensures) (laws.size-fits (now (entry .args .sheet)) (entry .args .summary) _ _ (entry .pre .0) (entry .pre .1))
+
 count-choices-requires : tie.Need-count-choices-requires
 count-choices-requires c κs =
-    let at-fill-faults = c .before .before .before in
+    let at-unruled = c .before .before in
+    let at-fill-faults = at-unruled .before .before in
     let at-layout-of = at-fill-faults .before .before .before .before .before in
     let entry = at-layout-of .before .before in
     let (sh, h) = entry .pre in
-    let s = now (entry .args .sheet) in
     let l = at-layout-of .layout-of .ensures sh (h .told) in
     let f = at-fill-faults .fill-faults .ensures (sh .faults) (l .faults) (faults-are (h .told)) in
-    rw (c .before .before .size-of .ensures)
-    (laws.size-fits s (entry .args .summary) _ _ sh h, (sh, laws.countable s (entry .args .summary) _ _ sh h _ _ _ _ f))
+    let u = rw (at-unruled .before .size-of .ensures) at (at-unruled .unruled-choices .ensures) in
+    (sh, laws.countable (now (entry .args .sheet)) (entry .args .summary) _ _ sh h _ l _ u _ _ _ _ f)
 
 wakings-from-requires : tie.Need-wakings-from-requires
 wakings-from-requires c κs =
-    let at-fill-faults = c .before .before .before .before in
+    let at-fill-faults = c .before .before .before .before .before in
     let at-layout-of = at-fill-faults .before .before .before .before .before in
     let (sh, h) = at-layout-of .before .before .pre in
     let l = at-layout-of .layout-of .ensures sh (h .told) in
@@ -36,7 +41,8 @@ wakings-from-requires c κs =
 
 add-waking : tie.Need-add-waking
 add-waking c =
-    let at-fill-faults = c .before .before .before .before .before .before in
+    let at-wakings-from = c .before in
+    let at-fill-faults = at-wakings-from .before .before .before .before .before .before in
     let at-layout-of = at-fill-faults .before .before .before .before .before in
     let (sh, h) = at-layout-of .before .before .pre in
     let l = at-layout-of .layout-of .ensures sh (h .told) in
@@ -44,7 +50,8 @@ add-waking c =
 
 cast-waking : tie.Need-cast-waking
 cast-waking c =
-    let at-fill-faults = c .before .before .before .before .before .before in
+    let at-wakings-from = c .before in
+    let at-fill-faults = at-wakings-from .before .before .before .before .before .before in
     let at-layout-of = at-fill-faults .before .before .before .before .before in
     let (sh, h) = at-layout-of .before .before .pre in
     let l = at-layout-of .layout-of .ensures sh (h .told) in
@@ -53,7 +60,7 @@ cast-waking c =
 fill-tests-requires : tie.Need-fill-tests-requires
 fill-tests-requires c κs =
     let at-count-choices = c .before .before .before .before in
-    let at-fill-faults = at-count-choices .before .before .before .before in
+    let at-fill-faults = at-count-choices .before .before .before .before .before in
     let at-layout-of = at-fill-faults .before .before .before .before .before in
     let (sh, h) = at-layout-of .before .before .pre in
     let l = at-layout-of .layout-of .ensures sh (h .told) in
@@ -63,14 +70,16 @@ returns : tie.Need-returns
 returns c =
     let at-wakings-from = c .before .before .before .before in
     let at-count-choices = at-wakings-from .before in
-    let at-fill-faults = at-count-choices .before .before .before .before in
+    let at-unruled = at-count-choices .before .before .before in
+    let at-fill-faults = at-unruled .before .before in
     let at-layout-of = at-fill-faults .before .before .before .before .before in
     let a = at-layout-of .before .before .args in
     λ sh h.
     let s = now (a .sheet) in
     let l = at-layout-of .layout-of .ensures sh (h .told) in
     let f = at-fill-faults .fill-faults .ensures (sh .faults) (l .faults) (faults-are (h .told)) in
-    let n = at-count-choices .count-choices .ensures sh (rw (at-count-choices .before .before .before .size-of .ensures) (laws.countable s (a .summary) _ _ sh h _ _ _ _ f)) in
+    let u = rw (at-unruled .before .size-of .ensures) at (at-unruled .unruled-choices .ensures) in
+    let n = at-count-choices .count-choices .ensures sh (laws.countable s (a .summary) _ _ sh h _ l _ u _ _ _ _ f) in
     let w = at-wakings-from .wakings-from .ensures (sh .starts) (l .starts) (l .waking) in
     let t = c .fill-tests .ensures (sh .tests) (l .tests) (tests-are (h .told)) (tests-none _ _) in
     laws.filled s (a .summary) _ _ sh h _ l _ _ _ _ _ _ _ _ f n w t
@@ -80,4 +89,4 @@ fill-spec =
     tie.close
     (tie.spec
     (λ c κs. let (sh, h) = c .before .pre in (sh, h .told))
-    fill-faults-requires (λ c κs. search needs) count-choices-requires wakings-from-requires add-waking cast-waking fill-tests-requires returns)
+    fill-faults-requires (λ c κs. search needs) unruled-choices-requires count-choices-requires wakings-from-requires add-waking cast-waking fill-tests-requires returns)

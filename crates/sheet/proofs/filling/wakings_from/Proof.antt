@@ -3,7 +3,6 @@ use mathlib.Core.Path.{_≡_}
 use mathlib.Core.List.{List}
 use native.Mathlib.Omega.{arith}
 use lib.ListN.{length}
-use denote.Ref.{now}
 use Rattle.sheet.specs.words.Places.{StartsFrom}
 use Rattle.sheet.proofs.FillLaw as laws
 use borrow.Author.Needs.{needs}

@@ -11,31 +11,33 @@ returns-2 : tie.Need-returns-2
 returns-2 c =
     let at-all-reached = c .before .before .before in
     let at-if1 = at-all-reached .before in
-    let entry = at-if1 .before .before in
-    λ sh k w.
-    let a = entry .args in
-    let n = c .before .open-slots .ensures sh k w in
-    ap Accepted n ∙ laws.end-good sh (now (a .sheet)) (a .at) (at-if1 .if1 .left) (sym (at-all-reached .all-reached .ensures sh (k .size) (k .leads)) ∙ c .before .before .if2 .taken) (omega arith)
+    let a = at-if1 .before .before .args in
+    λ os p h.
+    let n = c .before .open-slots .ensures os p h in
+    ap Accepted n
+    ∙ laws.end-good (p .sheet) (now (a .sheet)) (a .at) (at-if1 .if1 .left)
+    (sym (at-all-reached .all-reached .ensures (p .sheet) (h .size) (h .rules .targets)) ∙ c .before .before .if2 .taken) (omega arith)
 
 returns-3 : tie.Need-returns-3
 returns-3 c =
     let at-all-reached = c .before .before .before in
     let at-if1 = at-all-reached .before in
-    let entry = at-if1 .before .before in
-    λ sh k w.
-    let a = entry .args in
-    let n = c .before .open-slots .ensures sh k w in
-    laws.end-many sh (now (a .sheet)) (a .at) (at-if1 .if1 .left) (sym (at-all-reached .all-reached .ensures sh (k .size) (k .leads)) ∙ c .before .before .if2 .taken) (omega arith)
+    let a = at-if1 .before .before .args in
+    λ os p h.
+    let n = c .before .open-slots .ensures os p h in
+    laws.end-many (p .sheet) (now (a .sheet)) (a .at) (at-if1 .if1 .left)
+    (sym (at-all-reached .all-reached .ensures (p .sheet) (h .size) (h .rules .targets)) ∙ c .before .before .if2 .taken) (omega arith)
 
 returns-4 : tie.Need-returns-4
-returns-4 c = λ sh k w.
+returns-4 c = λ os p h.
     let a = c .before .before .before .before .args in
-    laws.end-lost sh (now (a .sheet)) (a .at) (c .before .before .if1 .left) (sym (c .before .all-reached .ensures sh (k .size) (k .leads)) ∙ c .if2 .left)
+    laws.end-lost (p .sheet) (now (a .sheet)) (a .at) (c .before .before .if1 .left)
+    (sym (c .before .all-reached .ensures (p .sheet) (h .size) (h .rules .targets)) ∙ c .if2 .left)
 
 pub finish-spec : {M : Type 1} → statement M
 finish-spec =
     tie.close
     (tie.spec
     (λ c. search needs) (λ c. search needs)
-    (λ c. λ sh k w. let a = c .before .before .args in laws.end-more sh (now (a .sheet)) (a .at) (c .if1 .taken))
+    (λ c. λ os p h. let a = c .before .before .args in laws.end-more (p .sheet) (now (a .sheet)) (a .at) (c .if1 .taken))
     (λ c κs. search needs) (λ c κs. search needs) returns-2 returns-3 returns-4)

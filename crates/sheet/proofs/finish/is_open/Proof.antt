@@ -5,15 +5,10 @@ use borrow.Author.Needs.{needs}
 use Rattle.sheet.proofs.finish.is_open.Statement.{statement}
 use Rattle.sheet.proofs.finish.is_open.Tie as tie
 
-returns-2 : tie.Need-returns-2
-returns-2 c = λ sh h. let a = c .before .before .before .before .args in laws.open-free (a .size) (now (a .target)) (now (a .faulty)) sh (a .s) (a .x) (omega arith) (omega arith) h (c .before .before .if1 .left)
-
 pub is-open-spec : {M : Type 1} → statement M
 is-open-spec =
     tie.close
     (tie.spec
     (λ c. search needs) (λ c. search needs) (λ c. search needs) (λ c. search needs)
-    (λ c. λ sh h. let a = c .before .before .before .args in laws.open-rule (a .size) (now (a .target)) (now (a .faulty)) sh (a .s) (a .x) (omega arith) (omega arith) h (c .before .if1 .taken))
-    (λ c. search needs) (λ c. search needs)
-    (λ c. let few = laws.few-pairs (c .before .before .before .before .args .size) (c .before .before .before .before .pre .0) in record { fits = omega arith })
-    returns-2)
+    (λ c. λ sh h. let a = c .before .before .before .args in laws.open-rule (a .unruled) (now (a .target)) (now (a .faulty)) sh (a .s) (a .x) (omega arith) (omega arith) h (c .before .if1 .taken))
+    (λ c. λ sh h. let a = c .before .before .args in laws.open-free (a .unruled) (now (a .target)) (now (a .faulty)) sh (a .s) (a .x) (omega arith) (omega arith) h (c .if1 .left)))

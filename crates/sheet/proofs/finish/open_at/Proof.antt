@@ -12,10 +12,10 @@ use Rattle.sheet.proofs.finish.open_at.Statement.{statement}
 use Rattle.sheet.proofs.finish.open_at.Tie as tie
 
 abbrev Inv-loop : tie.InvT-loop
-Inv-loop size target faulty s k n₀ x₀ n x = (x ≤ k) × (n ≤ x) × ((sh : Sheet) → Linked size target faulty sh → n ≡ count (isOpen sh s) x)
+Inv-loop unruled target faulty s k n₀ x₀ n x = (x ≤ k) × (n ≤ x) × ((sh : Sheet) → Linked unruled target faulty sh → n ≡ count (isOpen sh s) x)
 
 abbrev μ-loop : tie.MeasureT-loop
-μ-loop size target faulty s k n₀ x₀ n x = k - x
+μ-loop unruled target faulty s k n₀ x₀ n x = k - x
 
 loop-again : tie.Need-loop-again Inv-loop μ-loop
 loop-again c = ⊎-elim
@@ -24,7 +24,7 @@ loop-again c = ⊎-elim
     (c .if1 .came)
 
 returns : tie.Need-returns Inv-loop μ-loop
-returns c = let a = c .before .before .before .args in let e : c .before .loop .x ≡ a .size .inputs = omega arith in (omega arith, λ sh h. c .before .loop .inv .2 sh h ∙ ap (count (isOpen sh (a .s))) (e ∙ ap (λ (z : Size). z .inputs) (h .size)))
+returns c = let a = c .before .before .before .args in let e : c .before .loop .x ≡ a .size .inputs = omega arith in (omega arith, λ sh ez h. c .before .loop .inv .2 sh h ∙ ap (count (isOpen sh (a .s))) (e ∙ ap (λ (z : Size). z .inputs) ez))
 
 pub open-at-spec : {M : Type 1} → statement M
 open-at-spec =

@@ -6,7 +6,7 @@ use lib.ListN.{length, drop}
 use denote.Ref.{now}
 use Rattle.sheet.specs.Reading.{width}
 use Rattle.sheet.specs.Encode.{operandBytes}
-use Rattle.sheet.specs.words.Places.{Calm}
+use Rattle.sheet.specs.laws.InjectiveLaw.{Else}
 use Rattle.sheet.proofs.PlaceLaw as laws
 use borrow.Author.Needs.{needs}
 use Rattle.sheet.proofs.part.operands_from.Statement.{statement}
@@ -15,7 +15,7 @@ use Rattle.sheet.proofs.part.operands_from.Tie as tie
 abbrev Inv-loop : tie.InvT-loop
 Inv-loop sheet byte place n₀ at₀ n at =
     (at ≡ place + 2 * n) × (at ≤ length sheet)
-    × ((xs rest : List ℕ) → drop place sheet ≡ operandBytes byte xs ++ rest → Calm byte rest → laws.Left sheet byte xs rest n at)
+    × ((xs rest : List ℕ) → drop place sheet ≡ operandBytes byte xs ++ rest → Else byte rest → laws.Left sheet byte xs rest n at)
 
 abbrev μ-loop : tie.MeasureT-loop
 μ-loop sheet byte place n₀ at₀ n at = length sheet - at

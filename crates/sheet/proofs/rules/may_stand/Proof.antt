@@ -3,15 +3,17 @@ use borrow.Author.Needs.{needs}
 use Rattle.sheet.proofs.rules.may_stand.Statement.{statement}
 use Rattle.sheet.proofs.rules.may_stand.Tie as tie
 
-returns-8 : tie.Need-returns-8
-returns-8 c =
-    let at-if5 = c .before .before in
+returns-9 : tie.Need-returns-9
+returns-9 c =
+    let at-if7 = c .before in
+    let at-if5 = at-if7 .before .before in
     let at-if3 = at-if5 .before .before in
     let at-if2 = at-if3 .before in
     let at-if1 = at-if2 .before in
     simp (
-      ne-eqb _ _ (c .if7 .left),
-      ne-eqb _ _ (c .before .if6 .left),
+      ne-eqb _ _ (c .if8 .left),
+      ne-eqb _ _ (at-if7 .if7 .left),
+      ne-eqb _ _ (at-if7 .before .if6 .left),
       ne-eqb _ _ (at-if5 .if5 .left),
       ne-eqb _ _ (at-if5 .before .if4 .left),
       ne-eqb _ _ (at-if3 .if3 .left),
@@ -37,4 +39,6 @@ may-stand-spec =
     (λ c. rw (c .before .if6 .taken) (c .is-during6 .ensures))
     (λ c κs. search needs)
     (λ c. rw (c .before .if7 .taken) (c .is-during7 .ensures))
-    returns-8)
+    (λ c κs. search needs)
+    (λ c. rw (c .before .if8 .taken) (c .is-during8 .ensures))
+    returns-9)

@@ -15,7 +15,7 @@ use Rattle.sheet.proofs.scan.obey.Tie as tie
 
 finish-requires : tie.Need-finish-requires
 finish-requires c κs =
-    let entry = c .before .before .before .before .before .before in
+    let entry = c .before .before .before .before .before in
     let a = entry .args in
     let s = now (a .sheet) in
     let w = fetch.as-whole s (a .at) (a .item) (a .next) (entry .pre .0) in
@@ -30,14 +30,14 @@ apply-requires c κs =
 
 returns : tie.Need-returns
 returns c =
-    let at-if1 = c .before .before .before .before in
+    let at-if1 = c .before .before .before in
     let entry = at-if1 .before .before .before in
     λ p h.
     let a = entry .args in
     let s = now (a .sheet) in
     let w = fetch.as-whole s (a .at) (a .item) (a .next) (entry .pre .0) in
     let al : allowed (p .phase) (a .item .byte) ≡ true = rw (← h .phase) (entry .pre .1) in
-    rw (fetch.ends p s (a .at) (a .item) _ w al (at-if1 .if1 .taken)) (ap Stop (c .finish .ensures _ (laws.linked h) (h .starts)), laws.finish-held s (a .at) h)
+    rw (fetch.ends p s (a .at) (a .item) _ w al (at-if1 .if1 .taken)) (ap Stop (c .finish .ensures _ p h), laws.finish-held s (a .at) h)
 
 returns-2 : tie.Need-returns-2
 returns-2 c =

@@ -18,38 +18,50 @@ unfolding sheetOf
 command-requires c κs =
     let entry = c .before .before .before .before .before .before .before .before in
     let a = entry .args in
-    let d = drawing (a .size) (a .rules .now) (a .faults .now) (a .starts .now) (a .lengths .now) (a .inputs .now) in
+    let d = drawing (a .size) (a .quiet) (a .rules .now) (a .faults .now) (a .starts .now) (a .lengths .now) (a .inputs .now) in
     omega (arith, entry .pre .1, parts-length (sheetOf d))
+
+quieted-requires : tie.Need-quieted-requires
+unfolding sheetOf
+quieted-requires c κs =
+    let at-command = c .before .before .before in
+    let entry = at-command .before .before .before .before .before .before .before .before .before in
+    let a = entry .args in
+    let d = drawing (a .size) (a .quiet) (a .rules .now) (a .faults .now) (a .starts .now) (a .lengths .now) (a .inputs .now) in
+    omega (arith, entry .pre .1, parts-length (sheetOf d), at-command .command .ensures .long, at-command .command .ensures .many)
 
 rows-requires : tie.Need-rows-requires
 unfolding sheetOf
 rows-requires c κs =
-    let at-command = c .before .before .before in
+    let at-quieted = c .before .before .before in
+    let at-command = at-quieted .before .before .before .before in
     let entry = at-command .before .before .before .before .before .before .before .before .before in
     let a = entry .args in
-    let d = drawing (a .size) (a .rules .now) (a .faults .now) (a .starts .now) (a .lengths .now) (a .inputs .now) in
-    omega (arith, entry .pre .1, parts-length (sheetOf d), at-command .command .ensures .long, at-command .command .ensures .many)
+    let d = drawing (a .size) (a .quiet) (a .rules .now) (a .faults .now) (a .starts .now) (a .lengths .now) (a .inputs .now) in
+    omega (arith, entry .pre .1, parts-length (sheetOf d), at-command .command .ensures .long, at-command .command .ensures .many, at-quieted .quieted .ensures .long, at-quieted .quieted .ensures .many)
 
 rows-requires-2 : tie.Need-rows-requires-2
 unfolding sheetOf
 rows-requires-2 c κs =
     let at-rows = c .before .before .before in
-    let at-command = at-rows .before .before .before .before in
+    let at-quieted = at-rows .before .before .before .before in
+    let at-command = at-quieted .before .before .before .before in
     let entry = at-command .before .before .before .before .before .before .before .before .before in
     let a = entry .args in
-    let d = drawing (a .size) (a .rules .now) (a .faults .now) (a .starts .now) (a .lengths .now) (a .inputs .now) in
-    omega (arith, entry .pre .1, parts-length (sheetOf d), at-command .command .ensures .long, at-command .command .ensures .many, at-rows .rows .ensures .long, at-rows .rows .ensures .many)
+    let d = drawing (a .size) (a .quiet) (a .rules .now) (a .faults .now) (a .starts .now) (a .lengths .now) (a .inputs .now) in
+    omega (arith, entry .pre .1, parts-length (sheetOf d), at-command .command .ensures .long, at-command .command .ensures .many, at-quieted .quieted .ensures .long, at-quieted .quieted .ensures .many, at-rows .rows .ensures .long, at-rows .rows .ensures .many)
 
 operands-requires : tie.Need-operands-requires
 unfolding sheetOf
 operands-requires c κs =
     let at-rows2 = c .before .before .before in
     let at-rows = at-rows2 .before .before .before .before in
-    let at-command = at-rows .before .before .before .before in
+    let at-quieted = at-rows .before .before .before .before in
+    let at-command = at-quieted .before .before .before .before in
     let entry = at-command .before .before .before .before .before .before .before .before .before in
     let a = entry .args in
-    let d = drawing (a .size) (a .rules .now) (a .faults .now) (a .starts .now) (a .lengths .now) (a .inputs .now) in
-    omega (arith, entry .pre .1, parts-length (sheetOf d), at-command .command .ensures .long, at-command .command .ensures .many, at-rows .rows .ensures .long, at-rows .rows .ensures .many, at-rows2 .rows2 .ensures .long, at-rows2 .rows2 .ensures .many)
+    let d = drawing (a .size) (a .quiet) (a .rules .now) (a .faults .now) (a .starts .now) (a .lengths .now) (a .inputs .now) in
+    omega (arith, entry .pre .1, parts-length (sheetOf d), at-command .command .ensures .long, at-command .command .ensures .many, at-quieted .quieted .ensures .long, at-quieted .quieted .ensures .many, at-rows .rows .ensures .long, at-rows .rows .ensures .many, at-rows2 .rows2 .ensures .long, at-rows2 .rows2 .ensures .many)
 
 tests-requires : tie.Need-tests-requires
 unfolding sheetOf
@@ -57,11 +69,12 @@ tests-requires c κs =
     let at-operands = c .before .before .before in
     let at-rows2 = at-operands .before .before .before .before in
     let at-rows = at-rows2 .before .before .before .before in
-    let at-command = at-rows .before .before .before .before in
+    let at-quieted = at-rows .before .before .before .before in
+    let at-command = at-quieted .before .before .before .before in
     let entry = at-command .before .before .before .before .before .before .before .before .before in
     let a = entry .args in
-    let d = drawing (a .size) (a .rules .now) (a .faults .now) (a .starts .now) (a .lengths .now) (a .inputs .now) in
-    (entry .pre .0, omega (arith, entry .pre .1, parts-length (sheetOf d), at-command .command .ensures .long, at-command .command .ensures .many, at-rows .rows .ensures .long, at-rows .rows .ensures .many, at-rows2 .rows2 .ensures .long, at-rows2 .rows2 .ensures .many, at-operands .operands .ensures .long, at-operands .operands .ensures .many))
+    let d = drawing (a .size) (a .quiet) (a .rules .now) (a .faults .now) (a .starts .now) (a .lengths .now) (a .inputs .now) in
+    (entry .pre .0, omega (arith, entry .pre .1, parts-length (sheetOf d), at-command .command .ensures .long, at-command .command .ensures .many, at-quieted .quieted .ensures .long, at-quieted .quieted .ensures .many, at-rows .rows .ensures .long, at-rows .rows .ensures .many, at-rows2 .rows2 .ensures .long, at-rows2 .rows2 .ensures .many, at-operands .operands .ensures .long, at-operands .operands .ensures .many))
 
 byte-requires : tie.Need-byte-requires
 unfolding sheetOf
@@ -70,11 +83,12 @@ byte-requires c κs =
     let at-operands = at-tests .before .before .before .before in
     let at-rows2 = at-operands .before .before .before .before in
     let at-rows = at-rows2 .before .before .before .before in
-    let at-command = at-rows .before .before .before .before in
+    let at-quieted = at-rows .before .before .before .before in
+    let at-command = at-quieted .before .before .before .before in
     let entry = at-command .before .before .before .before .before .before .before .before .before in
     let a = entry .args in
-    let d = drawing (a .size) (a .rules .now) (a .faults .now) (a .starts .now) (a .lengths .now) (a .inputs .now) in
-    omega (arith, entry .pre .1, parts-length (sheetOf d), at-command .command .ensures .long, at-command .command .ensures .many, at-rows .rows .ensures .long, at-rows .rows .ensures .many, at-rows2 .rows2 .ensures .long, at-rows2 .rows2 .ensures .many, at-operands .operands .ensures .long, at-operands .operands .ensures .many, at-tests .tests .ensures .long, at-tests .tests .ensures .many)
+    let d = drawing (a .size) (a .quiet) (a .rules .now) (a .faults .now) (a .starts .now) (a .lengths .now) (a .inputs .now) in
+    omega (arith, entry .pre .1, parts-length (sheetOf d), at-command .command .ensures .long, at-command .command .ensures .many, at-quieted .quieted .ensures .long, at-quieted .quieted .ensures .many, at-rows .rows .ensures .long, at-rows .rows .ensures .many, at-rows2 .rows2 .ensures .long, at-rows2 .rows2 .ensures .many, at-operands .operands .ensures .long, at-operands .operands .ensures .many, at-tests .tests .ensures .long, at-tests .tests .ensures .many)
 
 returns : tie.Need-returns
 unfolding sheetOf sizeBytes
@@ -83,17 +97,18 @@ returns c =
     let at-operands = at-tests .before .before .before .before in
     let at-rows2 = at-operands .before .before .before .before in
     let at-rows = at-rows2 .before .before .before .before in
-    let at-command = at-rows .before .before .before .before in
+    let at-quieted = at-rows .before .before .before .before in
+    let at-command = at-quieted .before .before .before .before in
     let entry = at-command .before .before .before .before .before .before .before .before .before in
     let a = entry .args in
-    let d = drawing (a .size) (a .rules .now) (a .faults .now) (a .starts .now) (a .lengths .now) (a .inputs .now) in
+    let d = drawing (a .size) (a .quiet) (a .rules .now) (a .faults .now) (a .starts .now) (a .lengths .now) (a .inputs .now) in
     subst (λ (l : List ℕ). Spelled (a .sheet .now) (c .before .before .byte .last .1 .0) 0 (c .before .before .byte .result) l) (sym (encode-parts (sheetOf d)))
-    (spelled-both (at-command .command .ensures) (spelled-both (at-rows .rows .ensures) (spelled-both (at-rows2 .rows2 .ensures)
-    (spelled-both (at-operands .operands .ensures) (spelled-both (at-tests .tests .ensures) (c .before .before .byte .ensures))))))
+    (spelled-both (at-command .command .ensures) (spelled-both (at-quieted .quieted .ensures) (spelled-both (at-rows .rows .ensures) (spelled-both (at-rows2 .rows2 .ensures)
+    (spelled-both (at-operands .operands .ensures) (spelled-both (at-tests .tests .ensures) (c .before .before .byte .ensures)))))))
 
 pub spell-spec : {M : Type 1} → statement M
 spell-spec =
     tie.close
     (tie.spec
-    (λ c. search needs) command-requires rows-requires rows-requires-2 operands-requires tests-requires byte-requires (λ c. search needs)
+    (λ c. search needs) command-requires quieted-requires rows-requires rows-requires-2 operands-requires tests-requires byte-requires (λ c. search needs)
     returns)
