@@ -1,9 +1,10 @@
 //! Judge.
 
 use crate::table::Table;
+use ranthelo::raw;
 use ranthelo_bench::families::{self, Family};
 use ranthelo_bench::{engine, plain};
-use ranthelo_tests::library::judge;
+use ranthelo_tests::guarded::judge::checked_judge;
 use ranthelo_tests::listed;
 use ranthelo_tests::reference::Sheet;
 use std::hint::black_box;
@@ -127,7 +128,7 @@ fn one(table: &mut Table, case: &str, sheet: &[u8]) {
     let mut nodes = String::new();
     if table.library {
         let open_pairs = plain::read(sheet).map_or(0, |summary| summary.open_pairs);
-        let verdict = judge::checked_judge(sheet, 32, 256, open_pairs);
+        let verdict = checked_judge(sheet, 32, 256, open_pairs);
         assert_eq!(verdict, Ok(judgement.survivor));
         nodes = library(sheet).to_string();
     }
@@ -149,7 +150,7 @@ fn one(table: &mut Table, case: &str, sheet: &[u8]) {
 fn library(sheet: &[u8]) -> u32 {
     let (mut board, mut sequence) = ([0; 32], [0; 256]);
     let (mut answer, mut nodes) = ([0; 4], 0);
-    judge::judge_counting(sheet, &mut board, &mut sequence, &mut answer, &mut nodes);
+    raw::judge_counting(sheet, &mut board, &mut sequence, &mut answer, &mut nodes);
     black_box(answer);
     nodes
 }

@@ -1,16 +1,12 @@
 //! Prints how long the library's operations take, beside the same in plain Rust, and how much
 //! stack they need. With --plain: how long judge takes in plain Rust alone.
 
-#[cfg(feature = "writing")]
 mod generate;
-#[cfg(feature = "judge")]
 mod judge;
-#[cfg(feature = "mutation")]
 mod mutation;
 mod reading;
 mod stack;
 mod table;
-#[cfg(feature = "writing")]
 mod writing;
 
 use table::Table;
@@ -26,14 +22,10 @@ fn main() {
     let mut table = Table::new(library);
     if library {
         reading::measure(&mut table);
-        #[cfg(feature = "writing")]
         writing::measure(&mut table);
-        #[cfg(feature = "writing")]
         generate::measure(&mut table);
-        #[cfg(feature = "mutation")]
         mutation::measure(&mut table);
     }
-    #[cfg(feature = "judge")]
     judge::measure(&mut table);
     if library {
         table.print_growth();

@@ -1,10 +1,11 @@
 //! Run, first failed test and compare.
 
 use crate::table::Table;
+use ranthelo::raw;
 use ranthelo_bench::{families, plain};
 use ranthelo_tests::enumeration::{Machine, Ran};
 use ranthelo_tests::generator::{self, Random};
-use ranthelo_tests::library::mutation;
+use ranthelo_tests::guarded::mutation;
 use ranthelo_tests::listed;
 use ranthelo_tests::reference::{Sheet, MOST_BYTES};
 use std::hint::black_box;
@@ -45,7 +46,7 @@ fn run(table: &mut Table, case: &str, sheet: &[u8], board: &[u8], inputs: &[u8])
         case,
         || {
             let mut answer = [0; 4];
-            mutation::run(black_box(sheet), board, inputs, &mut buffer, &mut answer);
+            raw::run(black_box(sheet), board, inputs, &mut buffer, &mut answer);
             black_box(answer);
         },
         || {
@@ -75,7 +76,7 @@ fn first_failed(table: &mut Table, case: &str, sheet: &[u8], board: &[u8]) -> (f
         case,
         || {
             let mut answer = [0; 7];
-            mutation::first_failed(black_box(sheet), board, &mut answer);
+            raw::first_failed(black_box(sheet), board, &mut answer);
             black_box(answer);
         },
         || {
@@ -106,7 +107,7 @@ fn compare(table: &mut Table, case: &str, sheet: &[u8], board: &[u8]) {
         case,
         || {
             let mut answer = [0; 4];
-            mutation::compare(black_box(sheet), board, &mut buffer, &mut answer);
+            raw::compare(black_box(sheet), board, &mut buffer, &mut answer);
             black_box(answer);
         },
         || {

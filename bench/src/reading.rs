@@ -1,8 +1,9 @@
 //! Read.
 
 use crate::table::Table;
+use ranthelo::raw;
 use ranthelo_bench::{families, plain};
-use ranthelo_tests::library::reading;
+use ranthelo_tests::guarded::reading::checked_read;
 use ranthelo_tests::reference::MOST_BYTES;
 use ranthelo_tests::{generator, listed};
 use std::hint::black_box;
@@ -21,7 +22,7 @@ pub fn measure(table: &mut Table) {
 }
 
 fn one(table: &mut Table, case: &str, sheet: &[u8]) -> (f64, f64) {
-    let expected = reading::checked_read(sheet);
+    let expected = checked_read(sheet);
     assert_eq!(plain::read(sheet), expected);
     table.measure(
         "read",
@@ -33,7 +34,7 @@ fn one(table: &mut Table, case: &str, sheet: &[u8]) -> (f64, f64) {
 
 pub fn with_library(sheet: &[u8]) {
     let mut answer = [0; 9];
-    reading::read(black_box(sheet), &mut answer);
+    raw::read(black_box(sheet), &mut answer);
     black_box(answer);
 }
 

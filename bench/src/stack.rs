@@ -1,12 +1,10 @@
 //! How much stack the operations need: the smallest thread in which a child of this
 //! program finishes.
 
-#[cfg(feature = "writing")]
 use crate::writing;
+use ranthelo::raw;
 use ranthelo_bench::families;
-#[cfg(feature = "writing")]
 use ranthelo_tests::drawing::Tables;
-use ranthelo_tests::library;
 use ranthelo_tests::reference::MOST_BYTES;
 use std::env;
 use std::hint::black_box;
@@ -25,15 +23,10 @@ const MOST: usize = 1024 * KIB;
 const OPERATIONS: &[&str] = &[
     "nothing",
     "read",
-    #[cfg(feature = "writing")]
     "write",
-    #[cfg(feature = "mutation")]
     "run",
-    #[cfg(feature = "mutation")]
     "first failed",
-    #[cfg(feature = "mutation")]
     "compare",
-    #[cfg(feature = "judge")]
     "judge",
 ];
 
@@ -93,39 +86,34 @@ fn perform(operation: &str, sheet: &[u8], deep: &[u8]) {
     match operation {
         "read" => {
             let mut answer = [0; 9];
-            library::reading::read(black_box(sheet), &mut answer);
+            raw::read(black_box(sheet), &mut answer);
             black_box(answer);
         }
-        #[cfg(feature = "writing")]
         "write" => {
             let tables = Tables::of_commands(sheet);
             writing::with_library(&tables, &mut vec![0; MOST_BYTES]);
         }
-        #[cfg(feature = "mutation")]
         "run" => {
             let mut answer = [0; 4];
             let mut buffer = [0; 16];
-            library::mutation::run(sheet, &[1; 32], &[3; 16], &mut buffer, &mut answer);
+            raw::run(sheet, &[1; 32], &[3; 16], &mut buffer, &mut answer);
             black_box(answer);
         }
-        #[cfg(feature = "mutation")]
         "first failed" => {
             let mut answer = [0; 7];
-            library::mutation::first_failed(sheet, &[0; 32], &mut answer);
+            raw::first_failed(sheet, &[0; 32], &mut answer);
             black_box(answer);
         }
-        #[cfg(feature = "mutation")]
         "compare" => {
             let mut answer = [0; 4];
             let mut buffer = [0; 256];
-            library::mutation::compare(sheet, &[0; 32], &mut buffer, &mut answer);
+            raw::compare(sheet, &[0; 32], &mut buffer, &mut answer);
             black_box(answer);
         }
-        #[cfg(feature = "judge")]
         "judge" => {
             let (mut board, mut sequence) = ([0; 32], [0; 256]);
             let mut answer = [0; 4];
-            library::judge::judge(deep, &mut board, &mut sequence, &mut answer);
+            raw::judge(deep, &mut board, &mut sequence, &mut answer);
             black_box(answer);
         }
         _ => {

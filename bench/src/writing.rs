@@ -1,9 +1,10 @@
 //! Write.
 
 use crate::table::Table;
+use ranthelo::raw;
 use ranthelo_bench::{families, plain};
 use ranthelo_tests::drawing::Tables;
-use ranthelo_tests::library::writing;
+use ranthelo_tests::guarded::writing::checked_write;
 use ranthelo_tests::listed;
 use ranthelo_tests::reference::MOST_BYTES;
 use std::hint::black_box;
@@ -20,10 +21,7 @@ pub fn measure(table: &mut Table) {
 
 fn one(table: &mut Table, case: &str, tables: &Tables) -> (f64, f64) {
     let sheet = tables.spell();
-    assert_eq!(
-        writing::checked_write(tables, MOST_BYTES),
-        Ok(sheet.clone())
-    );
+    assert_eq!(checked_write(tables, MOST_BYTES), Ok(sheet.clone()));
     let (mut buffer, mut other) = (vec![0; MOST_BYTES], vec![0; MOST_BYTES]);
     let times = table.measure(
         "write",
@@ -39,17 +37,16 @@ fn one(table: &mut Table, case: &str, tables: &Tables) -> (f64, f64) {
 pub fn with_library(tables: &Tables, buffer: &mut [u8]) {
     let mut answer = [0; 3];
     let tables = black_box(tables);
-    writing::write(
-        tables.size,
-        tables.quiet,
-        &tables.rules,
-        &tables.faults,
-        &tables.starts,
-        &tables.lengths,
-        &tables.presses,
-        buffer,
-        &mut answer,
-    );
+    let lent = raw::Tables {
+        size: tables.size,
+        quiet: tables.quiet,
+        rules: &tables.rules,
+        faults: &tables.faults,
+        starts: &tables.starts,
+        lengths: &tables.lengths,
+        presses: &tables.presses,
+    };
+    raw::write(lent, buffer, &mut answer);
     black_box(answer);
 }
 

@@ -1,4 +1,4 @@
-//! The plain Rust versions against the reference code. Needs no library.
+//! The plain Rust versions against the reference code.
 
 use ranthelo_bench::{engine, families, plain};
 use ranthelo_tests::enumeration::{self, Machine, Ran, Survivor};

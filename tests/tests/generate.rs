@@ -2,9 +2,9 @@
 
 use ranthelo_tests::enumeration;
 use ranthelo_tests::generator::Random;
-use ranthelo_tests::library::judge::checked_judge;
-use ranthelo_tests::library::reading::checked_read;
-use ranthelo_tests::library::writing::checked_generate;
+use ranthelo_tests::guarded::judge::checked_judge;
+use ranthelo_tests::guarded::reading::checked_read;
+use ranthelo_tests::guarded::writing::checked_generate;
 use ranthelo_tests::listed::{hexadecimal, spelled};
 use ranthelo_tests::reference::{read, Refusal, MOST_BYTES};
 use ranthelo_tests::seeded::generate;

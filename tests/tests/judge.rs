@@ -2,7 +2,7 @@
 
 use ranthelo_tests::enumeration::{self, Machine, Survivor};
 use ranthelo_tests::generator::{self, Random, Shape, SMALL};
-use ranthelo_tests::library::judge::{checked_judge, checked_judge_counting};
+use ranthelo_tests::guarded::judge::{checked_judge, checked_judge_counting};
 use ranthelo_tests::listed::{self, spelled};
 use ranthelo_tests::reference::{read, Refusal, Sheet};
 

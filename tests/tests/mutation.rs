@@ -2,7 +2,7 @@
 
 use ranthelo_tests::enumeration::{self, Failed, Failure, Machine, Ran, Used};
 use ranthelo_tests::generator::{self, Random, LARGE, SMALL};
-use ranthelo_tests::library::mutation::{checked_compare, checked_first_failed, checked_run};
+use ranthelo_tests::guarded::mutation::{checked_compare, checked_first_failed, checked_run};
 use ranthelo_tests::listed::{self, spelled};
 use ranthelo_tests::reference::{read, Refusal, Sheet};
 

@@ -153,6 +153,20 @@ fn input_that_cannot_be_read() {
     assert!(!output.stderr.is_empty());
 }
 
+/// Arguments are not looked at: a word on standard error says so, and standard input is judged.
+#[test]
+fn arguments() {
+    let p1 = concat!(env!("CARGO_MANIFEST_DIR"), "/../examples/P1.sheet");
+    for arguments in [vec![p1], vec!["--help"], vec!["", ""]] {
+        let mut command = program();
+        command.args(arguments).stdin(File::open(p1).unwrap());
+        let output = command.output().expect("the program ends");
+        assert_eq!(output.stdout, b"survivor\nboard 1\npress 0 1 0\n");
+        let told = String::from_utf8_lossy(&output.stderr);
+        assert_eq!(told, "judge: takes no arguments and reads standard input\n");
+    }
+}
+
 #[test]
 fn random_sheets() {
     let shape = Shape {

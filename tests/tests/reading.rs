@@ -1,7 +1,7 @@
 //! Read and one test's part through the library, against the reference reader.
 
 use ranthelo_tests::generator::{self, Random};
-use ranthelo_tests::library::reading::{checked_read, checked_test_part};
+use ranthelo_tests::guarded::reading::{checked_read, checked_test_part};
 use ranthelo_tests::listed::{self, spelled};
 use ranthelo_tests::reference::{
     read, Refusal, Summary, END, FAULT, MOST_BYTES, QUIET, RULE, SIZE, START, TEST,

@@ -2,7 +2,7 @@
 
 use ranthelo_tests::drawing::{any_tables, write, Tables};
 use ranthelo_tests::generator::{self, Random, LARGE, SMALL};
-use ranthelo_tests::library::writing::checked_write;
+use ranthelo_tests::guarded::writing::checked_write;
 use ranthelo_tests::listed;
 use ranthelo_tests::reference::{read, Refusal, MOST_BYTES};
 

@@ -1,6 +1,6 @@
 // The operations for C: each fills an array with its answer as numbers. See include/ranthelo.h.
 // Promises these numbers and every lent byte, by the definitions that the operations themselves cite.
-// Called from C, and from Rust by tests/ and bench/.
+// Called from C, and from Rust by the package in rust/.
 ghost use mathlib.Core.Path.{_≡_};
 ghost use mathlib.Core.Bool.{not};
 ghost use lib.Dec.{eqb};

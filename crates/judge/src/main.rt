@@ -45,8 +45,19 @@ fn read_input(buffer: &mut [u8]) -> Input
     Input::Bytes(done)
 }
 
+// Tells whoever names a file that it is not looked at. The program's own name is the first argument.
+fn warn_of_arguments() {
+    if os::arg_count() > 1 {
+        io::write_all(
+            STDERR_FILENO,
+            b"judge: takes no arguments and reads standard input\n",
+        );
+    }
+}
+
 // A sheet has at most 16,384 bytes: one more tells a longer one. Input that can't be read gets no verdict.
 fn main() {
+    warn_of_arguments();
     let mut buffer = [0u8; 16385];
     let Input::Bytes(n) = read_input(&mut buffer) else {
         io::write_all(STDERR_FILENO, b"judge: can't read standard input\n");

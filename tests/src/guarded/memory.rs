@@ -53,7 +53,6 @@ pub fn bytes(content: &[u8]) -> Guarded<u8> {
 }
 
 /// A buffer to be written, filled with bytes that no answer has.
-#[cfg(any(feature = "mutation", feature = "writing"))]
 pub fn buffer(length: usize) -> Guarded<u8> {
     let filler: Vec<u8> = (0..length).map(|i| 0x80 | (i * 7 + 3) as u8).collect();
     Guarded::new(&filler, GUARD_BYTE)
@@ -88,7 +87,6 @@ impl<const N: usize> Answer<N> {
 }
 
 /// A word that is 0 or 1.
-#[cfg(feature = "mutation")]
 pub fn flag(word: usize) -> bool {
     assert!(word < 2, "neither 0 nor 1: {word}");
     word == 1

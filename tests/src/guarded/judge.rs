@@ -1,75 +1,12 @@
 //! Judge.
 
-use super::guard::{buffer, bytes, flag, Answer, Guarded};
+use super::memory::{buffer, bytes, flag, Answer, Guarded};
 use crate::enumeration::Survivor;
 use crate::reference::Refusal;
+use ranthelo::raw::{judge, judge_counting};
 
 /// A count that no judgement gives.
 const UNCOUNTED: u32 = u32::MAX - 0x5A;
-
-mod c {
-    extern "C" {
-        pub fn ranthelo_judge(
-            sheet: *const u8,
-            sheet_length: usize,
-            board: *mut u8,
-            board_length: usize,
-            sequence: *mut u8,
-            sequence_length: usize,
-            answer: *mut usize,
-        );
-        pub fn ranthelo_judge_counting(
-            sheet: *const u8,
-            sheet_length: usize,
-            board: *mut u8,
-            board_length: usize,
-            sequence: *mut u8,
-            sequence_length: usize,
-            answer: *mut usize,
-            nodes: *mut u32,
-        );
-    }
-}
-
-/// Number, place, survivor (0 or 1), length of its sequence. The survivor's board and
-/// sequence are written to the fronts of the buffers.
-pub fn judge(sheet: &[u8], board: &mut [u8], sequence: &mut [u8], answer: &mut [usize; 4]) {
-    // SAFETY: all slices and the answer are valid for their lengths throughout the call.
-    unsafe {
-        c::ranthelo_judge(
-            sheet.as_ptr(),
-            sheet.len(),
-            board.as_mut_ptr(),
-            board.len(),
-            sequence.as_mut_ptr(),
-            sequence.len(),
-            answer.as_mut_ptr(),
-        )
-    }
-}
-
-/// Judge, and how many nodes its search looked at.
-pub fn judge_counting(
-    sheet: &[u8],
-    board: &mut [u8],
-    sequence: &mut [u8],
-    answer: &mut [usize; 4],
-    nodes: &mut u32,
-) {
-    // SAFETY: all slices, the answer and the count are valid for their lengths throughout the call.
-    unsafe {
-        c::ranthelo_judge_counting(
-            sheet.as_ptr(),
-            sheet.len(),
-            board.as_mut_ptr(),
-            board.len(),
-            sequence.as_mut_ptr(),
-            sequence.len(),
-            answer.as_mut_ptr(),
-            nodes,
-        )
-    }
-}
 
 /// Judge with buffers of so many bytes; a survivor's board has `open_pairs` bytes.
 pub fn checked_judge(

@@ -1,88 +1,9 @@
 //! Run, first failed test and compare.
 
-use super::guard::{buffer, bytes, flag, Answer};
+use super::memory::{buffer, bytes, flag, Answer};
 use crate::enumeration::{Failed, Failure, Ran, Used};
 use crate::reference::Refusal;
-
-mod c {
-    extern "C" {
-        pub fn ranthelo_run(
-            sheet: *const u8,
-            sheet_length: usize,
-            board: *const u8,
-            board_length: usize,
-            presses: *const u8,
-            presses_length: usize,
-            buffer: *mut u8,
-            buffer_length: usize,
-            answer: *mut usize,
-        );
-        pub fn ranthelo_first_failed(
-            sheet: *const u8,
-            sheet_length: usize,
-            board: *const u8,
-            board_length: usize,
-            answer: *mut usize,
-        );
-        pub fn ranthelo_compare(
-            sheet: *const u8,
-            sheet_length: usize,
-            board: *const u8,
-            board_length: usize,
-            buffer: *mut u8,
-            buffer_length: usize,
-            answer: *mut usize,
-        );
-    }
-}
-
-/// Number, place, pairs used, set of them. One sound for each press is written to the buffer's front.
-pub fn run(sheet: &[u8], board: &[u8], presses: &[u8], buffer: &mut [u8], answer: &mut [usize; 4]) {
-    // SAFETY: all slices and the answer are valid for their lengths throughout the call.
-    unsafe {
-        c::ranthelo_run(
-            sheet.as_ptr(),
-            sheet.len(),
-            board.as_ptr(),
-            board.len(),
-            presses.as_ptr(),
-            presses.len(),
-            buffer.as_mut_ptr(),
-            buffer.len(),
-            answer.as_mut_ptr(),
-        )
-    }
-}
-
-/// Number, place, failed (0 or 1), test, position, pairs used, set of them.
-pub fn first_failed(sheet: &[u8], board: &[u8], answer: &mut [usize; 7]) {
-    // SAFETY: all slices and the answer are valid for their lengths throughout the call.
-    unsafe {
-        c::ranthelo_first_failed(
-            sheet.as_ptr(),
-            sheet.len(),
-            board.as_ptr(),
-            board.len(),
-            answer.as_mut_ptr(),
-        )
-    }
-}
-
-/// Number, place, differs (0 or 1), length. A sequence is written to the buffer's front.
-pub fn compare(sheet: &[u8], board: &[u8], buffer: &mut [u8], answer: &mut [usize; 4]) {
-    // SAFETY: all slices and the answer are valid for their lengths throughout the call.
-    unsafe {
-        c::ranthelo_compare(
-            sheet.as_ptr(),
-            sheet.len(),
-            board.as_ptr(),
-            board.len(),
-            buffer.as_mut_ptr(),
-            buffer.len(),
-            answer.as_mut_ptr(),
-        )
-    }
-}
+use ranthelo::raw::{compare, first_failed, run};
 
 fn used(words: &[usize]) -> Used {
     let (number, set) = (words[0], words[1]);

@@ -1,0 +1,234 @@
+//! Answers in words. What is said to be refused, sounded or departing, the library said; this module says where and how.
+
+use crate::commands::{Command, FAULT, PRESS, RULE, START, TEST, commands};
+use crate::machine::{Choice, Machine, Move, Origin, Site};
+use crate::text::{spelled, words};
+use crate::{MOST_OPEN_PAIRS, Refusal, meaning, run};
+use std::fmt::Write;
+
+/// Why reading refuses a sheet, with what the number means at its place. For other numbers their meaning alone.
+///
+/// ```
+/// let sheet = [1, 2, 1, 1, 2, 0, 3, 0, 1, 6];
+/// let refusal = ranthelo::read(&sheet).unwrap_err();
+/// assert_eq!(ranthelo::explain::reason(&sheet, refusal), "press 3 is not below 1");
+/// ```
+pub fn reason(sheet: &[u8], refusal: Refusal) -> String {
+    let Refusal { number, place } = refusal;
+    let command = commands(sheet).find(|command| command.place == place);
+    let detail = match (number, command) {
+        (1, _) => Some("over 16,384 bytes".to_string()),
+        (2, None) => Some("the sheet ends without END".to_string()),
+        (2..=12, Some(command)) => command_reason(sheet, number, command),
+        _ => None,
+    };
+    let general = || meaning(number).unwrap_or("unknown number").to_string();
+    detail.unwrap_or_else(general)
+}
+
+/// Why reading refuses a command with a number from 2 to 12.
+fn command_reason(sheet: &[u8], number: usize, command: Command) -> Option<String> {
+    let before = Machine::before(sheet, command.place);
+    match number {
+        2 => cut(command),
+        3 => Some(misplaced(sheet, command)),
+        4 => wrong_sizes(command),
+        5 => out_of_range(&before, command),
+        6 => not_ascending(sheet, command),
+        7 => wrong_alternative(&before, command),
+        8 => one_too_many(&before, command),
+        9 => undefined_press(&before, command),
+        10 => Some(format!("byte {} follows END", spelled(&command.bytes[..1]))),
+        11 => unreached(&before),
+        12 => {
+            let open = before.open_pairs().len();
+            Some(format!("{open} open pairs, over {MOST_OPEN_PAIRS}"))
+        }
+        _ => None,
+    }
+}
+
+fn cut(command: Command) -> Option<String> {
+    let (kind, there) = (command.kind()?, command.operands().len());
+    let (word, due) = (kind.word, kind.operands.len());
+    Some(format!(
+        "operands of {word} are missing: {there} of {due} are there"
+    ))
+}
+
+fn misplaced(sheet: &[u8], command: Command) -> String {
+    let Some(kind) = command.kind() else {
+        return format!("{} is no command byte", spelled(command.bytes));
+    };
+    let last = commands(sheet)
+        .take_while(|other| other.place < command.place)
+        .last();
+    match last.and_then(Command::kind) {
+        Some(last) => format!("{} can't follow {}", kind.word, last.word),
+        None => format!("{} can't stand before SIZE", kind.word),
+    }
+}
+
+/// The operands with what they are, and those of them that are wrong.
+fn wrong_operands(command: Command, wrong: impl Fn(usize, u8) -> Option<String>) -> Option<String> {
+    let names = command.kind()?.operands;
+    let told: Vec<String> = names
+        .iter()
+        .zip(command.operands())
+        .enumerate()
+        .filter_map(|(i, (name, &value))| Some(format!("{name} {value} {}", wrong(i, value)?)))
+        .collect();
+    (!told.is_empty()).then(|| told.join(", "))
+}
+
+fn wrong_sizes(command: Command) -> Option<String> {
+    wrong_operands(command, |_, value| {
+        (!(1..=16).contains(&value)).then(|| "is not 1 to 16".to_string())
+    })
+}
+
+fn out_of_range(before: &Machine, command: Command) -> Option<String> {
+    let (n, k, m) = (before.states, before.presses, before.sounds);
+    let bounds: &[u8] = match command.byte() {
+        RULE | FAULT => &[n, k, m, n],
+        PRESS => &[k],
+        START => &[n],
+        _ => return None,
+    };
+    wrong_operands(command, |i, value| {
+        (value >= bounds[i]).then(|| format!("is not below {}", bounds[i]))
+    })
+}
+
+fn not_ascending(sheet: &[u8], command: Command) -> Option<String> {
+    let last = commands(sheet)
+        .take_while(|other| other.place < command.place)
+        .last()?;
+    Some(format!("it does not ascend after {}", words(last)))
+}
+
+fn wrong_alternative(before: &Machine, command: Command) -> Option<String> {
+    match *command.operands() {
+        [s, x, _, _] if before.rules.contains_key(&(s, x)) => Some(format!(
+            "it equals the RULE at {}",
+            site(Site::Pair((s, x)))
+        )),
+        [s, x, _, _] => Some(format!("no RULE at {}", site(Site::Pair((s, x))))),
+        _ => Some("every board may wake in state 0".to_string()),
+    }
+}
+
+fn one_too_many(before: &Machine, command: Command) -> Option<String> {
+    let (there, kind) = match command.byte() {
+        FAULT => (before.faults.values().map(Vec::len).sum(), "FAULTs"),
+        TEST => (before.tests.len(), "TESTs"),
+        PRESS => (before.tests.last()?.len(), "PRESSes of its test"),
+        _ => return None,
+    };
+    Some(format!("{there} {kind} stand before it"))
+}
+
+fn undefined_press(before: &Machine, command: Command) -> Option<String> {
+    let state = before.reached(before.tests.last()?)?;
+    let &[press] = command.operands() else {
+        return None;
+    };
+    Some(format!(
+        "the test has reached state {state}, which has no RULE for press {press}"
+    ))
+}
+
+fn unreached(before: &Machine) -> Option<String> {
+    let mut reached = vec![0];
+    let mut next = 0;
+    while let Some(&state) = reached.get(next) {
+        for (_, to) in before.rules.range((state, 0)..=(state, u8::MAX)) {
+            if !reached.contains(&to.next) {
+                reached.push(to.next);
+            }
+        }
+        next += 1;
+    }
+    let missing = (0..before.states).filter(|state| !reached.contains(state));
+    let missing: Vec<String> = missing.map(|state| state.to_string()).collect();
+    match missing.as_slice() {
+        [] => None,
+        [one] => Some(format!("state {one} can't be reached by RULEs")),
+        all => Some(format!(
+            "states {} can't be reached by RULEs",
+            all.join(", ")
+        )),
+    }
+}
+
+/// `state 1, press 0`, or `waking`.
+pub(crate) fn site(site: Site) -> String {
+    match site {
+        Site::Waking => "waking".to_string(),
+        Site::Pair((state, press)) => format!("state {state}, press {press}"),
+    }
+}
+
+/// `sound 0, next state 1`
+pub(crate) fn to(to: Move) -> String {
+    format!("sound {}, next state {}", to.sound, to.next)
+}
+
+/// What one choice does, beside choice 0 where that is the specified one.
+fn choice(all: &[Choice], number: usize) -> String {
+    let chosen = all[number];
+    match chosen.origin {
+        Origin::Rule => format!("the RULE: {}", to(chosen.to)),
+        Origin::Fault => format!("a FAULT: {}; the RULE: {}", to(chosen.to), to(all[0].to)),
+        Origin::Unspecified => format!("{}; no RULE", to(chosen.to)),
+        Origin::Waking if number == 0 => "state 0, as specified".to_string(),
+        Origin::Waking => format!("START: state {}; specified: state 0", chosen.to.next),
+    }
+}
+
+/// Which open pair each choice of a board is, and what it does there. The board is one of the sheet's.
+///
+/// ```
+/// let sheet = ranthelo::text::assemble(b"SIZE 1 1 2\n RULE 0 0 0 0\n FAULT 0 0 1 0")?;
+/// let machine = ranthelo::machine::Machine::of(&sheet)?;
+/// assert_eq!(
+///     ranthelo::explain::board(&machine, &[1]),
+///     "open pair 0, state 0, press 0: choice 1, a FAULT: sound 1, next state 0; the RULE: sound 0, next state 0\n",
+/// );
+/// # Ok::<(), Box<dyn std::error::Error>>(())
+/// ```
+pub fn board(machine: &Machine, board: &[u8]) -> String {
+    let board = machine.with(board);
+    let lines = board.taken().enumerate().map(|(i, (pair, number))| {
+        let (site, does) = (site(pair.site), choice(&pair.choices, number));
+        format!("open pair {i}, {site}: choice {number}, {does}\n")
+    });
+    lines.collect()
+}
+
+/// A sequence of presses that the specification defines, step by step: the states, the specified sounds and those that the
+/// board gives. Both kinds of sounds are the library's: those specified are those of the board with choices 0.
+pub fn sequence(sheet: &[u8], choices: &[u8], presses: &[u8]) -> Result<String, Refusal> {
+    let machine = Machine::of(sheet)?;
+    let specified = run(sheet, &vec![0; choices.len()], presses)?.sounds;
+    let given = run(sheet, choices, presses)?.sounds;
+    let board = machine.with(choices);
+    let mut lines = "position  press  specified         given\n".to_string();
+    let (mut state, mut other) = (0, board.wake().to.next);
+    for (i, &press) in presses.iter().enumerate() {
+        let step = board.step(other, press);
+        let next = machine
+            .rules
+            .get(&(state, press))
+            .map_or(state, |to| to.next);
+        let one = format!("{state} -> {next}, sound {}", specified[i]);
+        let two = format!("{other} -> {}, sound {}", step.to.next, given[i]);
+        let pair = step.open_pair.map(|pair| format!("open pair {pair}"));
+        let departs = (specified[i] != given[i]).then(|| "departs".to_string());
+        let notes: Vec<String> = pair.into_iter().chain(departs).collect();
+        let line = format!("{i:<10}{press:<7}{one:<18}{two:<18}{}", notes.join(", "));
+        writeln!(lines, "{}", line.trim_end()).expect("a string takes all");
+        (state, other) = (next, step.to.next);
+    }
+    Ok(lines)
+}

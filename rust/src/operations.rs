@@ -1,0 +1,265 @@
+//! The operations, with buffers that are always long enough.
+
+use crate::raw::{self, Tables};
+use crate::{MOST_BYTES, MOST_OPEN_PAIRS, MOST_SEQUENCE, Refusal};
+use std::ops::Range;
+
+/// The figures of an accepted sheet.
+#[derive(Clone, Copy, Debug, PartialEq, Eq)]
+pub struct Summary {
+    pub states: usize,
+    pub presses: usize,
+    pub sounds: usize,
+    pub rules: usize,
+    pub faults: usize,
+    pub tests: usize,
+    /// How many choices a board of the sheet has.
+    pub open_pairs: usize,
+}
+
+/// The open pairs that were used: how many, and bit i for pair i. A pair used twice counts once.
+#[derive(Clone, Copy, Debug, PartialEq, Eq)]
+pub struct Used {
+    pub number: usize,
+    pub set: u32,
+}
+
+/// What a run gives.
+#[derive(Clone, Debug, PartialEq, Eq)]
+pub struct Run {
+    /// One sound for each press.
+    pub sounds: Vec<u8>,
+    pub used: Used,
+}
+
+/// Where a board first goes wrong, both numbers from 0.
+#[derive(Clone, Copy, Debug, PartialEq, Eq)]
+pub struct Failure {
+    pub test: usize,
+    pub position: usize,
+}
+
+/// What the list of tests makes of a board.
+#[derive(Clone, Copy, Debug, PartialEq, Eq)]
+pub struct Trial {
+    /// None if the board passes every test.
+    pub failure: Option<Failure>,
+    /// The open pairs used by all tests up to and including the wrong sound, by all tests if none is wrong.
+    pub used: Used,
+}
+
+/// What a board is, beside the specification.
+#[derive(Clone, Debug, PartialEq, Eq)]
+pub enum Comparison {
+    /// It sounds as specified on every sequence of presses that the specification defines.
+    Conforms,
+    /// It does not; this is the shortest sequence that shows it.
+    Departs { sequence: Vec<u8> },
+}
+
+/// What the list of tests is worth.
+#[derive(Clone, Debug, PartialEq, Eq)]
+pub enum Verdict {
+    /// Every departing board fails some test.
+    Complete,
+    /// The first departing board that passes the list, and the shortest sequence that shows it: the test to add.
+    Survivor { board: Vec<u8>, sequence: Vec<u8> },
+}
+
+/// The numbers after the refusal's number and place.
+fn rest<const N: usize>(answer: &[usize; N]) -> Result<&[usize], Refusal> {
+    let (number, place) = (answer[0], answer[1]);
+    match number {
+        0 => Ok(&answer[2..]),
+        _ => Err(Refusal { number, place }),
+    }
+}
+
+impl Used {
+    fn from_answer(number: usize, set: usize) -> Self {
+        let set = u32::try_from(set).expect("a set has 32 bits");
+        Used { number, set }
+    }
+
+    /// The numbers of the pairs, ascending.
+    pub fn pairs(self) -> impl Iterator<Item = usize> {
+        (0..32).filter(move |i| self.set >> i & 1 == 1)
+    }
+}
+
+/// Reads a sheet: its figures.
+///
+/// ```
+/// let sheet = [1, 1, 1, 1, 6]; // SIZE 1 1 1, END
+/// let summary = ranthelo::read(&sheet)?;
+/// assert_eq!((summary.states, summary.open_pairs), (1, 0));
+///
+/// let refusal = ranthelo::read(&sheet[..4]).unwrap_err();
+/// assert_eq!((refusal.number, refusal.place), (2, 4));
+/// # Ok::<(), ranthelo::Refusal>(())
+/// ```
+pub fn read(sheet: &[u8]) -> Result<Summary, Refusal> {
+    let mut answer = [0; 9];
+    raw::read(sheet, &mut answer);
+    let figures = rest(&answer)?;
+    Ok(Summary {
+        states: figures[0],
+        presses: figures[1],
+        sounds: figures[2],
+        rules: figures[3],
+        faults: figures[4],
+        tests: figures[5],
+        open_pairs: figures[6],
+    })
+}
+
+/// Where in the sheet the PRESS commands of a test stand.
+pub fn test_span(sheet: &[u8], test: usize) -> Result<Range<usize>, Refusal> {
+    let mut answer = [0; 4];
+    raw::test_span(sheet, test, &mut answer);
+    let span = rest(&answer)?;
+    Ok(span[0]..span[0] + span[1])
+}
+
+/// The PRESS commands of a test, as the very part of the sheet.
+///
+/// ```
+/// let sheet = ranthelo::text::assemble(b"SIZE 1 2 1\n RULE 0 0 0 0\n RULE 0 1 0 0\n TEST\n TEST 1 0")?;
+/// assert_eq!(ranthelo::test_part(&sheet, 1)?, [5, 1, 5, 0]);
+/// assert_eq!(ranthelo::test_part(&sheet, 2).unwrap_err().number, 17);
+/// # Ok::<(), Box<dyn std::error::Error>>(())
+/// ```
+pub fn test_part(sheet: &[u8], test: usize) -> Result<&[u8], Refusal> {
+    test_span(sheet, test).map(|span| &sheet[span])
+}
+
+/// The sheet that tables spell. A refusal has place 0 and the number with which reading refuses that sheet, or 2 for a
+/// cut row and for lengths that do not add up to the presses.
+///
+/// ```
+/// let sheet = ranthelo::write(ranthelo::Tables {
+///     size: [1, 1, 2],
+///     rules: &[0, 0, 1, 0],
+///     lengths: &[2],
+///     presses: &[0, 0],
+///     ..Default::default()
+/// })?;
+/// assert_eq!(sheet, [1, 1, 1, 2, 2, 0, 0, 1, 0, 4, 5, 0, 5, 0, 6]);
+/// # Ok::<(), ranthelo::Refusal>(())
+/// ```
+pub fn write(tables: Tables) -> Result<Vec<u8>, Refusal> {
+    let mut answer = [0; 3];
+    sheet_from(|buffer| {
+        raw::write(tables, buffer, &mut answer);
+        Ok(rest(&answer)?[0])
+    })
+}
+
+/// The sheet of a seed and so many states, presses and sounds: no tests, the same bytes everywhere.
+///
+/// ```
+/// let sheet = ranthelo::generate(7, [3, 2, 2])?;
+/// assert_eq!(ranthelo::read(&sheet)?.rules, 6);
+/// assert_eq!(ranthelo::generate(7, [3, 2, 17]).unwrap_err().number, 4);
+/// # Ok::<(), ranthelo::Refusal>(())
+/// ```
+pub fn generate(seed: u32, size: [u8; 3]) -> Result<Vec<u8>, Refusal> {
+    let mut answer = [0; 3];
+    sheet_from(|buffer| {
+        raw::generate(seed, size, buffer, &mut answer);
+        Ok(rest(&answer)?[0])
+    })
+}
+
+/// The sheet that an operation writes to a buffer and whose length it tells.
+fn sheet_from(write: impl FnOnce(&mut [u8]) -> Result<usize, Refusal>) -> Result<Vec<u8>, Refusal> {
+    let mut buffer = vec![0; MOST_BYTES];
+    let length = write(&mut buffer)?;
+    buffer.truncate(length);
+    Ok(buffer)
+}
+
+/// Runs a board on presses, which need not be defined.
+///
+/// ```
+/// let sheet = ranthelo::text::assemble(b"SIZE 1 1 2\n RULE 0 0 0 0\n FAULT 0 0 1 0")?;
+/// let run = ranthelo::run(&sheet, &[1], &[0, 0])?;
+/// assert_eq!((run.sounds, run.used.number), (vec![1, 1], 1));
+/// # Ok::<(), Box<dyn std::error::Error>>(())
+/// ```
+pub fn run(sheet: &[u8], board: &[u8], presses: &[u8]) -> Result<Run, Refusal> {
+    let (mut sounds, mut answer) = (vec![0; presses.len()], [0; 4]);
+    raw::run(sheet, board, presses, &mut sounds, &mut answer);
+    let numbers = rest(&answer)?;
+    let used = Used::from_answer(numbers[0], numbers[1]);
+    Ok(Run { sounds, used })
+}
+
+/// The first test that a board fails, if it fails one.
+///
+/// ```
+/// let sheet = ranthelo::text::assemble(b"SIZE 1 1 2\n RULE 0 0 0 0\n FAULT 0 0 1 0\n TEST\n TEST 0")?;
+/// let failure = ranthelo::first_failed(&sheet, &[1])?.failure;
+/// assert_eq!(failure, Some(ranthelo::Failure { test: 1, position: 0 }));
+/// assert_eq!(ranthelo::first_failed(&sheet, &[0])?.failure, None);
+/// # Ok::<(), Box<dyn std::error::Error>>(())
+/// ```
+pub fn first_failed(sheet: &[u8], board: &[u8]) -> Result<Trial, Refusal> {
+    let mut answer = [0; 7];
+    raw::first_failed(sheet, board, &mut answer);
+    let numbers = rest(&answer)?;
+    let (test, position) = (numbers[1], numbers[2]);
+    Ok(Trial {
+        failure: (numbers[0] == 1).then_some(Failure { test, position }),
+        used: Used::from_answer(numbers[3], numbers[4]),
+    })
+}
+
+/// Compares a board with the specification.
+///
+/// ```
+/// use ranthelo::Comparison;
+///
+/// let sheet = ranthelo::text::assemble(b"SIZE 1 1 2\n RULE 0 0 0 0\n FAULT 0 0 1 0")?;
+/// assert_eq!(ranthelo::compare(&sheet, &[0])?, Comparison::Conforms);
+/// assert_eq!(ranthelo::compare(&sheet, &[1])?, Comparison::Departs { sequence: vec![0] });
+/// # Ok::<(), Box<dyn std::error::Error>>(())
+/// ```
+pub fn compare(sheet: &[u8], board: &[u8]) -> Result<Comparison, Refusal> {
+    let (mut buffer, mut answer) = ([0; MOST_SEQUENCE], [0; 4]);
+    raw::compare(sheet, board, &mut buffer, &mut answer);
+    Ok(match *rest(&answer)? {
+        [0, _] => Comparison::Conforms,
+        [_, length] => Comparison::Departs {
+            sequence: buffer[..length].to_vec(),
+        },
+        _ => unreachable!("two numbers follow"),
+    })
+}
+
+/// Judges whether the sheet's list of tests is complete. The thread needs [`STACK`](crate::STACK) bytes of stack.
+///
+/// ```
+/// use ranthelo::Verdict;
+///
+/// let sheet = ranthelo::text::assemble(b"SIZE 1 1 2\n RULE 0 0 0 0\n FAULT 0 0 1 0")?;
+/// let (board, sequence) = (vec![1], vec![0]);
+/// assert_eq!(ranthelo::judge(&sheet)?, Verdict::Survivor { board, sequence });
+///
+/// let sheet = ranthelo::text::assemble(b"SIZE 1 1 2\n RULE 0 0 0 0\n FAULT 0 0 1 0\n TEST 0")?;
+/// assert_eq!(ranthelo::judge(&sheet)?, Verdict::Complete);
+/// # Ok::<(), Box<dyn std::error::Error>>(())
+/// ```
+pub fn judge(sheet: &[u8]) -> Result<Verdict, Refusal> {
+    let (mut board, mut sequence) = ([0; MOST_OPEN_PAIRS], [0; MOST_SEQUENCE]);
+    let mut answer = [0; 4];
+    raw::judge(sheet, &mut board, &mut sequence, &mut answer);
+    match *rest(&answer)? {
+        [0, _] => Ok(Verdict::Complete),
+        [_, length] => Ok(Verdict::Survivor {
+            board: board[..read(sheet)?.open_pairs].to_vec(),
+            sequence: sequence[..length].to_vec(),
+        }),
+        _ => unreachable!("two numbers follow"),
+    }
+}

@@ -1,0 +1,59 @@
+//! How much stack the operations need: well below what the header and the package state. A thread that has less dies.
+
+mod common;
+
+use common::root;
+use ranthelo::{STACK, Tables, compare, first_failed, generate, judge, raw, read, run, write};
+use std::fs;
+use std::thread::Builder;
+
+fn in_stack(bytes: usize, work: impl FnOnce() + Send + 'static) {
+    let thread = Builder::new().stack_size(bytes).spawn(work);
+    thread
+        .expect("a thread starts")
+        .join()
+        .expect("it finishes");
+}
+
+/// The sheets kept for measuring, some of which settle every open pair.
+#[test]
+fn judging() {
+    let folder = root().join("bench/machines");
+    let files = fs::read_dir(folder).expect("the kept sheets");
+    let sheets: Vec<Vec<u8>> = files
+        .map(|file| fs::read(file.unwrap().path()).unwrap())
+        .collect();
+    assert!(sheets.len() > 10);
+    for sheet in sheets {
+        in_stack(STACK / 4 * 3, move || {
+            judge(&sheet).expect("an accepted sheet");
+        });
+    }
+}
+
+/// A sheet of 16,384 bytes and the others, with an eighth of it.
+#[test]
+fn other_operations() {
+    let mut tests = vec!["TEST".to_string() + &" 0".repeat(256); 31];
+    tests.push("TEST".to_string() + &" 0".repeat(232));
+    let source = "SIZE 1 1 2\nRULE 0 0 0 0\nFAULT 0 0 1 0\n".to_string() + &tests.join("\n");
+    let sheet = ranthelo::text::assemble(source.as_bytes()).expect("a text");
+    assert_eq!(sheet.len(), 16_384 - 1);
+    in_stack(STACK / 8, move || {
+        assert!(read(&sheet).is_ok());
+        assert!(run(&sheet, &[1], &[0; 100]).is_ok());
+        assert!(first_failed(&sheet, &[0]).is_ok());
+        assert!(compare(&sheet, &[0]).is_ok());
+        assert!(generate(1, [16, 16, 16]).is_ok());
+        let (lengths, presses) = ([256; 31], [0; 31 * 256]);
+        let tables = Tables {
+            size: [1, 1, 1],
+            rules: &[0, 0, 0, 0],
+            lengths: &lengths,
+            presses: &presses,
+            ..Default::default()
+        };
+        assert!(write(tables).is_ok());
+        raw::test_span(&sheet, 31, &mut [0; 4]);
+    });
+}

@@ -1,0 +1,9 @@
+//! The library's functions with everything they are lent between guards: each makes sure that only the stated
+//! bytes changed, and spells the answer in the reference's types.
+
+mod memory;
+
+pub mod judge;
+pub mod mutation;
+pub mod reading;
+pub mod writing;
