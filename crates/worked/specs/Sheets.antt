@@ -130,15 +130,17 @@ manyTests n = 0x01 ∷ 1 ∷ 1 ∷ 1 ∷ replicate n 0x04 ++ 0x06 ∷ []
 unfoldable pub p1start : List ℕ
 p1start = p1machine ++ 0x07 ∷ 1 ∷ 0x04 ∷ 0x05 ∷ 0 ∷ 0x05 ∷ 1 ∷ 0x06 ∷ []
 
--- P1's RULEs, START 1, nothing else: without START complete, as there is one mutant only
-unfoldable pub onlyStart : List ℕ
-onlyStart =
+-- P1's RULEs alone: complete, as there is one mutant; and with START 1
+unfoldable pub onlyRules : List ℕ
+onlyRules =
     0x01 ∷ 2 ∷ 2 ∷ 2 ∷
     0x02 ∷ 0 ∷ 0 ∷ 1 ∷ 1 ∷
     0x02 ∷ 0 ∷ 1 ∷ 0 ∷ 0 ∷
     0x02 ∷ 1 ∷ 0 ∷ 0 ∷ 1 ∷
-    0x02 ∷ 1 ∷ 1 ∷ 1 ∷ 0 ∷
-    0x07 ∷ 1 ∷ 0x06 ∷ []
+    0x02 ∷ 1 ∷ 1 ∷ 1 ∷ 0 ∷ []
+
+unfoldable pub onlyStart : List ℕ
+onlyStart = onlyRules ++ 0x07 ∷ 1 ∷ 0x06 ∷ []
 
 -- two states that give the same outputs, and START 1
 unfoldable pub equalStart : List ℕ
