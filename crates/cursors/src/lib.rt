@@ -6,8 +6,10 @@ mod progress;
 mod proposal;
 mod wanted;
 
+pub use observed::add_test;
 pub use observed::find_tests;
 pub use observed::test_at;
+pub use observed::tests_of;
 pub use progress::advance_all;
 pub use progress::start_cursors;
 pub use proposal::propose_fail;

@@ -37,6 +37,19 @@ pub fn find_tests(log: &[u16], facts: &mut [u16; FACTS])
     facts[TEST_COUNT] = tests as u16;
 }
 
+// Notes one test more, whose reset stands at a place of the log.
+pub fn add_test(facts: &mut [u16; FACTS], at: usize)
+    requires { ⌜ length (now facts) ≡ 832 ⌝ }
+    ensures { λ r. ⌜ FactsKept (now (facts .entry)) (now (facts .exit)) ⌝ }
+{
+    let tests = tests_of(facts);
+    if tests >= 256 {
+        return;
+    }
+    let next = enter_test(facts, tests, 256, at);
+    facts[TEST_COUNT] = next as u16;
+}
+
 // Where the reset of a test stands.
 pub fn test_at(facts: &[u16; FACTS], t: usize) -> usize
     ensures { λ r. ⌜ r < 65536 ⌝ }

@@ -8,4 +8,6 @@ pub mod Log
 pub mod Implementation
 pub mod Verdict
 pub mod Operations
+pub mod Longer
+pub mod Making
 pub mod laws

@@ -16,3 +16,5 @@ pub mod LogLaw
 pub mod PublishedLaw
 pub mod GuaranteeLaw
 pub mod Demands
+pub mod LongerLaw
+pub mod MakingLaw

@@ -16,3 +16,7 @@ pub prepared : {m entered swapped facts : List ℕ} → Wf m → FreeOk m entere
 prepared {m} {entered} {swapped} {facts} wf free ex kept =
     let after : FreeOk m swapped = free-kept wf (λ j l. ex .others j (inl l)) free in
     record { wf = wf; free = free-kept wf (λ j l. kept .same j (omega arith)) after; swaps = swaps-kept (kept .same) (ex .swaps) }
+
+-- the table of tests is no part of them
+pub ready-kept : {m old new : List ℕ} → FactsKept old new → Ready m old → Ready m new
+ready-kept kept r = record { wf = r .wf; free = free-kept (r .wf) (λ j l. kept .same j (omega arith)) (r .free); swaps = swaps-kept (kept .same) (r .swaps) }

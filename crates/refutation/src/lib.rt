@@ -1,6 +1,6 @@
 // Refutations of many mutants at once.
 // Promises, where it says so, that no mutant with the choices of a prefix is sought, and that the store stays right.
-// Called by `search`, which shows what its functions require.
+// Called by `search` and `sweep`, which show what its functions require.
 mod branch;
 mod node;
 mod prefix;
@@ -11,22 +11,28 @@ use branch::explore;
 use cubes::goal::Goal;
 use cubes::tables::FACTS;
 use cubes::tables::enter_all;
+use cursors::add_test;
 use cursors::find_tests;
 use cursors::start_cursors;
 use leaves::witnessed;
 use mirror::exchange_all;
 use node::root;
 use prefix::has_prefix;
+pub use store::Told;
 use store::admit_all;
 pub use store::fresh_store;
 pub use store::no_store;
+use store::unknown;
 ghost use mathlib.Core.Path.{_≡_};
 ghost use mathlib.Core.Bool.{true};
+ghost use mathlib.Core.List.{List};
+ghost use Prim.Native.Nat.{ℕ};
 ghost use lib.ListN.{length};
 ghost use Rattle.block.specs.Tabulated.{Wf};
 ghost use Rattle.cubes.specs.Cube.{NoneIf};
 ghost use Rattle.refutation.specs.Lent.{StoreOk};
 ghost use Rattle.refutation.specs.Refuting.{Ready};
+ghost use Rattle.refutation.specs.Branching.{Found, PrefixIn};
 
 // Fills the facts of a block and a log; false where it has none.
 pub fn prepare(block: &[u8; BLOCK], log: &[u16], facts: &mut [u16; FACTS]) -> bool
@@ -39,6 +45,41 @@ pub fn prepare(block: &[u8; BLOCK], log: &[u16], facts: &mut [u16; FACTS]) -> bo
     exchange_all(block, facts);
     find_tests(log, facts);
     true
+}
+
+// Notes one test more, whose reset stands at a place of the log.
+pub fn note_test(facts: &mut [u16; FACTS], at: usize)
+    requires { ⌜ length (now facts) ≡ 832 ⌝ }
+    ensures { λ r. ⌜ (length (now (facts .exit)) ≡ 832) × ((m : List ℕ) → Ready m (now (facts .entry)) → Ready m (now (facts .exit))) ⌝ }
+{
+    add_test(facts, at);
+}
+
+// A cube in which no mutant is sought and that has every mutant with all the choices of the prefix; or nothing.
+pub fn told_from(
+    block: &[u8; BLOCK],
+    facts: &[u16; FACTS],
+    log: &[u16],
+    goal: Goal,
+    store: &mut [u32],
+    notes: &mut [u16],
+    prefix: &[u16; 32],
+) -> Told
+    requires { ⌜ Ready (now block) (now facts) × StoreOk goal (now block) (now log) (now store) ⌝ }
+    ensures { λ r. ⌜ Found goal (now (block .entry)) (now (log .entry)) (now (store .exit)) r × (r .ok ≡ true → PrefixIn (now (block .entry)) (r .cube) (now (prefix .entry))) ⌝ }
+{
+    let node = root(block, prefix);
+    admit_all(notes, node.settled);
+    let mut cursors = [0u32; 256];
+    start_cursors(facts, &mut cursors);
+    let told = explore(block, facts, log, goal, store, notes, node, &cursors);
+    if !told.ok {
+        return unknown();
+    }
+    if !has_prefix(block, &told.cube, prefix) {
+        return unknown();
+    }
+    told
 }
 
 // Whether no mutant with all the choices of the prefix is sought; false promises nothing.
@@ -57,13 +98,6 @@ pub fn none_from(
     if witnessed(notes, prefix) {
         return false;
     }
-    let node = root(block, prefix);
-    admit_all(notes, node.settled);
-    let mut cursors = [0u32; 256];
-    start_cursors(facts, &mut cursors);
-    let told = explore(block, facts, log, goal, store, notes, node, &cursors);
-    if !told.ok {
-        return false;
-    }
-    has_prefix(block, &told.cube, prefix)
+    let told = told_from(block, facts, log, goal, store, notes, prefix);
+    told.ok
 }

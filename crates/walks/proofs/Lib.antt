@@ -1,3 +1,4 @@
 mod StandLaw
 mod SplitLaw
 mod ReachLaw
+mod BlameLaw

@@ -1,16 +1,21 @@
 // The quick first attempt: the log is walked with the settled suspects, and split at the first unsettled one that the walk meets.
 // Promises, where it says so, that no mutant with the choices of a prefix is sought; it fills no tables and may give up.
-// Called by `search`, which shows what it requires.
+// Called by `search` and `sweep`, which show what it requires.
+mod blame;
 mod effort;
 mod reach;
 mod refute;
 mod steps;
 mod walk;
 
+pub use blame::by_log;
+pub use blame::by_reach;
+pub use blame::gives_from;
 use block::BLOCK;
 use cubes::goal::Goal;
 pub use effort::spent;
 use leaves::witnessed;
+pub use refute::Told;
 use refute::refute;
 use walk::Place;
 ghost use mathlib.Core.Path.{_≡_};

@@ -25,12 +25,12 @@ ghost use Rattle.cubes.specs.declared.goal.Goal.the-variants.{Nonconforming};
 ghost use Rattle.walks.specs.Walks.{Stands, Halts, ToldOk, SplitOk};
 
 // Whether no mutant is sought that has the choices settled at some suspects, and which these are.
-pub(crate) struct Told {
+pub struct Told {
     pub ok: bool,
     pub used: u32,
 }
 
-fn unknown() -> Told
+pub(crate) fn unknown() -> Told
     ensures { λ r. ⌜ r .ok ≡ false ⌝ }
 {
     Told { ok: false, used: 0 }
@@ -82,7 +82,7 @@ fn look(
 }
 
 // What is told where nothing is to be settled.
-fn told_of(halt: Halt) -> Told
+pub(crate) fn told_of(halt: Halt) -> Told
     ensures { λ r. ⌜ ((goal : Sort) (m log p : List ℕ) → Halts goal m log p halt → ToldOk goal m log p r) ⌝ }
 {
     match halt {

@@ -1,0 +1,5 @@
+mod OrderLaw
+mod LookLaw
+mod AskLaw
+mod TurnLaw
+mod SweepLaw

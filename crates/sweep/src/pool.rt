@@ -1,0 +1,154 @@
+// What steers a sweep, in the notes that a search leaves free: how much may be spent on looks, and some survivors that were met on the
+// way (256 where any choice will do). No promise rests on it.
+use block::BLOCK;
+use block::wide16;
+use leaves::KEPT;
+use leaves::LONG;
+use leaves::WITNESS;
+use leaves::note;
+use leaves::set_note;
+use walks::gives_from;
+ghost use Prim.Native.Nat.{_<_};
+ghost use Rattle.block.specs.Tabulated.{Wf};
+
+// What may be spent, and which survivor is overwritten next.
+const EFFORT: usize = LONG;
+
+const NEXT: usize = LONG + 1;
+
+// Whether a survivor is kept, for each of eight.
+const HELD: usize = LONG + 8;
+
+// Their choices, 32 each.
+const CHOICES: usize = LONG + 16;
+
+pub const NOTES: usize = LONG + 272;
+
+const ENOUGH: u16 = 128;
+
+const MORE: u16 = 8;
+
+pub fn fresh_notes() -> [u16; NOTES] {
+    let mut notes = [0u16; NOTES];
+    notes[EFFORT] = ENOUGH;
+    notes
+}
+
+// Whether there is something to spend.
+pub(crate) fn affords(notes: &[u16]) -> bool {
+    note(notes, EFFORT) > 0
+}
+
+pub(crate) fn spend(notes: &mut [u16], n: u16) {
+    let left = note(notes, EFFORT);
+    if left < n {
+        set_note(notes, EFFORT, 0);
+        return;
+    }
+    set_note(notes, EFFORT, left - n);
+}
+
+fn earn(notes: &mut [u16]) {
+    let left = note(notes, EFFORT);
+    if left < 32768 {
+        set_note(notes, EFFORT, left + MORE);
+    }
+}
+
+// Where choice j of survivor w stands.
+fn spot(w: usize, j: usize) -> usize
+    ensures { λ r. ⌜ r < 10128 ⌝ }
+{
+    CHOICES + (w % 8) * 32 + j % 32
+}
+
+// Keeps the witness of the search among the survivors.
+pub(crate) fn keep(notes: &mut [u16]) {
+    if note(notes, KEPT) == 0 {
+        return;
+    }
+    set_note(notes, KEPT, 0);
+    let w = wide16(note(notes, NEXT)) % 8;
+    let mut j: usize = 0;
+    while j < 32 {
+        let c = note(notes, WITNESS + j);
+        set_note(notes, spot(w, j), c);
+        j += 1;
+    }
+    set_note(notes, HELD + w, 1);
+    set_note(notes, NEXT, ((w + 1) % 8) as u16);
+}
+
+fn clash(c: u16, d: u16) -> bool {
+    c != 256 && c != d
+}
+
+// One more than how many first choices of p, of n, survivor w can have; 0 if there is none.
+fn agreement(notes: &[u16], w: usize, p: &[u16; 32], n: usize) -> usize
+    requires { ⌜ w < 8 ⌝ }
+{
+    if note(notes, HELD + w) == 0 {
+        return 0;
+    }
+    let mut j: usize = 0;
+    while j < 32 {
+        if j >= n {
+            return n + 1;
+        }
+        if clash(note(notes, spot(w, j)), p[j]) {
+            return j + 1;
+        }
+        j += 1;
+    }
+    33
+}
+
+// The most of all survivors.
+pub(crate) fn most_agreed(notes: &[u16], p: &[u16; 32], n: usize) -> usize {
+    let mut most: usize = 0;
+    let mut w: usize = 0;
+    while w < 8 {
+        let now = agreement(notes, w, p, n);
+        if now > most {
+            most = now;
+        }
+        w += 1;
+    }
+    most
+}
+
+fn survivor(notes: &[u16], w: usize) -> [u16; 32] {
+    let mut p = [0u16; 32];
+    let mut j: usize = 0;
+    while j < 32 {
+        p[j] = note(notes, spot(w, j));
+        j += 1;
+    }
+    p
+}
+
+// Forgets a survivor that a test tells from the specification, or may.
+fn test_one(block: &[u8; BLOCK], log: &[u16], notes: &mut [u16], w: usize, at: usize)
+    requires { ⌜ Wf (now block) × (w < 8) ⌝ }
+{
+    if note(notes, HELD + w) == 0 {
+        return;
+    }
+    let p = survivor(notes, w);
+    if gives_from(block, log, &p, at) {
+        return;
+    }
+    set_note(notes, HELD + w, 0);
+}
+
+// After a test was appended whose reset stands at a place of the log.
+pub fn test_survivors(block: &[u8; BLOCK], log: &[u16], notes: &mut [u16], at: usize)
+    requires { ⌜ Wf (now block) ⌝ }
+{
+    earn(notes);
+    let mut w: usize = 0;
+    while w < 8 {
+        test_one(block, log, notes, w, at);
+        w += 1;
+    }
+}

@@ -1,0 +1,188 @@
+// One turn of a sweep: what clears a mutant, and others like it.
+use crate::ask::cleared_by;
+use crate::look::Looked;
+use crate::look::look;
+use crate::order::following;
+use crate::pool::affords;
+use crate::pool::keep;
+use crate::pool::most_agreed;
+use crate::pool::spend;
+use block::BLOCK;
+use block::slots;
+use block::wide;
+use cubes::goal::Goal;
+use cubes::tables::FACTS;
+use refutation::told_from;
+ghost use mathlib.Core.Path.{_≡_};
+ghost use mathlib.Core.Bool.{true, false};
+ghost use Prim.Native.Nat.{_*_, _<_, _≤_};
+ghost use lib.ListN.{length};
+ghost use Rattle.sheet.specs.Sheet.{Sheet};
+ghost use Rattle.block.specs.Layout.{statesOf};
+ghost use Rattle.cubes.specs.Cube.{Extends};
+ghost use Rattle.cubes.specs.declared.goal.Goal.the-variants.{Nonconforming};
+ghost use Rattle.refutation.specs.Lent.{StoreOk};
+ghost use Rattle.refutation.specs.Refuting.{Ready};
+ghost use Rattle.search.specs.Search.{ForSheet};
+ghost use Rattle.sweep.specs.Sweep.{Full};
+ghost use Rattle.sweep.specs.declared.turn.Turned.the-variants.{GivesUp};
+ghost use Rattle.sweep.specs.Turning.{AskedOk, TurnedOk};
+
+// The first n choices of p, the others unsettled.
+fn prefix(p: &[u16; 32], n: usize) -> [u16; 32]
+    requires { ⌜ length (now p) ≡ 32 ⌝ }
+    ensures { λ r. ⌜ Extends (now (p .entry)) r ⌝ }
+{
+    let mut q = *p;
+    let mut j = n;
+    while j < 32 {
+        q[j] = 256;
+        j += 1;
+    }
+    q
+}
+
+// By the choices at which slots p is cleared, and the next choice of the highest, if `ok`; else nothing is said.
+pub(crate) struct Asked {
+    pub ok: bool,
+    pub by: u32,
+    pub next: u16,
+}
+
+fn nothing() -> Asked
+    ensures { λ r. ⌜ r .ok ≡ false ⌝ }
+{
+    Asked {
+        ok: false,
+        by: 0,
+        next: 0,
+    }
+}
+
+// Asks whether a mutant with the first n choices of p survives.
+fn ask(
+    block: &[u8; BLOCK],
+    facts: &[u16; FACTS],
+    log: &[u16],
+    store: &mut [u32],
+    notes: &mut [u16],
+    p: &[u16; 32],
+    n: usize,
+) -> Asked
+    requires { ⌜ Ready (now block) (now facts) × StoreOk Nonconforming (now block) (now log) (now store) × Full (now block) (now p) ⌝ }
+    ensures { λ r. ⌜ StoreOk Nonconforming (now (block .entry)) (now (log .entry)) (now (store .exit)) × AskedOk (now (block .entry)) (now (log .entry)) (now (p .entry)) r ⌝ }
+{
+    let q = prefix(p, n);
+    let told = told_from(block, facts, log, Goal::Nonconforming, store, notes, &q);
+    if !told.ok {
+        return nothing();
+    }
+    let clearing = cleared_by(block, &told.cube, p);
+    Asked {
+        ok: true,
+        by: clearing.by,
+        next: clearing.next,
+    }
+}
+
+fn later(at: usize, other: usize) -> usize
+    requires { ⌜ at ≤ 32 ⌝ }
+    ensures { λ r. ⌜ at < r ⌝ }
+{
+    if other > at {
+        return other;
+    }
+    at + 1
+}
+
+// Asks of ever more of p's first choices, beyond those that a survivor has.
+fn ask_on(
+    block: &[u8; BLOCK],
+    facts: &[u16; FACTS],
+    log: &[u16],
+    store: &mut [u32],
+    notes: &mut [u16],
+    p: &[u16; 32],
+) -> Asked
+    requires { ⌜ Ready (now block) (now facts) × StoreOk Nonconforming (now block) (now log) (now store) × Full (now block) (now p) ⌝ }
+    ensures { λ r. ⌜ StoreOk Nonconforming (now (block .entry)) (now (log .entry)) (now (store .exit)) × AskedOk (now (block .entry)) (now (log .entry)) (now (p .entry)) r ⌝ }
+{
+    let n = wide(slots(block) % 33);
+    let mut at = most_agreed(notes, p, n);
+    while at <= n {
+        let asked = ask(block, facts, log, store, notes, p, at);
+        if asked.ok {
+            return asked;
+        }
+        keep(notes);
+        at = later(at, most_agreed(notes, p, n));
+    }
+    nothing()
+}
+
+// A turn clears p and others like it, finds that p survives, told from the specification by a sequence of this length, or gives up.
+pub(crate) enum Turned {
+    Refuted(u32, u16),
+    Survives(usize),
+    GivesUp,
+}
+
+// A look at p.
+fn take_look(
+    block: &[u8; BLOCK],
+    facts: &[u16; FACTS],
+    log: &[u16],
+    notes: &mut [u16],
+    p: &[u16; 32],
+    sequence: &mut [u8],
+) -> Turned
+    requires { ⌜ ((sh : Sheet) × ForSheet sh (now block) (now log)) × Full (now block) (now p) ⌝ }
+    requires { ⌜ statesOf (now block) * statesOf (now block) ≤ length (now sequence) ⌝ }
+    ensures { λ r. ⌜ ((sh : Sheet) → ForSheet sh (now (block .entry)) (now (log .entry)) → TurnedOk sh (now (p .entry)) r (now (sequence .exit))) ⌝ }
+    ensures { λ r. ⌜ (r ≡ GivesUp → ⊥) ⌝ }
+{
+    match look(block, facts, log, p, sequence) {
+        Looked::Survives(d) => Turned::Survives(d),
+        Looked::Fails(by) => {
+            spend(notes, 1);
+            Turned::Refuted(by, following(p, by))
+        }
+        Looked::Conforms(by) => {
+            spend(notes, 4);
+            Turned::Refuted(by, following(p, by))
+        }
+    }
+}
+
+// While there is something to spend a look at p; else questions, if the store has room for an entry, and a look where they say nothing.
+// With an empty store it gives up instead.
+pub(crate) fn turn(
+    block: &[u8; BLOCK],
+    facts: &[u16; FACTS],
+    log: &[u16],
+    store: &mut [u32],
+    notes: &mut [u16],
+    p: &[u16; 32],
+    sequence: &mut [u8],
+) -> Turned
+    requires { ⌜ ((sh : Sheet) × ForSheet sh (now block) (now log)) × Full (now block) (now p) ⌝ }
+    requires { ⌜ statesOf (now block) * statesOf (now block) ≤ length (now sequence) ⌝ }
+    requires { ⌜ (34 ≤ length (now store) → Ready (now block) (now facts)) × StoreOk Nonconforming (now block) (now log) (now store) ⌝ }
+    ensures { λ r. ⌜ ((sh : Sheet) → ForSheet sh (now (block .entry)) (now (log .entry)) → TurnedOk sh (now (p .entry)) r (now (sequence .exit))) ⌝ }
+    ensures { λ r. ⌜ StoreOk Nonconforming (now (block .entry)) (now (log .entry)) (now (store .exit)) × (r ≡ GivesUp → length (now (store .entry)) ≡ 0) ⌝ }
+{
+    if affords(notes) {
+        return take_look(block, facts, log, notes, p, sequence);
+    }
+    if store.len() == 0 {
+        return Turned::GivesUp;
+    }
+    if store.len() < 34 {
+        return take_look(block, facts, log, notes, p, sequence);
+    }
+    let asked = ask_on(block, facts, log, store, notes, p);
+    if asked.ok {
+        return Turned::Refuted(asked.by, asked.next);
+    }
+    take_look(block, facts, log, notes, p, sequence)
+}

@@ -1,0 +1,24 @@
+-- A walk that begins before a reset.
+use mathlib.Core.List.{List}
+use mathlib.Core.Path.{_≡_}
+use Prim.Native.Nat.{ℕ, _<_}
+use native.Mathlib.Numerals.{add-one}
+use lib.ListN.{length, getD}
+use lib.Seq.{drop-cons}
+use Rattle.model.specs.Log.{GivesFrom}
+use Rattle.block.specs.Tabulated.{Wf, stepOf, startOf}
+use Rattle.block.specs.Logged.{observation, GivesOf}
+use Rattle.cubes.specs.laws.WalkLaw.{later-part, after-reset}
+use Rattle.walks.specs.Walks.{Stands}
+
+-- there it does not matter in which state
+pub stands-before : {m log p : List ℕ} {at : ℕ} → Wf m → at < length log → getD log at 0 ≡ 256 → Stands m log p (record { at = at; state = 0; used = 0 })
+unfolding GivesOf GivesFrom observation
+stands-before {m} {log} {p} {at} wf l e = record {
+  at = λ b w g y.
+      let h = later-part (stepOf m b) (startOf m b) log at (startOf m b) y in
+      record {
+        low = wf .some-states;
+        goes = rw (drop-cons log at 0 l, e) (rw add-one at (after-reset (stepOf m b) (startOf m b) log at (h .0) l e (h .1)));
+      };
+}

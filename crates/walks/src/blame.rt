@@ -1,0 +1,68 @@
+// By the choices at which suspects a mutant is not sought.
+use crate::reach::CLOSED;
+use crate::reach::spread;
+use crate::refute::Told;
+use crate::refute::told_of;
+use crate::refute::unknown;
+use crate::walk::Halt;
+use crate::walk::Place;
+use crate::walk::walk;
+use block::BLOCK;
+ghost use mathlib.Core.List.{List};
+ghost use Prim.Native.Nat.{ℕ};
+ghost use Rattle.block.specs.Tabulated.{Wf};
+ghost use Rattle.cubes.specs.declared.goal.Goal.{Goal};
+ghost use Rattle.cubes.specs.declared.goal.Goal.the-variants.{Nonconforming};
+ghost use Rattle.walks.specs.Walks.{Halts, ToldOk};
+
+// Where a walk from the reset at a place of the log halts; it is lost where no reset stands there.
+fn walk_from(block: &[u8; BLOCK], log: &[u16], p: &[u16; 32], at: usize) -> Halt
+    requires { ⌜ Wf (now block) ⌝ }
+    ensures { λ r. ⌜ ((goal : Goal) → Halts goal (now (block .entry)) (now (log .entry)) (now (p .entry)) r) ⌝ }
+{
+    if at >= log.len() {
+        return Halt::Lost;
+    }
+    if log[at] != 256 {
+        return Halt::Lost;
+    }
+    let start = Place {
+        at,
+        state: 0,
+        used: 0,
+    };
+    walk(block, log, p, start)
+}
+
+// By a wrong output in the log from the reset at a place on; `ok` only if there is one.
+pub fn by_log(block: &[u8; BLOCK], log: &[u16], p: &[u16; 32], at: usize) -> Told
+    requires { ⌜ Wf (now block) ⌝ }
+    ensures { λ r. ⌜ ((goal : Goal) → ToldOk goal (now (block .entry)) (now (log .entry)) (now (p .entry)) r) ⌝ }
+{
+    told_of(walk_from(block, log, p, at))
+}
+
+// As it conforms; `ok` only if it does.
+pub fn by_reach(block: &[u8; BLOCK], p: &[u16; 32]) -> Told
+    requires { ⌜ Wf (now block) ⌝ }
+    ensures { λ r. ⌜ ((log : List ℕ) → ToldOk Nonconforming (now (block .entry)) log (now (p .entry)) r) ⌝ }
+{
+    let reach = spread(block, p);
+    if reach.stop != CLOSED {
+        return unknown();
+    }
+    Told {
+        ok: true,
+        used: reach.used,
+    }
+}
+
+// Whether the log from the reset at a place on is given by a mutant with the settled choices, which it does not leave. This steers only.
+pub fn gives_from(block: &[u8; BLOCK], log: &[u16], p: &[u16; 32], at: usize) -> bool
+    requires { ⌜ Wf (now block) ⌝ }
+{
+    match walk_from(block, log, p, at) {
+        Halt::Ends(_) => true,
+        _ => false,
+    }
+}
