@@ -4,12 +4,12 @@ use native.Mathlib.Decide.{ℕ-discrete, decLt}
 use native.Mathlib.Omega.{arith}
 use mathlib.Core.Path.{_≡_, refl, sym, _∙_, ap, subst}
 use mathlib.Core.Logic.{_⊎_, inl, inr, by-cases}
-use mathlib.Core.Bool.{Bool, true, false}
+use mathlib.Core.Bool.{Bool, true, false, cond}
 use mathlib.Core.Option.{Option, none, some}
 use mathlib.Core.List.{List, [], _∷_}
 use borrow.Author.Count.{below-more}
 use denote.Enum.Declared.{tagOf}
-use lib.ListN.{length, getD, set, length-set, length-replicate, getD-replicate, List·getD-eq-default}
+use lib.ListN.{length, getD, set, take, length-set, length-replicate, getD-replicate, List·getD-eq-default}
 use lib.Seq.{getD-set-same, getD-set-other, getD-take, length-take-le, ext-getD}
 use Rattle.lists.specs.Lists.{Before}
 use Rattle.sheet.specs.Sheet.{Sheet}
@@ -27,11 +27,25 @@ use Rattle.block.specs.laws.TabledLaw.{getD-default, start-same, pair-same, ran
 use Rattle.cubes.specs.Cube.{Sought, Meets as Asked, Extends, NoneIf}
 use Rattle.cubes.specs.declared.goal.Goal.{Goal}
 use Rattle.cubes.specs.declared.goal.Goal.the-variants.{Any, Nonconforming}
+use Rattle.refutation.specs.Refuting.{Ready}
 use Rattle.search.specs.declared.settle.Found.{Found}
 use Rattle.search.specs.declared.settle.Found.the-variants.{Nothing, First, GaveUp}
 use Rattle.search.proofs.settle.Found.{the-type}
-use Rattle.search.specs.Search.{Meets, Wanted, Begins, NoneFrom, FirstFrom, Tried, Prefix, mutantIn, FirstIn, Answers, foundIf, ForSheet, Searching, Decides, unsettled}
+use Rattle.search.specs.Search.{FactsOk, Meets, Wanted, Begins, NoneFrom, FirstFrom, Tried, Prefix, mutantIn, FirstIn, Answers, foundIf, ForSheet, Searching, Decides, unsettled}
 use Rattle.search.specs.Shown.{Showing}
+
+-- one table of facts is lent if it is ready, else none
+pub few : (ready : Bool) {n : ℕ} → n ≡ cond ready 1 0 → n ≤ 1
+few true e = omega arith
+few false e = omega arith
+
+pub lent : {m facts : List ℕ} (ready : Bool) {n : ℕ} → n ≡ cond ready 1 0 → (ready ≡ true → Ready m facts) → FactsOk m (take n (facts ∷ []))
+lent {m = m} {facts = facts} true e h = rw e (record { at = go })
+  where
+    go : (i : ℕ) → i < 1 → Ready m (getD (facts ∷ []) i [])
+    go zero k = h refl
+    go (suc i) k = absurd (omega arith)
+lent false e h = rw e (record { at = λ i k. absurd (omega arith) })
 
 -- where two lists are the same up to a place, the earlier one has no larger number there
 before-at : (b a : List ℕ) (i : ℕ) → Before b a → ((j : ℕ) → j < i → getD b j 0 ≡ getD a j 0) → getD b i 0 ≤ getD a i 0

@@ -3,7 +3,7 @@ use Prim.Native.Nat.{ℕ, _<_, _≤_}
 use mathlib.Core.Path.{_≡_}
 use mathlib.Core.Bool.{Bool, true, false}
 use mathlib.Core.Option.{Option, none}
-use mathlib.Core.List.{List}
+use mathlib.Core.List.{List, []}
 use lib.ListN.{length, getD, take, replicate}
 use Rattle.lists.specs.Lists.{Before}
 use Rattle.sheet.specs.Sheet.{Sheet}
@@ -14,6 +14,7 @@ use Rattle.block.specs.Logged.{observations}
 use Rattle.block.specs.Tabled.{Tabled}
 use Rattle.cubes.specs.declared.goal.Goal.{Goal}
 use Rattle.cubes.specs.declared.goal.Goal.the-variants.{Any, Nonconforming}
+use Rattle.refutation.specs.Refuting.{Ready}
 use Rattle.search.specs.declared.settle.Found.{Found}
 use Rattle.search.specs.declared.settle.Found.the-variants.{Nothing, First, GaveUp}
 
@@ -90,3 +91,7 @@ pub record Decides (P : Type 0) (r : Bool) : Type 0 where
 -- nothing is settled
 abbrev pub unsettled : List ℕ
 unsettled = replicate 32 256
+
+-- each table of facts that a search is lent is the block's; a quick search is lent none
+pub record FactsOk (m : List ℕ) (facts : List (List ℕ)) : Type 0 where
+  pub at : (i : ℕ) → i < length facts → Ready m (getD facts i [])

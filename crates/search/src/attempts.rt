@@ -13,10 +13,9 @@ use refutation::fresh_store;
 use refutation::no_store;
 use refutation::prepare;
 ghost use mathlib.Core.Path.{_≡_};
-ghost use mathlib.Core.Bool.{true};
+ghost use mathlib.Core.Bool.{cond};
 ghost use lib.ListN.{replicate};
 ghost use Rattle.sheet.specs.Sheet.{Sheet};
-ghost use Rattle.refutation.specs.Refuting.{Ready};
 ghost use Rattle.search.specs.declared.settle.Found.the-variants.{GaveUp};
 ghost use Rattle.search.specs.Search.{ForSheet, Answers, unsettled as nothingSettled};
 ghost use Rattle.search.specs.Shown.{Room, Leaves};
@@ -39,6 +38,13 @@ fn no_facts() -> [u16; FACTS]
     [0u16; FACTS]
 }
 
+// How many tables of facts a thorough attempt has: none where they are not ready.
+fn how_many(ready: bool) -> usize
+    ensures { λ r. ⌜ r ≡ cond ready 1 0 ⌝ }
+{
+    if ready { 1 } else { 0 }
+}
+
 // The notes of a quick attempt, and of a thorough one.
 fn short_notes() -> [u16; SHORT] {
     [0u16; SHORT]
@@ -54,14 +60,14 @@ fn find_thoroughly(block: &[u8; BLOCK], log: &[u16], goal: Goal, nodes: &mut u32
     ensures { λ r. ⌜ ((sh : Sheet) → ForSheet sh (now (block .entry)) (now (log .entry)) → Answers goal sh nothingSettled 0 (r .found) (r .choices)) ⌝ }
     ensures { λ r. ⌜ (r .found ≡ GaveUp → ⊥) ⌝ }
 {
-    let mut facts = no_facts();
-    let ready = prepare(block, log, &mut facts);
+    let mut facts = [no_facts()];
+    let ready = prepare(block, log, &mut facts[0]);
+    let n = how_many(ready);
     let mut store = fresh_store();
     let mut notes = long_notes();
     let found = search(
         block,
-        &facts,
-        ready,
+        &facts[..n],
         log,
         goal,
         &mut store,
@@ -79,13 +85,12 @@ fn find(block: &[u8; BLOCK], log: &[u16], goal: Goal, nodes: &mut u32) -> Attemp
     ensures { λ r. ⌜ ((sh : Sheet) → ForSheet sh (now (block .entry)) (now (log .entry)) → Answers goal sh nothingSettled 0 (r .found) (r .choices)) ⌝ }
     ensures { λ r. ⌜ (r .found ≡ GaveUp → ⊥) ⌝ }
 {
-    let facts = no_facts();
+    let facts: [[u16; FACTS]; 0] = [];
     let mut store = no_store();
     let mut notes = short_notes();
     let quick = search(
         block,
         &facts,
-        false,
         log,
         goal,
         &mut store,

@@ -9,15 +9,13 @@ use cubes::tables::FACTS;
 use refutation::none_from;
 use walks::spent;
 ghost use mathlib.Core.Path.{_≡_};
-ghost use mathlib.Core.Bool.{true};
 ghost use lib.ListN.{length};
 ghost use Rattle.sheet.specs.Sheet.{Sheet};
 ghost use Rattle.refutation.specs.Lent.{StoreOk};
 ghost use Rattle.cubes.specs.Cube.{NoneIf};
 ghost use Rattle.block.specs.Tabulated.{Wf};
-ghost use Rattle.refutation.specs.Refuting.{Ready};
 ghost use Rattle.search.specs.declared.settle.Found.the-variants.{GaveUp};
-ghost use Rattle.search.specs.Search.{Searching, Answers, foundIf};
+ghost use Rattle.search.specs.Search.{FactsOk, Searching, Answers, foundIf};
 
 // What a search finds: no wanted mutant; the first one; or neither, where a quick search gave up.
 pub(crate) enum Found {
@@ -35,24 +33,23 @@ pub(crate) struct Attempt {
 // Whether the prefix is refuted: without a store by walks along the log, with one by the facts, where there are any.
 fn refuted(
     block: &[u8; BLOCK],
-    facts: &[u16; FACTS],
-    ready: bool,
+    facts: &[[u16; FACTS]],
     log: &[u16],
     goal: Goal,
     store: &mut [u32],
     notes: &mut [u16],
     p: &[u16; 32],
 ) -> bool
-    requires { ⌜ Wf (now block) × (ready ≡ true → Ready (now block) (now facts)) × StoreOk goal (now block) (now log) (now store) ⌝ }
+    requires { ⌜ Wf (now block) × FactsOk (now block) (now facts) × StoreOk goal (now block) (now log) (now store) ⌝ }
     ensures { λ r. ⌜ NoneIf goal (now (block .entry)) (now (log .entry)) (now (p .entry)) r × StoreOk goal (now (block .entry)) (now (log .entry)) (now (store .exit)) ⌝ }
 {
     if store.len() == 0 {
         return walks::none_from(block, log, goal, notes, p);
     }
-    if !ready {
+    if facts.len() == 0 {
         return false;
     }
-    none_from(block, facts, log, goal, store, notes, p)
+    none_from(block, &facts[0], log, goal, store, notes, p)
 }
 
 // What is found where every slot is settled.
@@ -75,8 +72,7 @@ fn settled(wanted: bool, p: [u16; 32]) -> Attempt
 // The number still unsettled falls.
 pub(crate) fn search(
     block: &[u8; BLOCK],
-    facts: &[u16; FACTS],
-    ready: bool,
+    facts: &[[u16; FACTS]],
     log: &[u16],
     goal: Goal,
     store: &mut [u32],
@@ -85,12 +81,12 @@ pub(crate) fn search(
     i: usize,
 ) -> Attempt
     requires { ⌜ ((sh : Sheet) × Searching sh (now block) (now log) p i) ⌝ }
-    requires { ⌜ (ready ≡ true → Ready (now block) (now facts)) × StoreOk goal (now block) (now log) (now store) ⌝ }
+    requires { ⌜ FactsOk (now block) (now facts) × StoreOk goal (now block) (now log) (now store) ⌝ }
     ensures { λ r. ⌜ ((sh : Sheet) → Searching sh (now (block .entry)) (now (log .entry)) p i → Answers goal sh p i (r .found) (r .choices)) ⌝ }
     ensures { λ r. ⌜ StoreOk goal (now (block .entry)) (now (log .entry)) (now (store .exit)) ⌝ }
     ensures { λ r. ⌜ (r .found ≡ GaveUp → length (now (store .entry)) ≡ 0) ⌝ }
 {
-    if refuted(block, facts, ready, log, goal, store, notes, &p) {
+    if refuted(block, facts, log, goal, store, notes, &p) {
         return Attempt {
             found: Found::Nothing,
             choices: p,
@@ -110,7 +106,7 @@ pub(crate) fn search(
     while c < k {
         let mut q = p;
         q[i] = c;
-        let tried = search(block, facts, ready, log, goal, store, notes, q, i + 1);
+        let tried = search(block, facts, log, goal, store, notes, q, i + 1);
         let found = tried.found;
         let Found::Nothing = found else {
             return tried;

@@ -1,6 +1,5 @@
 use borrow.Author.Needs.{needs}
 use native.Mathlib.Omega.{arith}
-use Rattle.lists.specs.laws.TestLaw.{never}
 use Rattle.search.specs.declared.settle.Found.the-variants.{GaveUp}
 use Rattle.search.proofs.SearchLaw.{start, other}
 use Rattle.search.proofs.attempts.find.Statement.{statement}
@@ -9,8 +8,8 @@ use Rattle.search.proofs.attempts.find.Tie as tie
 search-requires : tie.Need-search-requires
 search-requires c κs =
     let at-no-store = c .before .before .before .before .before in
-    let at-entry = at-no-store .before .before .before in
-    ((at-entry .pre .0, rw (c .unsettled .ensures) (start (at-entry .pre .1))), ((λ e. never (cc)), at-no-store .no-store .ensures _ _ _))
+    let at-entry = at-no-store .before .before in
+    ((at-entry .pre .0, rw (c .unsettled .ensures) (start (at-entry .pre .1))), (record { at = λ i h. absurd (omega arith) }, at-no-store .no-store .ensures _ _ _))
 
 returns-2 : tie.Need-returns-2
 returns-2 c =
@@ -22,6 +21,6 @@ pub find-spec : {M : Type 1} → statement M
 find-spec =
     tie.close
     (tie.spec
-    (λ c κs. search needs) (λ c κs. search needs) (λ c κs. search needs) (λ c. search needs) (λ c. search needs)
+    (λ c κs. search needs) (λ c κs. search needs) (λ c. search needs) (λ c. search needs) (λ c. search needs)
     (λ c κs. search needs) search-requires (λ c. search needs) (λ c κs. search needs) (λ c. search needs) (λ c κs. search needs)
     (λ c. search needs) returns-2)

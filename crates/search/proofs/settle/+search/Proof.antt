@@ -37,7 +37,7 @@ record Trying (goal : Goal) (block log p : List ℕ) (i k : ℕ) (store₀ store
   same-notes : length notes ≡ length notes₀
 
 abbrev μ-search : Measures 5 search-kinds.ps ℕ
-μ-search κs a = 32 - a .1 .1 .1 .1 .1 .1 .1 .1 .0
+μ-search κs a = 32 - a .1 .1 .1 .1 .1 .1 .1 .0
 
 abbrev search-at : ℕ → In 5 search-kinds.ps
 search-at t = and 5 search-kinds.ps (is 5 search-kinds.ps μ-search t) search′.Pre
@@ -49,10 +49,10 @@ abbrev cs : ℕ → search-lts.Claims
 cs t = (refuted-reads.Asked, refuted-reads.Learnt, slots-reads.Asked, slots-reads.Learnt, wide-reads.Asked, wide-reads.Learnt, wanted-reads.Asked, wanted-reads.Learnt, settled-reads.Asked, settled-reads.Learnt, spent-reads.Asked, spent-reads.Learnt, choices-reads.Asked, choices-reads.Learnt, search-below t, search′.Post)
 
 abbrev search-Inv-loop : search-lts.InvT-loop
-search-Inv-loop block facts ready log goal store₀ notes₀ i p k c₀ store notes c = Trying goal block log p i k store₀ store notes₀ notes c
+search-Inv-loop block facts log goal store₀ notes₀ i p k c₀ store notes c = Trying goal block log p i k store₀ store notes₀ notes c
 
 abbrev search-μ-loop : search-lts.MeasureT-loop
-search-μ-loop block facts ready log goal store₀ notes₀ i p k c₀ store notes c = k - c
+search-μ-loop block facts log goal store₀ notes₀ i p k c₀ store notes c = k - c
 
 search-refuted-requires : (t : ℕ) → search-lts.Need-refuted-requires (cs t) (search-at t) search′.Post search-Inv-loop search-μ-loop
 search-refuted-requires t c κs =
@@ -72,7 +72,7 @@ search-returns-2 t c =
     (λ sh w. full-answer w en (c .before .before .before .if2 .taken) _ (c .before .wanted .ensures sh (full w en (c .before .before .before .if2 .taken))) _ _ (told .0) (told .1), (c .before .before .before .before .before .before .before .before .before .before .before .refuted .ensures .1, λ e. ended (c .before .wanted .result) (sym (told .0) ∙ e)))
 
 search-returns-3 : (t : ℕ) → search-lts.Need-returns-3 (cs t) (search-at t) search′.Post search-Inv-loop search-μ-loop
-search-returns-3 t c = (λ sh w. tt, (c .before .before .before .before .before .before .before .before .before .before .before .before .refuted .ensures .1, λ e. sym (c .before .before .before .before .before .before .before .before .before .before .before .before .refuted .kept .1 .1 .1 .1 .1 .0) ∙ c .before .before .before .if3 .taken))
+search-returns-3 t c = (λ sh w. tt, (c .before .before .before .before .before .before .before .before .before .before .before .before .refuted .ensures .1, λ e. sym (c .before .before .before .before .before .before .before .before .before .before .before .before .refuted .kept .1 .1 .1 .1 .0) ∙ c .before .before .before .if3 .taken))
 
 search-cast-choices : (t : ℕ) → search-lts.Need-cast-choices (cs t) (search-at t) search′.Post search-Inv-loop search-μ-loop
 search-cast-choices t c = omega (arith, next-low (c .before .before .before .before .before .before .before .before .before .before .before .before .before .before .before .before .pre .1 .0 .1) (c .before .before .wide .ensures .0 ∙ c .before .before .before .slots .ensures) (c .before .if2 .left) .0)
@@ -107,10 +107,10 @@ search-search-requires t c κs =
     (omega (arith, c .before .before .before .before .before .before .before .before .before .before .before .before .before .before .before .before .before .before .before .before .before .pre .0, next-low w en (c .before .before .before .before .before .before .if2 .left) .0), ((c .before .before .before .before .before .before .before .before .before .before .before .before .before .before .before .before .before .before .before .before .before .pre .1 .0 .0, set), (c .before .before .before .before .before .before .before .before .before .before .before .before .before .before .before .before .before .before .before .before .before .pre .1 .1 .0, c .before .before .before .loop .inv .ok)))
 
 search-same-length-7 : (t : ℕ) → search-lts.Need-same-length-7 (cs t) (search-at t) search′.Post search-Inv-loop search-μ-loop
-search-same-length-7 t c = c .before .before .before .before .before .search .kept .1 .1 .1 .1 .1 .0 ∙ c .before .before .before .before .before .before .before .before .before .loop .inv .same-store ∙ c .before .before .before .before .before .before .before .before .before .before .before .before .before .before .before .before .before .before .before .before .refuted .kept .1 .1 .1 .1 .1 .0
+search-same-length-7 t c = c .before .before .before .before .before .search .kept .1 .1 .1 .1 .0 ∙ c .before .before .before .before .before .before .before .before .before .loop .inv .same-store ∙ c .before .before .before .before .before .before .before .before .before .before .before .before .before .before .before .before .before .before .before .before .refuted .kept .1 .1 .1 .1 .0
 
 search-same-length-8 : (t : ℕ) → search-lts.Need-same-length-8 (cs t) (search-at t) search′.Post search-Inv-loop search-μ-loop
-search-same-length-8 t c = c .before .before .before .before .before .search .kept .1 .1 .1 .1 .1 .1 .0 ∙ c .before .before .before .before .before .before .before .before .before .loop .inv .same-notes ∙ c .before .before .before .before .before .before .before .before .before .before .before .before .before .before .before .before .before .before .before .before .refuted .kept .1 .1 .1 .1 .1 .1 .0
+search-same-length-8 t c = c .before .before .before .before .before .search .kept .1 .1 .1 .1 .1 .0 ∙ c .before .before .before .before .before .before .before .before .before .loop .inv .same-notes ∙ c .before .before .before .before .before .before .before .before .before .before .before .before .before .before .before .before .before .before .before .before .refuted .kept .1 .1 .1 .1 .1 .0
 
 search-returns-4 : (t : ℕ) → search-lts.Need-returns-4 (cs t) (search-at t) search′.Post search-Inv-loop search-μ-loop
 search-returns-4 t c =
@@ -118,7 +118,7 @@ search-returns-4 t c =
       λ sh w.
           let set = searching-set w en (c .before .before .before .before .before .before .before .before .before .before .before .before .if2 .left) (c .before .before .before .before .before .before .before .before .before .before .choices .ensures) (c .before .before .before .before .before .before .before .before .loop-test .taken) in
           one-found w en (c .before .before .before .before .before .before .before .before .before .before .before .before .if2 .left) (c .before .before .before .before .before .before .before .before .before .before .choices .ensures) (c .before .before .before .before .before .before .before .before .before .loop .inv .tried sh w) (c .before .before .before .before .before .search .result .found) (c .before .before .before .before .before .search .result .choices) (other (c .before .before .before .before .before .search .result .found) Nothing (c .match .keys2) (λ z. omega arith) (λ z. omega arith)) (c .before .before .before .before .before .search .ensures .0 sh set),
-      (c .before .before .before .before .before .search .ensures .1 .0, λ e. sym (c .before .before .before .before .before .before .before .before .before .before .before .before .before .before .before .before .before .before .before .before .refuted .kept .1 .1 .1 .1 .1 .0) ∙ sym (c .before .before .before .before .before .before .before .before .before .loop .inv .same-store) ∙ c .before .before .before .before .before .search .ensures .1 .1 e),
+      (c .before .before .before .before .before .search .ensures .1 .0, λ e. sym (c .before .before .before .before .before .before .before .before .before .before .before .before .before .before .before .before .before .before .before .before .refuted .kept .1 .1 .1 .1 .0) ∙ sym (c .before .before .before .before .before .before .before .before .before .loop .inv .same-store) ∙ c .before .before .before .before .before .search .ensures .1 .1 e),
     )
 
 search-add-c : (t : ℕ) → search-lts.Need-add-c (cs t) (search-at t) search′.Post search-Inv-loop search-μ-loop
@@ -136,15 +136,15 @@ search-loop-again t c =
           one-tried w en (c .before .before .before .before .before .before .before .before .before .before .before .before .before .if2 .left) (c .before .before .before .before .before .before .before .before .before .before .before .choices .ensures) (c .before .before .before .before .before .before .before .before .before .before .loop .inv .tried sh w) (rw (c .enum-told .given .1) at (c .before .before .before .before .before .before .search .ensures .0 sh set));
       low = omega (arith, c .before .before .before .before .before .before .before .before .before .loop-test .taken);
       ok = c .before .before .before .before .before .before .search .ensures .1 .0;
-      same-store = c .before .before .before .before .before .before .search .kept .1 .1 .1 .1 .1 .0 ∙ c .before .before .before .before .before .before .before .before .before .before .loop .inv .same-store;
-      same-notes = c .before .before .before .before .before .before .search .kept .1 .1 .1 .1 .1 .1 .0 ∙ c .before .before .before .before .before .before .before .before .before .before .loop .inv .same-notes;
+      same-store = c .before .before .before .before .before .before .search .kept .1 .1 .1 .1 .0 ∙ c .before .before .before .before .before .before .before .before .before .before .loop .inv .same-store;
+      same-notes = c .before .before .before .before .before .before .search .kept .1 .1 .1 .1 .1 .0 ∙ c .before .before .before .before .before .before .before .before .before .before .loop .inv .same-notes;
     }
 
 search-same-length-9 : (t : ℕ) → search-lts.Need-same-length-9 (cs t) (search-at t) search′.Post search-Inv-loop search-μ-loop
-search-same-length-9 t c = c .before .loop .inv .same-store ∙ c .before .before .before .before .before .before .before .before .before .before .before .before .refuted .kept .1 .1 .1 .1 .1 .0
+search-same-length-9 t c = c .before .loop .inv .same-store ∙ c .before .before .before .before .before .before .before .before .before .before .before .before .refuted .kept .1 .1 .1 .1 .0
 
 search-same-length-10 : (t : ℕ) → search-lts.Need-same-length-10 (cs t) (search-at t) search′.Post search-Inv-loop search-μ-loop
-search-same-length-10 t c = c .before .loop .inv .same-notes ∙ c .before .before .before .before .before .before .before .before .before .before .before .before .refuted .kept .1 .1 .1 .1 .1 .1 .0
+search-same-length-10 t c = c .before .loop .inv .same-notes ∙ c .before .before .before .before .before .before .before .before .before .before .before .before .refuted .kept .1 .1 .1 .1 .1 .0
 
 search-returns-5 : (t : ℕ) → search-lts.Need-returns-5 (cs t) (search-at t) search′.Post search-Inv-loop search-μ-loop
 search-returns-5 t c = (λ sh w. all-tried w (c .before .before .before .before .before .wide .ensures .0 ∙ c .before .before .before .before .before .before .slots .ensures) (c .before .before .before .before .if2 .left) (c .before .before .choices .ensures) (c .before .loop .inv .tried sh w) (c .loop-test .left), (c .before .loop .inv .ok, λ e. never (cc)))
