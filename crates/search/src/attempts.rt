@@ -12,6 +12,7 @@ use machine::Difference;
 use refutation::fresh_store;
 use refutation::no_store;
 use refutation::prepare;
+use walks::begins;
 ghost use mathlib.Core.Path.{_≡_};
 ghost use mathlib.Core.Bool.{cond};
 ghost use lib.ListN.{replicate};
@@ -79,12 +80,17 @@ fn find_thoroughly(block: &[u8; BLOCK], log: &[u16], goal: Goal, nodes: &mut u32
     found
 }
 
-// The same; first by a quick search, which needs no facts, keeps no refutations and may give up.
+// The same; first by a quick search, which needs no facts, keeps no refutations and may give up. It tells nothing of a log with something
+// before its first reset.
 fn find(block: &[u8; BLOCK], log: &[u16], goal: Goal, nodes: &mut u32) -> Attempt
     requires { ⌜ ((sh : Sheet) × ForSheet sh (now block) (now log)) ⌝ }
     ensures { λ r. ⌜ ((sh : Sheet) → ForSheet sh (now (block .entry)) (now (log .entry)) → Answers goal sh nothingSettled 0 (r .found) (r .choices)) ⌝ }
     ensures { λ r. ⌜ (r .found ≡ GaveUp → ⊥) ⌝ }
 {
+    *nodes = 0;
+    if !begins(log) {
+        return find_thoroughly(block, log, goal, nodes);
+    }
     let facts: [[u16; FACTS]; 0] = [];
     let mut store = no_store();
     let mut notes = short_notes();

@@ -33,7 +33,7 @@ fn hopeless(notes: &[u16], prefix: &[u16; 32]) -> bool {
 }
 
 // Whether a log has nothing before its first reset: then any state will do to begin with.
-fn begins(log: &[u16]) -> bool
+pub fn begins(log: &[u16]) -> bool
     ensures { λ r. ⌜ (r ≡ true → Begins (now (log .entry))) ⌝ }
 {
     if log.len() == 0 {
