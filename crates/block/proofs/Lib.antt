@@ -1,4 +1,5 @@
 mod PackingLaw
+mod LoadLaw
 mod SitesLaw
 mod SlotLaw
 mod TabulateLaw

@@ -9,10 +9,10 @@ use lib.ListN.{length, set, length-set}
 use lib.Seq.{getD-set-same, getD-set-other}
 use Rattle.block.specs.Packing.{Filled, Located}
 
-pub fill-none : {m : List ℕ} (base size : ℕ) (Right : ℕ → ℕ → Type 0) → length m ≡ 1621 → Filled m m base size 0 Right
+pub fill-none : {m : List ℕ} (base size : ℕ) (Right : ℕ → ℕ → Type 0) → length m ≡ 1620 → Filled m m base size 0 Right
 fill-none base size Right l = record { low = omega arith; long = l; same = λ k h. absurd (omega arith); others = λ j h. refl }
 
-pub fill-more : {old new : List ℕ} {base size n : ℕ} {Right : ℕ → ℕ → Type 0} (v : ℕ) → base + size ≤ 1621 → Filled old new base size n Right → n < size → Right n v
+pub fill-more : {old new : List ℕ} {base size n : ℕ} {Right : ℕ → ℕ → Type 0} (v : ℕ) → base + size ≤ 1620 → Filled old new base size n Right → n < size → Right n v
     → Filled old (set new (base + n) v) base size (n + 1) Right
 fill-more {old} {new} {base} {size} {n} {Right} v fits f l ok = record {
   low = omega arith;
@@ -29,7 +29,7 @@ fill-more {old} {new} {base} {size} {n} {Right} v fits f l ok = record {
 pub fill-all : {old new : List ℕ} {base size n : ℕ} {Right : ℕ → ℕ → Type 0} → Filled old new base size n Right → size ≤ n → Filled old new base size size Right
 fill-all f l = record { low = omega arith; long = f .long; same = λ k h. f .same k (omega arith); others = f .others }
 
-pub located-none : {m : List ℕ} → length m ≡ 1621 → Located m m
+pub located-none : {m : List ℕ} → length m ≡ 1620 → Located m m
 located-none l = record { long = l; others = λ j h. refl }
 
 pub located-more : {old new : List ℕ} (at v : ℕ) → 1588 ≤ at → Located old new → Located old (set new at v)

@@ -127,9 +127,9 @@ module _ (first : List ℕ) (n k : ℕ) (choices : List ℕ) where
           slotted = rw next (inv .slotted);
         }
 
-  pub number-end : (site slots : List ℕ) (count i : ℕ) → Numbering first n k choices site slots count i → 16 * n ≤ i →
-      Numbered first n k choices (record { site = site; slots = slots; count = count })
-  number-end site slots count i inv l =
+  pub number-end : (site slots pairs : List ℕ) (count i : ℕ) → Numbering first n k choices site slots count i → 16 * n ≤ i →
+      Numbered first n k choices (record { site = site; slots = slots; pairs = pairs; count = count })
+  number-end site slots pairs count i inv l =
       let d : i + (256 - i) ≡ 256 = omega (arith, inv .most) in
       let e : openChoices first n k choices 256 ≡ openChoices first n k choices i = rw d at (choices-past first n k choices i (256 - i) l) in
       record { site = λ t lt. inv .sites t lt ∙ here-or-past t; slots = rw e (inv .slotted); count = rw e (inv .counts) }

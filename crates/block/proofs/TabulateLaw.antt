@@ -12,10 +12,9 @@ use lib.ListN.{length, getD, set, drop, replicate, length-set, getD-replicate, L
 use lib.Seq.{getD-append-add, getD-drop, getD-set-same, getD-set-other}
 use Rattle.lists.specs.Lists.{maybe}
 use Rattle.sheet.specs.declared.Summary.{Summary}
-use Rattle.sheet.specs.declared.Tables.{Tables}
 use Rattle.sheet.specs.Sheet.{Sheet, choicesAt, wakingChoices, wakingSlots}
 use Rattle.sheet.specs.Reading.{summaryOf}
-use Rattle.sheet.specs.Tables.{tablesOf, byPair, firstFault}
+use Rattle.sheet.specs.Tables.{Tables, tablesOf, byPair, firstFault}
 use Rattle.sheet.specs.laws.TablesLaw.{table-at}
 use Rattle.sheet.specs.laws.WakingLaw.{wakings-at}
 use Rattle.model.specs.Mutant.{slots, startSlot}

@@ -8,7 +8,7 @@ use lib.ListN.{length, getD}
 -- of the `size` cells from `base` the first n are as they should be, and no other cell is changed
 pub record Filled (old new : List ℕ) (base size n : ℕ) (Right : ℕ → ℕ → Type 0) : Type 0 where
   pub low : n ≤ size
-  pub long : length new ≡ 1621
+  pub long : length new ≡ 1620
   pub same : (k : ℕ) → k < n → Right k (getD new (base + k) 0)
   pub others : (j : ℕ) → (j < base) ⊎ (base + size ≤ j) → getD new j 0 ≡ getD old j 0
 
@@ -26,5 +26,5 @@ WakingsCopied old new states n = Filled old new 1572 16 n (λ c v. v ≡ getD st
 
 -- the pairs of the suspects are kept past the other tables
 pub record Located (old new : List ℕ) : Type 0 where
-  pub long : length new ≡ 1621
+  pub long : length new ≡ 1620
   pub others : (j : ℕ) → j < 1588 → getD new j 0 ≡ getD old j 0

@@ -4,11 +4,10 @@ use mathlib.Core.Path.{_≡_}
 use mathlib.Core.List.{List}
 use lib.ListN.{length, getD}
 use Rattle.sheet.specs.declared.Summary.{Summary}
-use Rattle.sheet.specs.declared.Tables.{Tables}
 use Rattle.lists.specs.Lists.{maybe}
 use Rattle.sheet.specs.Sheet.{Sheet, ruleAt, wakings}
 use Rattle.sheet.specs.Reading.{summaryOf}
-use Rattle.sheet.specs.Tables.{tablesOf, firstFault as firstRow, noRow}
+use Rattle.sheet.specs.Tables.{Tables, tablesOf, firstFault as firstRow, noRow}
 use Rattle.sheet.specs.WellFormed.{WellFormed}
 use Rattle.model.specs.Mutant.{slots, siteOf, startSlot}
 use Rattle.block.specs.Layout.{waking, ruleOutput, ruleTarget, siteAt, firstFault, mutated, diverted, choicesOf, statesOf, inputsOf, slotsOf, wakeAt}
@@ -34,3 +33,9 @@ pub record Tabled (sh : Sheet) (m : List ℕ) : Type 0 where
   pub count : slotsOf m ≡ length (slots sh)
   pub waking-site : siteAt m waking ≡ maybe (startSlot sh) 255 (λ i. i)
   pub wakings : (c : ℕ) → c < 16 → wakeAt m c ≡ getD (wakings sh) c 0
+
+-- what is loaded of it: its tables in the block, and where its tests stand
+pub record Loads (sh : Sheet) (m starts lengths : List ℕ) : Type 0 where
+  pub tabled : Tabled sh m
+  pub starts-are : starts ≡ tablesOf sh .starts
+  pub lengths-are : lengths ≡ tablesOf sh .lengths

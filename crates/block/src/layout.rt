@@ -7,7 +7,7 @@ ghost use Rattle.block.specs.Layout.{pair, waking, ruleOutput, ruleTarge
 ghost use Rattle.block.specs.Tabulated.{Wf, StepIs, choicesAt, chosen, startOf};
 
 // How many bytes the block has, and where its tables stand in it (specs/Layout.antt).
-pub const BLOCK: usize = 1621;
+pub const BLOCK: usize = 1620;
 
 pub(crate) const TARGETS: usize = 256;
 

@@ -25,4 +25,4 @@ pub use layout::wide;
 pub use layout::wide16;
 pub use layout::wide32;
 pub use packing::fresh;
-pub use packing::tabulate;
+pub use packing::load;

@@ -1,12 +1,15 @@
 // Filling the block.
 ghost use mathlib.Core.Path.{_≡_};
-ghost use Prim.Native.Nat.{_+_, _<_, _≤_};
+ghost use Prim.Native.Nat.{ℕ, _+_, _<_, _≤_};
 ghost use mathlib.Core.Bool.{cond};
+ghost use mathlib.Core.List.{List};
 ghost use lib.Dec.{ltb};
 ghost use lib.ListN.{length};
 ghost use Rattle.sheet.specs.Sheet.{Sheet};
+ghost use Rattle.sheet.specs.Reading.{reading, accepted};
+ghost use Rattle.sheet.specs.Tables.{readAnswer, tablesIn};
 ghost use Rattle.block.specs.Packing.{Copied, FirstCopied, ChoicesCopied, WakingsCopied, Located};
-ghost use Rattle.block.specs.Tabled.{Read, Tabled};
+ghost use Rattle.block.specs.Tabled.{Read, Tabled, Loads};
 use crate::layout::BLOCK;
 use crate::layout::CHOICES;
 use crate::layout::DIVERTED;
@@ -22,8 +25,9 @@ use crate::layout::WAKES;
 use crate::layout::WAKING;
 use crate::layout::wide;
 use crate::sites::number;
+use sheet::Loaded;
+use sheet::Reading;
 use sheet::Summary;
-use sheet::Tables;
 
 // The low byte, where the number is one.
 fn narrow(x: u16) -> u8
@@ -46,7 +50,7 @@ fn last(x: u16) -> u8
 }
 
 fn copy(block: &mut [u8; BLOCK], base: usize, from: &[u8; 256])
-    requires { ⌜ (length (now block) ≡ 1621) × (base ≤ 1315) ⌝ }
+    requires { ⌜ (length (now block) ≡ 1620) × (base ≤ 1315) ⌝ }
     ensures { λ r. ⌜ Copied (now (block .entry)) (now (block .exit)) base (now (from .entry)) 256 ⌝ }
 {
     let mut k: usize = 0;
@@ -58,7 +62,7 @@ fn copy(block: &mut [u8; BLOCK], base: usize, from: &[u8; 256])
 }
 
 fn copy_first(block: &mut [u8; BLOCK], first: &[u16; 256])
-    requires { ⌜ length (now block) ≡ 1621 ⌝ }
+    requires { ⌜ length (now block) ≡ 1620 ⌝ }
     ensures { λ r. ⌜ FirstCopied (now (block .entry)) (now (block .exit)) (now (first .entry)) 256 ⌝ }
 {
     let mut k: usize = 0;
@@ -70,7 +74,7 @@ fn copy_first(block: &mut [u8; BLOCK], first: &[u16; 256])
 }
 
 fn copy_choices(block: &mut [u8; BLOCK], choices: &[u16; 32])
-    requires { ⌜ length (now block) ≡ 1621 ⌝ }
+    requires { ⌜ length (now block) ≡ 1620 ⌝ }
     ensures { λ r. ⌜ ChoicesCopied (now (block .entry)) (now (block .exit)) (now (choices .entry)) 32 ⌝ }
 {
     let mut i: usize = 0;
@@ -83,7 +87,7 @@ fn copy_choices(block: &mut [u8; BLOCK], choices: &[u16; 32])
 
 // The waking states by choice.
 fn copy_wakings(block: &mut [u8; BLOCK], states: &[u8; 16])
-    requires { ⌜ length (now block) ≡ 1621 ⌝ }
+    requires { ⌜ length (now block) ≡ 1620 ⌝ }
     ensures { λ r. ⌜ WakingsCopied (now (block .entry)) (now (block .exit)) (now (states .entry)) 16 ⌝ }
 {
     let mut c: usize = 0;
@@ -94,26 +98,16 @@ fn copy_wakings(block: &mut [u8; BLOCK], states: &[u8; 16])
     }
 }
 
-// Where the pair of a suspect is kept; any other number has one place past them.
-fn pair_at(i: usize) -> usize
-    ensures { λ r. ⌜ (1588 ≤ r) × (r < 1621) ⌝ }
-{
-    if i < 32 {
-        return PAIRS + i;
-    }
-    PAIRS + 32
-}
-
-// The pair of each suspect, all of which are among the first `end` pairs.
-fn locate(block: &mut [u8; BLOCK], site: &[u8; 256], end: usize)
-    requires { ⌜ (length (now block) ≡ 1621) × (end ≤ 256) ⌝ }
+// The pair of each suspect.
+fn locate(block: &mut [u8; BLOCK], pairs: &[u8; 32])
+    requires { ⌜ length (now block) ≡ 1620 ⌝ }
     ensures { λ r. ⌜ Located (now (block .entry)) (now (block .exit)) ⌝ }
 {
-    let mut k: usize = 0;
-    while k < end {
-        let at = pair_at(wide(site[k]));
-        block[at] = k as u8;
-        k += 1;
+    let mut i: usize = 0;
+    while i < 32 {
+        let k = pairs[i];
+        block[PAIRS + i] = k;
+        i += 1;
     }
 }
 
@@ -129,35 +123,89 @@ fn waking_site(waking: u8) -> u8
 
 // A block to be filled.
 pub fn fresh() -> [u8; BLOCK]
-    ensures { λ r. ⌜ length r ≡ 1621 ⌝ }
+    ensures { λ r. ⌜ length r ≡ 1620 ⌝ }
 {
     [0u8; BLOCK]
 }
 
 // Puts the tables of an accepted sheet into the block.
-pub fn tabulate(size: Summary, tables: Tables, block: &mut [u8; BLOCK])
-    requires { ⌜ length (now block) ≡ 1621 ⌝ }
-    requires { ⌜ ((sh : Sheet) × Read sh size tables) ⌝ }
-    ensures { λ r. ⌜ length (now (block .exit)) ≡ 1621 ⌝ }
-    ensures { λ r. ⌜ ((sh : Sheet) → Read sh size tables → Tabled sh (now (block .exit))) ⌝ }
+fn tabulate<'a>(
+    size: Summary,
+    loaded: Loaded,
+    output: &'a [u8; 256],
+    target: &'a [u8; 256],
+    choices: &'a [u16; 256],
+    first: &'a [u16; 256],
+    mutated: &'a [u8; 256],
+    diverted: &'a [u8; 256],
+    block: &mut [u8; BLOCK],
+)
+    requires { ⌜ length (now block) ≡ 1620 ⌝ }
+    requires { ⌜ ((sh : Sheet) × (starts : List ℕ) × (lengths : List ℕ) × Read sh size (tablesIn loaded (now output) (now target) (now choices) (now first) (now mutated) (now diverted) starts lengths)) ⌝ }
+    ensures { λ r. ⌜ length (now (block .exit)) ≡ 1620 ⌝ }
+    ensures { λ r. ⌜ ((sh : Sheet) (starts lengths : List ℕ)
+        → Read sh size (tablesIn loaded (now (output .entry)) (now (target .entry)) (now (choices .entry)) (now (first .entry)) (now (mutated .entry)) (now (diverted .entry)) starts lengths)
+        → Tabled sh (now (block .exit))) ⌝ }
 {
-    let sites = number(
-        &tables.choices,
-        wide(size.states),
-        wide(size.inputs),
-        tables.waking,
-    );
-    copy(block, 0, &tables.output);
-    copy(block, TARGETS, &tables.target);
-    copy_first(block, &tables.first);
-    copy(block, MUTATED, &tables.mutated);
-    copy(block, DIVERTED, &tables.diverted);
+    let sites = number(choices, wide(size.states), wide(size.inputs), loaded.waking);
+    copy(block, 0, output);
+    copy(block, TARGETS, target);
+    copy_first(block, first);
+    copy(block, MUTATED, mutated);
+    copy(block, DIVERTED, diverted);
     copy_choices(block, &sites.slots);
     copy(block, SITES, &sites.site);
-    copy_wakings(block, &tables.wakings);
-    locate(block, &sites.site, 16 * wide(size.states));
+    copy_wakings(block, &loaded.wakings);
+    locate(block, &sites.pairs);
     block[STATES] = size.states;
     block[INPUTS] = size.inputs;
     block[SLOTS] = sites.count;
-    block[SITES + WAKING] = waking_site(tables.waking);
+    block[SITES + WAKING] = waking_site(loaded.waking);
+}
+
+// Reads a sheet. The tables of an accepted one are then in the block; and by test, where its PRESS commands start, and how many they are.
+pub fn load(
+    sheet: &[u8],
+    block: &mut [u8; BLOCK],
+    starts: &mut [u16; 256],
+    lengths: &mut [u16; 256],
+) -> Reading
+    requires { ⌜ length (now block) ≡ 1620 ⌝ }
+    ensures { λ r. ⌜ r ≡ readAnswer (reading (now (sheet .entry))) ⌝ }
+    ensures { λ r. ⌜ length (now (block .exit)) ≡ 1620 ⌝ }
+    ensures { λ r. ⌜ ((sh : Sheet) → reading (now (sheet .entry)) ≡ accepted sh → Loads sh (now (block .exit)) (now (starts .exit)) (now (lengths .exit))) ⌝ }
+{
+    let mut output = [0u8; 256];
+    let mut target = [0u8; 256];
+    let mut choices = [0u16; 256];
+    let mut first = [0u16; 256];
+    let mut mutated = [0u8; 256];
+    let mut diverted = [0u8; 256];
+    let loaded = sheet::load(
+        sheet,
+        &mut output,
+        &mut target,
+        &mut choices,
+        &mut first,
+        &mut mutated,
+        &mut diverted,
+        starts,
+        lengths,
+    );
+    let reading = loaded.reading;
+    let Reading::Accepted(size) = reading else {
+        return reading;
+    };
+    tabulate(
+        size,
+        loaded,
+        &output,
+        &target,
+        &choices,
+        &first,
+        &mutated,
+        &diverted,
+        block,
+    );
+    reading
 }

@@ -5,11 +5,12 @@ ghost use lib.ListN.{length, replicate};
 ghost use Rattle.lists.specs.Lists.{overlay};
 ghost use Rattle.block.specs.Sites.{openAt, wakingFirst, openChoices, Numbered};
 
-// By pair, at state * 16 + input: which slot it uses, 255 for none. By slot: how many choices it has, 1 past the last. And how
-// many slots there are.
+// By pair, at state * 16 + input: which slot it uses, 255 for none. By slot: how many choices it has, 1 past the last, and its pair, of
+// which nothing is promised. And how many slots there are.
 pub struct Sites {
     pub site: [u8; 256],
     pub slots: [u16; 32],
+    pub pairs: [u8; 32],
     pub count: u8,
 }
 
@@ -62,12 +63,14 @@ pub(crate) fn number(choices: &[u16; 256], n: usize, k: usize, waking: u8) -> Si
     let first = waking_slot(waking);
     let mut site = no_sites();
     let mut slots = first.sizes;
+    let mut pairs = [0u8; 32];
     let mut count = first.count;
     let mut i: usize = 0;
     while i < 16 * n {
         if is_open(choices, k, i) {
             site[i] = count as u8;
             slots[count] = choices[i];
+            pairs[count] = i as u8;
             count += 1;
         }
         i += 1;
@@ -75,6 +78,7 @@ pub(crate) fn number(choices: &[u16; 256], n: usize, k: usize, waking: u8) -> Si
     Sites {
         site,
         slots,
+        pairs,
         count: count as u8,
     }
 }

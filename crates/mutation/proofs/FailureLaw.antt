@@ -5,10 +5,8 @@ use mathlib.Core.Path.{_≡_, refl, _∙_, ap, ap₂}
 use mathlib.Core.Option.{Option, none, some}
 use mathlib.Core.List.{List, []}
 use lib.ListN.{length, getD, take}
-use Rattle.sheet.specs.declared.Summary.{Summary}
-use Rattle.sheet.specs.declared.Tables.{Tables}
 use Rattle.sheet.specs.Sheet.{Sheet}
-use Rattle.sheet.specs.Reading.{accepted, summaryOf}
+use Rattle.sheet.specs.Reading.{accepted}
 use Rattle.sheet.specs.Tables.{tablesOf}
 use Rattle.sheet.specs.WellFormed.{WellFormed}
 use Rattle.model.specs.Mutant.{rule, specified}
@@ -20,7 +18,6 @@ use Rattle.model.specs.laws.LogLaw.{log-below, log-most}
 use Rattle.model.specs.laws.SuiteLaw.{specified-length, failed-means}
 use Rattle.block.specs.Tabulated.{ruleOf}
 use Rattle.block.specs.Logged.{observations}
-use Rattle.block.specs.Tabled.{Tabled}
 use Rattle.block.specs.laws.TabledLaw.{rule-same}
 use Rattle.logs.specs.declared.walk.Wrong.{Wrong}
 use Rattle.logs.specs.declared.walk.Wrong.the-variants as wrong
@@ -108,22 +105,21 @@ module _ {sh : Sheet} {b s starts lengths m outputs targets log : List ℕ} {tes
 
 -- ---- a sheet that was read
 
-module _ {sh : Sheet} {size : Summary} {tables : Tables} {s m : List ℕ} (rd : ReadFrom sh size tables s) (tb : Tabled sh m) where
-  suite-in : {room : ℕ} → length (suiteLog sh) ≤ room → SuiteIn sh s (tables .starts) (tables .lengths) (size .tests) m room
-  unfolding summaryOf
+module _ {sh : Sheet} {s starts lengths m : List ℕ} {tests : ℕ} (rd : ReadFrom sh s starts lengths tests m) where
+  suite-in : {room : ℕ} → length (suiteLog sh) ≤ room → SuiteIn sh s starts lengths tests m room
   suite-in l =
       record {
-        tabled = tb;
+        tabled = rd .loads .tabled;
         bytes = rd .bytes;
-        starts-are = rw (rd .read .tabled) refl;
-        lengths-are = rw (rd .read .tabled) refl;
-        many = rw (rd .read .summary) refl;
+        starts-are = rd .loads .starts-are;
+        lengths-are = rd .loads .lengths-are;
+        many = rd .many;
         fits = l;
       }
 
   -- with an array as long as the sheet, or as long as any suite's log
-  pub suite-short : {room : ℕ} → length s ≤ room → SuiteIn sh s (tables .starts) (tables .lengths) (size .tests) m room
+  pub suite-short : {room : ℕ} → length s ≤ room → SuiteIn sh s starts lengths tests m room
   suite-short l = suite-in (omega (arith, log-below sh, ap length (rd .bytes)))
 
-  pub suite-long : {room : ℕ} → 8448 ≤ room → SuiteIn sh s (tables .starts) (tables .lengths) (size .tests) m room
-  suite-long l = suite-in (omega (arith, log-most sh (tb .formed) (rw (rd .bytes) (rd .short))))
+  pub suite-long : {room : ℕ} → 8448 ≤ room → SuiteIn sh s starts lengths tests m room
+  suite-long l = suite-in (omega (arith, log-most sh (rd .loads .tabled .formed) (rw (rd .bytes) (rd .short))))

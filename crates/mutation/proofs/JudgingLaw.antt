@@ -6,11 +6,11 @@ use mathlib.Core.List.{List}
 use borrow.Author.Tests.{lt-ltb, le-ltb}
 use lib.ListN.{length, take, drop}
 use lib.Seq.{take-at}
-use Rattle.sheet.specs.declared.Loaded.{Loaded}
+use Rattle.sheet.specs.declared.Reading.{Reading as ReadAnswer}
 use Rattle.sheet.specs.declared.Reading.the-variants as read
 use Rattle.sheet.specs.Sheet.{Sheet}
 use Rattle.sheet.specs.Reading.{accepted, refused, Reading, reading}
-use Rattle.sheet.specs.Tables.{loadedOf}
+use Rattle.sheet.specs.Tables.{readAnswer}
 use Rattle.sheet.specs.WellFormed.{WellFormed}
 use Rattle.sheet.specs.laws.AcceptedLaw.{well-formed}
 use Rattle.lists.specs.laws.TestLaw.{never}
@@ -81,11 +81,11 @@ module _ {sh : Sheet} {board board′ sequence sequence′ : List ℕ} where
 
 module _ (s board sequence : List ℕ) where
   -- a sheet refused on reading: the same number and place, and nothing is written
-  pub judge-refused : (l : Loaded) (number place : ℕ) (r : Judged) → l ≡ loadedOf (reading s) → l .reading ≡ read.Refused number place → r ≡ judged.Refused number place →
+  pub judge-refused : (a : ReadAnswer) (number place : ℕ) (r : Judged) → a ≡ readAnswer (reading s) → a ≡ read.Refused number place → r ≡ judged.Refused number place →
       Judges (judging s (length board) (length sequence)) r board board sequence sequence × ToldJudged s (length board) (length sequence) r board sequence
   unfolding judging ToldJudged
-  judge-refused l number place r e er ea =
-      let h = closed-by s l number place e er in (
+  judge-refused a number place r e er ea =
+      let h = closed-by s e number place er in (
         record { answer = rw h ea; board = rw h refl; sequence = rw h refl },
         λ sh es. let same : _≡_ {A = Reading} (accepted sh) (refused number place) = sym es ∙ h in never (cc),
       )

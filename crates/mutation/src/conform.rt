@@ -3,20 +3,17 @@ ghost use mathlib.Core.Path.{_≡_};
 ghost use lib.ListN.{length};
 ghost use Rattle.sheet.specs.Sheet.{Sheet};
 ghost use Rattle.model.specs.Operations.{compareOn};
-ghost use Rattle.block.specs.Tabled.{Read};
+ghost use Rattle.block.specs.Tabled.{Tabled};
 ghost use Rattle.mutation.specs.Answers.{comparedBy, Compares};
 use crate::Compared;
-use block::fresh;
+use block::BLOCK;
 use block::states;
-use block::tabulate;
 use block::wide;
 use machine::Difference;
 use machine::Fit;
 use machine::bound;
 use machine::distinguish;
 use machine::machine_of;
-use sheet::Summary;
-use sheet::Tables;
 
 // A mutant that nothing tells from the specification conforms.
 fn compared(found: Difference) -> Compared
@@ -29,27 +26,20 @@ fn compared(found: Difference) -> Compared
 }
 
 // Compare, on an accepted sheet.
-pub(crate) fn compare_accepted(
-    size: Summary,
-    tables: Tables,
-    mutant: &[u8],
-    buffer: &mut [u8],
-) -> Compared
-    requires { ⌜ ((sh : Sheet) × Read sh size tables) ⌝ }
-    ensures { λ r. ⌜ ((sh : Sheet) → Read sh size tables → Compares (compareOn sh (now (mutant .entry)) (length (now (buffer .entry)))) r (now (buffer .entry)) (now (buffer .exit))) ⌝ }
+pub(crate) fn compare_accepted(block: &[u8; BLOCK], mutant: &[u8], buffer: &mut [u8]) -> Compared
+    requires { ⌜ ((sh : Sheet) × Tabled sh (now block)) ⌝ }
+    ensures { λ r. ⌜ ((sh : Sheet) → Tabled sh (now (block .entry)) → Compares (compareOn sh (now (mutant .entry)) (length (now (buffer .entry)))) r (now (buffer .entry)) (now (buffer .exit))) ⌝ }
 {
-    let mut block = fresh();
-    tabulate(size, tables, &mut block);
-    let machine = machine_of(&block, mutant);
+    let machine = machine_of(block, mutant);
     let fit = machine.fit;
     if let Fit::Refused(number, place) = fit {
         return Compared::Refused(number, place);
     }
-    if buffer.len() < bound(wide(states(&block))) as usize {
+    if buffer.len() < bound(wide(states(block))) as usize {
         return Compared::Refused(16, 0);
     }
     let found = distinguish(
-        &block,
+        block,
         &machine.output,
         &machine.target,
         machine.start,

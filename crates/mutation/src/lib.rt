@@ -14,6 +14,8 @@ mod respond;
 mod suite;
 mod verdict;
 
+use block::fresh;
+use block::load;
 use sheet::Reading;
 use sheet::refusal_of;
 pub use verdict::Judged;
@@ -63,14 +65,15 @@ pub fn run(sheet: &[u8], mutant: &[u8], inputs: &[u8], buffer: &mut [u8]) -> Ran
     ensures bytes { λ r. ⌜ now (buffer .exit) ≡ overlay (ranWrites (running (now (sheet .entry)) (now (mutant .entry)) (now (inputs .entry)) (length (now (buffer .entry))))) (now (buffer .entry)) ⌝ }
     ensures told { λ r. ⌜ ToldRan (now (sheet .entry)) (now (mutant .entry)) (now (inputs .entry)) (length (now (buffer .entry))) r (now (buffer .exit)) ⌝ }
 {
-    let loaded = sheet::load(sheet);
-    let reading = loaded.reading;
-    let Reading::Accepted(size) = reading else {
+    let mut block = fresh();
+    let mut starts = [0u16; 256];
+    let mut lengths = [0u16; 256];
+    let reading = load(sheet, &mut block, &mut starts, &mut lengths);
+    let Reading::Accepted(_) = reading else {
         let why = refusal_of(reading);
         return Ran::Refused(why.number, why.place);
     };
-    let tables = loaded.tables;
-    respond::run_accepted(size, tables, mutant, inputs, buffer)
+    respond::run_accepted(&block, mutant, inputs, buffer)
 }
 
 // First failed test: the lowest number of a test that the mutant fails, the position in it of its first wrong output, and the slots
@@ -79,14 +82,15 @@ pub fn first_failed(sheet: &[u8], mutant: &[u8]) -> Failed
     ensures answer { λ r. ⌜ r ≡ failedAnswer (failing (now (sheet .entry)) (now (mutant .entry))) ⌝ }
     ensures told { λ r. ⌜ ToldFailed (now (sheet .entry)) (now (mutant .entry)) r ⌝ }
 {
-    let loaded = sheet::load(sheet);
-    let reading = loaded.reading;
+    let mut block = fresh();
+    let mut starts = [0u16; 256];
+    let mut lengths = [0u16; 256];
+    let reading = load(sheet, &mut block, &mut starts, &mut lengths);
     let Reading::Accepted(size) = reading else {
         let why = refusal_of(reading);
         return Failed::Refused(why.number, why.place);
     };
-    let tables = loaded.tables;
-    suite::first_failed_accepted(sheet, size, tables, mutant)
+    suite::first_failed_accepted(sheet, &starts, &lengths, size.tests, &block, mutant)
 }
 
 // Compare: conforms, or the shortest, then smallest, distinguishing sequence (01: departing sequence) at the buffer's front.
@@ -95,12 +99,13 @@ pub fn compare(sheet: &[u8], mutant: &[u8], buffer: &mut [u8]) -> Compared
     ensures bytes { λ r. ⌜ now (buffer .exit) ≡ overlay (comparedWrites (comparing (now (sheet .entry)) (now (mutant .entry)) (length (now (buffer .entry))))) (now (buffer .entry)) ⌝ }
     ensures told { λ r. ⌜ ToldCompared (now (sheet .entry)) (now (mutant .entry)) (length (now (buffer .entry))) r (now (buffer .exit)) ⌝ }
 {
-    let loaded = sheet::load(sheet);
-    let reading = loaded.reading;
-    let Reading::Accepted(size) = reading else {
+    let mut block = fresh();
+    let mut starts = [0u16; 256];
+    let mut lengths = [0u16; 256];
+    let reading = load(sheet, &mut block, &mut starts, &mut lengths);
+    let Reading::Accepted(_) = reading else {
         let why = refusal_of(reading);
         return Compared::Refused(why.number, why.place);
     };
-    let tables = loaded.tables;
-    conform::compare_accepted(size, tables, mutant, buffer)
+    conform::compare_accepted(&block, mutant, buffer)
 }

@@ -7,7 +7,7 @@ ghost use Rattle.model.specs.Used.{mark, markFrom};
 ghost use Rattle.model.specs.Operations.{firstOver, runOn};
 ghost use Rattle.lists.specs.Lists.{indexOr, overlay};
 ghost use Rattle.sheet.specs.Sheet.{Sheet};
-ghost use Rattle.block.specs.Tabled.{Read};
+ghost use Rattle.block.specs.Tabled.{Tabled};
 ghost use Rattle.machine.specs.Rounds.{movesIn};
 ghost use Rattle.usage.specs.Marks.{startSlotOf, actsIn};
 ghost use Rattle.mutation.specs.Answers.{Runs};
@@ -15,13 +15,9 @@ ghost use Rattle.mutation.specs.Operate.{Runnable};
 use crate::Ran;
 use crate::counted;
 use block::BLOCK;
-use block::fresh;
 use block::place;
-use block::tabulate;
 use machine::Fit;
 use machine::machine_of;
-use sheet::Summary;
-use sheet::Tables;
 use usage::marked;
 use usage::start_set;
 
@@ -68,23 +64,20 @@ fn respond<'a>(
 
 // Run, on an accepted sheet.
 pub(crate) fn run_accepted(
-    size: Summary,
-    tables: Tables,
+    block: &[u8; BLOCK],
     mutant: &[u8],
     inputs: &[u8],
     buffer: &mut [u8],
 ) -> Ran
-    requires { ⌜ ((sh : Sheet) × Read sh size tables) ⌝ }
-    ensures { λ r. ⌜ ((sh : Sheet) → Read sh size tables → Runs (runOn sh (now (mutant .entry)) (now (inputs .entry)) (length (now (buffer .entry)))) r (now (buffer .entry)) (now (buffer .exit))) ⌝ }
+    requires { ⌜ ((sh : Sheet) × Tabled sh (now block)) ⌝ }
+    ensures { λ r. ⌜ ((sh : Sheet) → Tabled sh (now (block .entry)) → Runs (runOn sh (now (mutant .entry)) (now (inputs .entry)) (length (now (buffer .entry)))) r (now (buffer .entry)) (now (buffer .exit))) ⌝ }
 {
-    let mut block = fresh();
-    tabulate(size, tables, &mut block);
-    let machine = machine_of(&block, mutant);
+    let machine = machine_of(block, mutant);
     let fit = machine.fit;
     if let Fit::Refused(number, place) = fit {
         return Ran::Refused(number, place);
     }
-    let over = first_over(block::inputs(&block), inputs);
+    let over = first_over(block::inputs(block), inputs);
     if over < inputs.len() {
         return Ran::Refused(15, over);
     }
@@ -92,7 +85,7 @@ pub(crate) fn run_accepted(
         return Ran::Refused(16, 0);
     }
     let set = respond(
-        &block,
+        block,
         &machine.output,
         &machine.target,
         machine.start,

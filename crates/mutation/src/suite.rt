@@ -15,15 +15,11 @@ use crate::Failed;
 use crate::Used;
 use crate::counted;
 use block::BLOCK;
-use block::fresh;
-use block::tabulate;
 use logs::Wrong;
 use logs::first_wrong;
 use logs::record_suite;
 use machine::Fit;
 use machine::machine_of;
-use sheet::Summary;
-use sheet::Tables;
 use usage::use_tried;
 
 // Writes the log of an accepted sheet's suite at the log's front; gives its length.
@@ -72,18 +68,18 @@ fn first_failure<'a, 'b>(
 }
 
 // First failed test, on an accepted sheet.
-pub(crate) fn first_failed_accepted(
+pub(crate) fn first_failed_accepted<'a>(
     sheet: &[u8],
-    size: Summary,
-    tables: Tables,
+    starts: &'a [u16; 256],
+    lengths: &'a [u16; 256],
+    tests: usize,
+    block: &[u8; BLOCK],
     mutant: &[u8],
 ) -> Failed
-    requires { ⌜ ((sh : Sheet) × ReadFrom sh size tables (now sheet)) ⌝ }
-    ensures { λ r. ⌜ ((sh : Sheet) → ReadFrom sh size tables (now (sheet .entry)) → r ≡ failedAnswer (withMutant sh (now (mutant .entry)) (accepted (findingOf sh (now (mutant .entry)))))) ⌝ }
+    requires { ⌜ ((sh : Sheet) × ReadFrom sh (now sheet) (now starts) (now lengths) tests (now block)) ⌝ }
+    ensures { λ r. ⌜ ((sh : Sheet) → ReadFrom sh (now (sheet .entry)) (now (starts .entry)) (now (lengths .entry)) tests (now (block .entry)) → r ≡ failedAnswer (withMutant sh (now (mutant .entry)) (accepted (findingOf sh (now (mutant .entry)))))) ⌝ }
 {
-    let mut block = fresh();
-    tabulate(size, tables, &mut block);
-    let machine = machine_of(&block, mutant);
+    let machine = machine_of(block, mutant);
     let fit = machine.fit;
     if let Fit::Refused(number, place) = fit {
         return Failed::Refused(number, place);
@@ -92,10 +88,10 @@ pub(crate) fn first_failed_accepted(
         let mut short = [0u16; 1024];
         return first_failure(
             sheet,
-            &tables.starts,
-            &tables.lengths,
-            size.tests,
-            &block,
+            starts,
+            lengths,
+            tests,
+            block,
             &machine.output,
             &machine.target,
             machine.start,
@@ -105,10 +101,10 @@ pub(crate) fn first_failed_accepted(
     let mut long = [0u16; 8448];
     first_failure(
         sheet,
-        &tables.starts,
-        &tables.lengths,
-        size.tests,
-        &block,
+        starts,
+        lengths,
+        tests,
+        block,
         &machine.output,
         &machine.target,
         machine.start,

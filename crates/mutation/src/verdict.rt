@@ -2,9 +2,9 @@
 use crate::suite::log_suite;
 use block::BLOCK;
 use block::fresh;
+use block::load;
 use block::slots;
 use block::states;
-use block::tabulate;
 use block::wide;
 use cubes::goal::Goal;
 use machine::Difference;
@@ -12,9 +12,6 @@ use machine::bound;
 use search::Searched;
 use search::first;
 use sheet::Reading;
-use sheet::Summary;
-use sheet::Tables;
-use sheet::load;
 use sheet::refusal_of;
 ghost use mathlib.Core.Path.{_≡_};
 ghost use Prim.Native.Nat.{ℕ};
@@ -78,34 +75,34 @@ fn conclude<'a>(
 }
 
 // The judgement of a sheet that was read.
-fn judge_read(
-    size: Summary,
-    tables: Tables,
+fn judge_read<'a>(
     sheet: &[u8],
+    starts: &'a [u16; 256],
+    lengths: &'a [u16; 256],
+    tests: usize,
+    block: &[u8; BLOCK],
     board: &mut [u8],
     sequence: &mut [u8],
     nodes: &mut u32,
 ) -> Judged
-    requires { ⌜ ((sh : Sheet) × ReadFrom sh size tables (now sheet)) ⌝ }
-    ensures { λ r. ⌜ ((sh : Sheet) → ReadFrom sh size tables (now (sheet .entry)) → Judges (judgeOn sh (length (now (board .entry))) (length (now (sequence .entry)))) r (now (board .entry)) (now (board .exit)) (now (sequence .entry)) (now (sequence .exit))) ⌝ }
+    requires { ⌜ ((sh : Sheet) × ReadFrom sh (now sheet) (now starts) (now lengths) tests (now block)) ⌝ }
+    ensures { λ r. ⌜ ((sh : Sheet) → ReadFrom sh (now (sheet .entry)) (now (starts .entry)) (now (lengths .entry)) tests (now (block .entry)) → Judges (judgeOn sh (length (now (board .entry))) (length (now (sequence .entry)))) r (now (board .entry)) (now (board .exit)) (now (sequence .entry)) (now (sequence .exit))) ⌝ }
     ensures { λ r. ⌜ Measured r (now (nodes .entry)) (now (nodes .exit)) ⌝ }
 {
-    let mut block = fresh();
-    tabulate(size, tables, &mut block);
-    if board.len() < wide(slots(&block)) {
+    if board.len() < wide(slots(block)) {
         return Judged::Refused(16, 0);
     }
-    if sequence.len() < bound(wide(states(&block))) as usize {
+    if sequence.len() < bound(wide(states(block))) as usize {
         return Judged::Refused(16, 1);
     }
     if sheet.len() <= 1024 {
         let mut short = [0u16; 1024];
         return conclude(
             sheet,
-            &tables.starts,
-            &tables.lengths,
-            size.tests,
-            &block,
+            starts,
+            lengths,
+            tests,
+            block,
             &mut short,
             board,
             sequence,
@@ -115,10 +112,10 @@ fn judge_read(
     let mut long = [0u16; 8448];
     conclude(
         sheet,
-        &tables.starts,
-        &tables.lengths,
-        size.tests,
-        &block,
+        starts,
+        lengths,
+        tests,
+        block,
         &mut long,
         board,
         sequence,
@@ -140,14 +137,24 @@ pub fn judge_counting(
     ensures told { λ r. ⌜ ToldJudged (now (sheet .entry)) (length (now (board .entry))) (length (now (sequence .entry))) r (now (board .exit)) (now (sequence .exit)) ⌝ }
     ensures nodes { λ r. ⌜ Measured r (now (nodes .entry)) (now (nodes .exit)) ⌝ }
 {
-    let loaded = load(sheet);
-    let reading = loaded.reading;
-    let tables = loaded.tables;
+    let mut block = fresh();
+    let mut starts = [0u16; 256];
+    let mut lengths = [0u16; 256];
+    let reading = load(sheet, &mut block, &mut starts, &mut lengths);
     let Reading::Accepted(size) = reading else {
         let why = refusal_of(reading);
         return Judged::Refused(why.number, why.place);
     };
-    judge_read(size, tables, sheet, board, sequence, nodes)
+    judge_read(
+        sheet,
+        &starts,
+        &lengths,
+        size.tests,
+        &block,
+        board,
+        sequence,
+        nodes,
+    )
 }
 
 // Complete with nothing written, or the first nonconforming mutant that passes the tests, at the board buffer's front, and its

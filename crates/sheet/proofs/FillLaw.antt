@@ -21,7 +21,7 @@ use Rattle.sheet.specs.Encode.{rowBytes, operandBytes, startBytes, testB
 use Rattle.sheet.specs.Tables.{firstAt, firstFault, noRow}
 use Rattle.sheet.specs.words.Fetch.{itemAt, fetchAt, itemIn, rowFrom}
 use Rattle.sheet.specs.words.Held.{Digits, placeOf, pairKey, ByPair, ruleTarget}
-use Rattle.sheet.specs.words.Places.{TestAt, spanFrom, FaultsFrom, StartsFrom, TestsFrom, Table, FaultTables, TestTables, Countable}
+use Rattle.sheet.specs.words.Places.{TestAt, spanFrom, FaultsFrom, StartsFrom, TestsFrom, Table, FaultTables, TestTables, Countable, Cleared}
 use Rattle.lists.specs.laws.ListLaw.{all-at-index}
 use Rattle.sheet.specs.laws.TablesLaw.{below-length, below-at, rows-few}
 use Rattle.sheet.proofs.RowTableLaw.{If, length-snoc, at-true, rows-new, rows-old, rule-digits, table-set}
@@ -64,11 +64,15 @@ partly-next a b p v k h e = index-set (partly a b (p + 1)) p v h k (rw (lt-ltb p
     go j n true q = rw (q, lt-ltb j (p + 1) (omega (arith, ltb-true j p q)))
     go j n false q = let m = ltb-false j p q in let w : p + 1 ≤ j = omega arith in rw (q, le-ltb j (p + 1) w)
 
-zeros : (n : ℕ) (f : ℕ → ℕ) → ((i : ℕ) → i < n → f i ≡ 0) → Table n (replicate n 0) f
-zeros n f e = record { size = length-replicate {A = ℕ} n 0; at = λ i k. getD-replicate n i 0 0 k ∙ sym (e i k) }
+zeros : (n : ℕ) {t : List ℕ} (f : ℕ → ℕ) → t ≡ replicate n 0 → ((i : ℕ) → i < n → f i ≡ 0) → Table n t f
+zeros n f z e = record { size = ap length z ∙ length-replicate {A = ℕ} n 0; at = λ i k. ap (λ (t : List ℕ). getD t i 0) z ∙ getD-replicate n i 0 0 k ∙ sym (e i k) }
 
-pair-zeros : (g : ℕ → ℕ → ℕ) → ((s x : ℕ) → g s x ≡ 0) → ByPair (replicate 256 0) g
-pair-zeros g e = record { size = length-replicate {A = ℕ} 256 0; at = λ s x hs hx. getD-replicate 256 (placeOf s x) 0 0 (omega arith) ∙ sym (e s x) }
+pair-zeros : {t : List ℕ} (g : ℕ → ℕ → ℕ) → t ≡ replicate 256 0 → ((s x : ℕ) → g s x ≡ 0) → ByPair t g
+pair-zeros g z e =
+    record {
+      size = ap length z ∙ length-replicate {A = ℕ} 256 0;
+      at = λ s x hs hx. ap (λ (t : List ℕ). getD t (placeOf s x) 0) z ∙ getD-replicate 256 (placeOf s x) 0 0 (omega arith) ∙ sym (e s x);
+    }
 
 -- the first fault's index, with one row more
 module _ (r : Row) (s x : ℕ) where
@@ -122,13 +126,13 @@ row-there l r i j e n = go (ltb j (length l)) refl
         let m = ltb-false j (length l) k in
         List·getD-eq-default (l ++ r ∷ []) noRow {n = j} (omega (arith, length-snoc l r)) ∙ sym (List·getD-eq-default l noRow {n = j} m)
 
-pub faults-none : FaultTables (replicate 256 0) (replicate 256 0) (replicate 256 0) (replicate 256 0) []
+pub faults-none : {cs fs ms ds ss ls : List ℕ} → Cleared cs fs ms ds ss ls → FaultTables cs fs ms ds []
 unfolding rowsAt firstFault
-faults-none = record {
-  counts-are = pair-zeros (λ s x. length (rowsAt [] s x)) (λ s x. refl);
-  firsts-are = pair-zeros (firstFault []) (λ s x. refl);
-  mutated-are = zeros 256 (λ i. getD [] i noRow .output) (λ i k. refl);
-  diverted-are = zeros 256 (λ i. getD [] i noRow .target) (λ i k. refl);
+faults-none h = record {
+  counts-are = pair-zeros (λ s x. length (rowsAt [] s x)) (h .counts-are) (λ s x. refl);
+  firsts-are = pair-zeros (firstFault []) (h .firsts-are) (λ s x. refl);
+  mutated-are = zeros 256 (λ i. getD [] i noRow .output) (h .mutated-are) (λ i k. refl);
+  diverted-are = zeros 256 (λ i. getD [] i noRow .target) (h .diverted-are) (λ i k. refl);
 }
 
 pub count-few : (cs fs ms ds : List ℕ) (l : List Row) (r : Row) → Digits r → FaultTables cs fs ms ds l → getD cs (pairKey r) 0 ≤ length l
@@ -212,7 +216,7 @@ pub record Waking (s l ws : List ℕ) (at i : ℕ) : Type 0 where
   pub table : Table 16 ws (partly (wakingBy l) (λ j. 0) (i + 1))
 
 pub waking-start : (s : List ℕ) (place : ℕ) (l : List ℕ) → StartsFrom s place l → Waking s l (replicate 16 0) place 0
-waking-start s place l h = record { rest = h .rest; bytes = h .bytes; table = zeros 16 (partly (wakingBy l) (λ j. 0) 1) (λ i k. go i) }
+waking-start s place l h = record { rest = h .rest; bytes = h .bytes; table = zeros 16 (partly (wakingBy l) (λ j. 0) 1) refl (λ i k. go i) }
   where
     go : (i : ℕ) → partly (wakingBy l) (λ j. 0) 1 i ≡ 0
     go zero = refl
@@ -298,8 +302,8 @@ testing-next s place l ss ls at i h k r t g =
       };
     }
 
-pub tests-none : (place : ℕ) (l : List (List ℕ)) → TestTables (replicate 256 0) (replicate 256 0) place l 0
-tests-none place l = record {
-  starts-are = zeros 256 (partly (λ j. spanFrom place l j .start) (λ j. 0) 0) (λ i k. rw (le-ltb i 0 (omega arith)));
-  lengths-are = zeros 256 (partly (λ j. length (getD l j [])) (λ j. 0) 0) (λ i k. rw (le-ltb i 0 (omega arith)));
+pub tests-none : {cs fs ms ds ss ls : List ℕ} → Cleared cs fs ms ds ss ls → (place : ℕ) (l : List (List ℕ)) → TestTables ss ls place l 0
+tests-none h place l = record {
+  starts-are = zeros 256 (partly (λ j. spanFrom place l j .start) (λ j. 0) 0) (h .starts-are) (λ i k. rw (le-ltb i 0 (omega arith)));
+  lengths-are = zeros 256 (partly (λ j. length (getD l j [])) (λ j. 0) 0) (h .lengths-are) (λ i k. rw (le-ltb i 0 (omega arith)));
 }

@@ -5,13 +5,11 @@ use mathlib.Core.Bool.{Bool, true, false, cond}
 use mathlib.Core.List.{List, [], _∷_}
 use native.Mathlib.Omega.{arith}
 use lib.Dec.{ltb}
-use lib.ListN.{length, getD, List·getD-eq-default}
+use lib.ListN.{length, getD, replicate, List·getD-eq-default}
 use borrow.Author.Tests.{ltb-false}
 use Rattle.lists.specs.laws.TestLaw.{never}
 use Rattle.sheet.specs.declared.Span.{Span}
 use Rattle.sheet.specs.declared.Summary.{Summary}
-use Rattle.sheet.specs.declared.Tables.{Tables}
-use Rattle.sheet.specs.declared.Loaded.{Loaded}
 use Rattle.sheet.specs.declared.Reading.{Reading as ReadAnswer}
 use Rattle.sheet.specs.declared.Reading.the-variants as read
 use Rattle.sheet.specs.declared.part.Layout.{Layout}
@@ -19,9 +17,9 @@ use Rattle.sheet.specs.declared.scan.Done.{Done}
 use Rattle.sheet.specs.Sheet.{Sheet, ruleAt, wakings, wakingChoices}
 use Rattle.sheet.specs.Reading.{Reading, accepted, refused, reading}
 use Rattle.sheet.specs.Part.{spanOf}
-use Rattle.sheet.specs.Tables.{readAnswer, tablesOf, blankTables, loadedOf}
+use Rattle.sheet.specs.Tables.{Tables, readAnswer, tablesOf, blankTables, loadedOf}
 use Rattle.sheet.specs.words.Held.{Within16, ruleOutput, ByPair, Leads, HeldOf, Scanned}
-use Rattle.sheet.specs.words.Places.{spanFrom, LaidOut, Table, FaultTables, TestTables, sizeIn, Countable, Fillable}
+use Rattle.sheet.specs.words.Places.{spanFrom, LaidOut, Table, FaultTables, TestTables, sizeIn, Countable, Fillable, Cleared}
 use Rattle.sheet.proofs.EndLaw.{unruled-by}
 use Rattle.sheet.proofs.SpanLaw.{told, tests-are, size-is, formed, same-span}
 use Rattle.sheet.proofs.FillLaw.{table-is, pair-table, table-same, choicesBy}
@@ -96,13 +94,43 @@ held-of (refused n p) sh r e h = never (cc)
 outputs-of : (os : List ℕ) (p sh : Sheet) → p ≡ sh → ByPair os (λ s x. ruleOutput (ruleAt (p .rules) s x)) → ByPair os (λ s x. ruleOutput (ruleAt (sh .rules) s x))
 outputs-of os p sh e h = subst (λ (q : Sheet). ByPair os (λ s x. ruleOutput (ruleAt (q .rules) s x))) e h
 
+-- what is handed over with a refusal
+pub blank : {cs fs ms ds ss ls : List ℕ} → Cleared cs fs ms ds ss ls
+    → _≡_ {A = Tables} (record {
+      output = replicate 256 255;
+      target = replicate 256 255;
+      choices = cs;
+      first = fs;
+      mutated = ms;
+      diverted = ds;
+      wakings = replicate 16 0;
+      waking = 0;
+      quiet = false;
+      starts = ss;
+      lengths = ls;
+    }) blankTables
+unfolding blankTables
+blank h = λ i. record {
+  output = replicate 256 255;
+  target = replicate 256 255;
+  choices = h .counts-are i;
+  first = h .firsts-are i;
+  mutated = h .mutated-are i;
+  diverted = h .diverted-are i;
+  wakings = replicate 16 0;
+  waking = 0;
+  quiet = false;
+  starts = h .starts-are i;
+  lengths = h .lengths-are i;
+}
+
 module _ (s : List ℕ) (r : ReadAnswer) (er : r ≡ readAnswer (reading s)) where
-  pub load-refused : (t : Tables) (number place : ℕ) → r ≡ read.Refused number place → t ≡ blankTables → _≡_ {A = Loaded} (record { reading = r; tables = t }) (loadedOf (reading s))
+  pub load-refused : (t : Tables) (number place : ℕ) → r ≡ read.Refused number place → t ≡ blankTables → t ≡ loadedOf (reading s)
   load-refused t number place e et = go (reading s) er
     where
-      go : (d : Reading) → r ≡ readAnswer d → _≡_ {A = Loaded} (record { reading = r; tables = t }) (loadedOf d)
+      go : (d : Reading) → r ≡ readAnswer d → t ≡ loadedOf d
       go (accepted sh) k = never (cc)
-      go (refused n p) k = λ i. record { reading = k i; tables = et i }
+      go (refused n p) k = et
 
   module _ (m : Summary) (em : r ≡ read.Accepted m) where
     pub sheet-of : Sheet
@@ -119,9 +147,6 @@ module _ (s : List ℕ) (r : ReadAnswer) (er : r ≡ readAnswer (reading s)) whe
           leads = subst (λ (q : Sheet). Leads ts (q .rules)) (f .same) (f .holds .rules .targets);
         }
 
-    pub load-is : (t : Tables) → t ≡ tablesOf sheet-of → _≡_ {A = Loaded} (record { reading = read.Accepted m; tables = t }) (loadedOf (reading s))
+    pub load-is : (t : Tables) → t ≡ tablesOf sheet-of → t ≡ loadedOf (reading s)
     unfolding sheet-of
-    load-is t et =
-        let p = told s r m er em .1 in
-        let k : read.Accepted m ≡ readAnswer (accepted (told s r m er em .0)) = sym em ∙ er ∙ ap readAnswer (p .is) in
-        rw (p .is) (λ i. record { reading = k i; tables = et i })
+    load-is t et = rw (told s r m er em .1 .is) et

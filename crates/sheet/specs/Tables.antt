@@ -1,6 +1,6 @@
 -- What the code answers: 01's numbers and values for each case, and the tables of a sheet.
 use Prim.Native.Nat.{ℕ, suc, _/_, _%_}
-use mathlib.Core.Bool.{false, cond}
+use mathlib.Core.Bool.{Bool, false, cond}
 use mathlib.Core.List.{List, [], _∷_, map}
 use lib.Dec.{ltb}
 use lib.ListN.{length, getD, replicate}
@@ -11,7 +11,6 @@ use Rattle.sheet.specs.declared.Refusal.{Refusal}
 use Rattle.sheet.specs.declared.Parting.{Parting as PartAnswer}
 use Rattle.sheet.specs.declared.Parting.the-variants as part
 use Rattle.sheet.specs.declared.Span.{Span}
-use Rattle.sheet.specs.declared.Tables.{Tables}
 use Rattle.sheet.specs.declared.Loaded.{Loaded}
 use Rattle.lists.specs.Lists.{maybe, isNone, first, upTo}
 use Rattle.sheet.specs.Sheet.{Sheet, isAt, rowsAt, ruleAt, choicesAt, wakings, wakingChoices}
@@ -51,6 +50,20 @@ firstFault faults s x = cond (isNone (first (rowsAt faults s x))) 0 (firstAt fau
 abbrev pub noRow : Row
 noRow = record { source = 0; input = 0; output = 0; target = 0 }
 
+-- what the layer above gets of a sheet
+pub record Tables : Type 0 where
+  pub output : List ℕ
+  pub target : List ℕ
+  pub choices : List ℕ
+  pub first : List ℕ
+  pub mutated : List ℕ
+  pub diverted : List ℕ
+  pub wakings : List ℕ
+  pub waking : ℕ
+  pub quiet : Bool
+  pub starts : List ℕ
+  pub lengths : List ℕ
+
 -- by pair for every state and input below 16, also beyond the sheet's own; by fault, by choice of a waking state and by test, with 0
 -- past the last; how many waking states there are, and whether the sheet is quiet
 unfoldable pub tablesOf : Sheet → Tables
@@ -86,6 +99,23 @@ blankTables =
       lengths = replicate 256 0;
     }
 
-abbrev pub loadedOf : Reading → Loaded
-loadedOf (accepted sh) = record { reading = readAnswer (accepted sh); tables = tablesOf sh }
-loadedOf (refused number place) = record { reading = readAnswer (refused number place); tables = blankTables }
+abbrev pub loadedOf : Reading → Tables
+loadedOf (accepted sh) = tablesOf sh
+loadedOf (refused number place) = blankTables
+
+-- the tables that were lent, and what is handed over beside them
+abbrev pub tablesIn : Loaded → List ℕ → List ℕ → List ℕ → List ℕ → List ℕ → List ℕ → List ℕ → List ℕ → Tables
+tablesIn l output target choices first mutated diverted starts lengths =
+    record {
+      output = output;
+      target = target;
+      choices = choices;
+      first = first;
+      mutated = mutated;
+      diverted = diverted;
+      wakings = l .wakings;
+      waking = l .waking;
+      quiet = l .quiet;
+      starts = starts;
+      lengths = lengths;
+    }

@@ -7,13 +7,15 @@ ghost use lib.Dec.{ltb, eqb};
 ghost use lib.ListN.{length, getD};
 ghost use Rattle.sheet.specs.Sheet.{Sheet, choicesAt};
 ghost use Rattle.sheet.specs.words.Fetch.{rowFrom};
-ghost use Rattle.sheet.specs.Tables.{tablesOf, blankTables};
+ghost use Rattle.sheet.specs.Tables.{tablesOf, tablesIn};
 ghost use Rattle.sheet.specs.words.Held.{Digits};
-ghost use Rattle.sheet.specs.words.Places.{FaultsFrom, StartsFrom, TestsFrom, Table, FaultTables, TestTables, sizeIn, Countable, Fillable};
+ghost use Rattle.sheet.specs.words.Places.{FaultsFrom, StartsFrom, TestsFrom, Table, FaultTables, TestTables, sizeIn, Countable, Fillable, Cleared};
+ghost use Rattle.sheet.specs.declared.Reading.the-variants.{Accepted};
+use crate::Loaded;
+use crate::Reading;
 use crate::Row;
 use crate::Size;
 use crate::Summary;
-use crate::Tables;
 use crate::fetch::Item;
 use crate::fetch::fetch_from;
 use crate::fetch::item_in;
@@ -179,73 +181,64 @@ fn size_of(summary: Summary) -> Size
     }
 }
 
-// All tables of an accepted sheet, with those of its rules.
-pub(crate) fn fill(sheet: &[u8], summary: Summary, output: [u8; 256], target: [u8; 256]) -> Tables
-    requires { ⌜ ((sh : Sheet) × Fillable (now sheet) summary output target sh) ⌝ }
-    ensures { λ r. ⌜ ((sh : Sheet) → Fillable (now (sheet .entry)) summary output target sh → r ≡ tablesOf sh) ⌝ }
+// All noughts, as the passes begin.
+pub(crate) fn clear(
+    choices: &mut [u16; 256],
+    first: &mut [u16; 256],
+    mutated: &mut [u8; 256],
+    diverted: &mut [u8; 256],
+    starts: &mut [u16; 256],
+    lengths: &mut [u16; 256],
+)
+    ensures { λ _. ⌜ Cleared (now (choices .exit)) (now (first .exit)) (now (mutated .exit)) (now (diverted .exit)) (now (starts .exit)) (now (lengths .exit)) ⌝ }
 {
-    let mut choices = [0u16; 256];
-    let mut first = [0u16; 256];
-    let mut mutated = [0u8; 256];
-    let mut diverted = [0u8; 256];
-    let mut starts = [0u16; 256];
-    let mut lengths = [0u16; 256];
+    *choices = [0u16; 256];
+    *first = [0u16; 256];
+    *mutated = [0u8; 256];
+    *diverted = [0u8; 256];
+    *starts = [0u16; 256];
+    *lengths = [0u16; 256];
+}
+
+// All tables of an accepted sheet, beside those of its rules.
+pub(crate) fn fill(
+    sheet: &[u8],
+    summary: Summary,
+    output: &[u8; 256],
+    target: &[u8; 256],
+    choices: &mut [u16; 256],
+    first: &mut [u16; 256],
+    mutated: &mut [u8; 256],
+    diverted: &mut [u8; 256],
+    starts: &mut [u16; 256],
+    lengths: &mut [u16; 256],
+) -> Loaded
+    requires { ⌜ ((sh : Sheet) × Fillable (now sheet) summary (now output) (now target) sh) ⌝ }
+    requires { ⌜ Cleared (now choices) (now first) (now mutated) (now diverted) (now starts) (now lengths) ⌝ }
+    ensures { λ r. ⌜ r .reading ≡ Accepted summary ⌝ }
+    ensures { λ r. ⌜ ((sh : Sheet) → Fillable (now (sheet .entry)) summary (now (output .entry)) (now (target .entry)) sh
+        → tablesIn r (now (output .entry)) (now (target .entry)) (now (choices .exit)) (now (first .exit)) (now (mutated .exit)) (now (diverted .exit)) (now (starts .exit)) (now (lengths .exit)) ≡ tablesOf sh) ⌝ }
+{
     let layout = layout_of(sheet, summary);
     let tests = layout.tests;
     fill_faults(
         sheet,
         layout.faults,
         summary.faults,
-        &mut choices,
-        &mut first,
-        &mut mutated,
-        &mut diverted,
+        &mut *choices,
+        &mut *first,
+        &mut *mutated,
+        &mut *diverted,
     );
     let unruled = unruled_choices(size_of(summary), layout.quiet);
-    count_choices(unruled, &target, &mut choices);
+    count_choices(unruled, target, &mut *choices);
     let wakings = wakings_from(sheet, layout.starts, layout.waking);
     let waking = (layout.waking + 1) as u8;
-    fill_tests(sheet, tests, summary.tests, &mut starts, &mut lengths);
-    Tables {
-        output,
-        target,
-        choices,
-        first,
-        mutated,
-        diverted,
+    fill_tests(sheet, tests, summary.tests, &mut *starts, &mut *lengths);
+    Loaded {
+        reading: Reading::Accepted(summary),
         wakings,
         waking,
         quiet: layout.quiet,
-        starts,
-        lengths,
-    }
-}
-
-// The tables handed back with a refusal.
-pub(crate) fn blank() -> Tables
-    ensures { λ r. ⌜ r ≡ blankTables ⌝ }
-{
-    let output = [255u8; 256];
-    let target = [255u8; 256];
-    let choices = [0u16; 256];
-    let first = [0u16; 256];
-    let mutated = [0u8; 256];
-    let diverted = [0u8; 256];
-    let wakings = [0u8; 16];
-    let waking = 0u8;
-    let starts = [0u16; 256];
-    let lengths = [0u16; 256];
-    Tables {
-        output,
-        target,
-        choices,
-        first,
-        mutated,
-        diverted,
-        wakings,
-        waking,
-        quiet: false,
-        starts,
-        lengths,
     }
 }

@@ -1,11 +1,11 @@
 // The sheet format: reading a sheet, the part of one test, the tables of an accepted sheet. It knows nothing of mutants.
-// Promises the answers of Read and One test's part for every string of bytes, and every entry of the tables that it hands over.
+// Promises the answers of Read and One test's part for every string of bytes, and every entry of the tables that it fills.
 // Called by users, and by `writing`, `block`, `mutation`, `report` and `capi`.
 ghost use denote.Ref.{ptr};
 ghost use mathlib.Core.Path.{_≡_};
 ghost use Rattle.sheet.specs.Reading as reading;
 ghost use Rattle.sheet.specs.Part.{parting, partOf, LiesIn};
-ghost use Rattle.sheet.specs.Tables.{readAnswer, refusalOf, partAnswer, loadedOf};
+ghost use Rattle.sheet.specs.Tables.{readAnswer, refusalOf, partAnswer, tablesIn, loadedOf};
 
 mod fetch;
 mod filling;
@@ -65,28 +65,13 @@ pub enum Parting {
     Refused(u8, usize),
 }
 
-// What the layer above needs of an accepted sheet. By pair, at state * 16 + input: the rule's output and next state (255
-// where there is no rule), the number of choices, and the index of the first fault. By fault: its output and next state. By
-// choice: the waking states, and how many there are. Whether the sheet is quiet. By test: where its PRESS commands start, and how many
-// they are.
-pub struct Tables {
-    pub output: [u8; 256],
-    pub target: [u8; 256],
-    pub choices: [u16; 256],
-    pub first: [u16; 256],
-    pub mutated: [u8; 256],
-    pub diverted: [u8; 256],
+// What the layer above gets beside the tables that it lends: the answer of Read, by choice the waking states, how many they are, and whether the
+// sheet is quiet.
+pub struct Loaded {
+    pub reading: Reading,
     pub wakings: [u8; 16],
     pub waking: u8,
     pub quiet: bool,
-    pub starts: [u16; 256],
-    pub lengths: [u16; 256],
-}
-
-// A sheet read into tables; blank ones where it is refused.
-pub struct Loaded {
-    pub reading: Reading,
-    pub tables: Tables,
 }
 
 // 01's Read.
@@ -146,19 +131,55 @@ pub fn test_part(sheet: &[u8], i: usize) -> &[u8]
     &sheet[start..end]
 }
 
-// The sheet read into tables.
-pub fn load(sheet: &[u8]) -> Loaded
-    ensures { λ r. ⌜ r ≡ loadedOf (reading.reading (now (sheet .entry))) ⌝ }
+// The sheet read into tables, blank ones where it is refused. By pair, at state * 16 + input: the rule's output and next state (255
+// where there is no rule), the number of choices, and the index of the first fault. By fault: its output and next state. By test: where
+// its PRESS commands start, and how many they are.
+pub fn load(
+    sheet: &[u8],
+    output: &mut [u8; 256],
+    target: &mut [u8; 256],
+    choices: &mut [u16; 256],
+    first: &mut [u16; 256],
+    mutated: &mut [u8; 256],
+    diverted: &mut [u8; 256],
+    starts: &mut [u16; 256],
+    lengths: &mut [u16; 256],
+) -> Loaded
+    ensures reading { λ r. ⌜ r .reading ≡ readAnswer (reading.reading (now (sheet .entry))) ⌝ }
+    ensures tables { λ r. ⌜ tablesIn r (now (output .exit)) (now (target .exit)) (now (choices .exit)) (now (first .exit)) (now (mutated .exit)) (now (diverted .exit)) (now (starts .exit)) (now (lengths .exit))
+        ≡ loadedOf (reading.reading (now (sheet .entry))) ⌝ }
 {
-    let mut output = [0u8; 256];
-    let mut target = [0u8; 256];
+    filling::clear(
+        &mut *choices,
+        &mut *first,
+        &mut *mutated,
+        &mut *diverted,
+        &mut *starts,
+        &mut *lengths,
+    );
     let mut faulty = [0u8; 256];
-    let done = scan::scan(sheet, &mut output, &mut target, &mut faulty);
+    let done = scan::scan(sheet, &mut *output, &mut *target, &mut faulty);
     let reading = scan::answer(done);
     let Reading::Accepted(summary) = reading else {
-        let tables = filling::blank();
-        return Loaded { reading, tables };
+        *output = [255u8; 256];
+        *target = [255u8; 256];
+        return Loaded {
+            reading,
+            wakings: [0u8; 16],
+            waking: 0,
+            quiet: false,
+        };
     };
-    let tables = filling::fill(sheet, summary, output, target);
-    Loaded { reading, tables }
+    filling::fill(
+        sheet,
+        summary,
+        output,
+        target,
+        choices,
+        first,
+        mutated,
+        diverted,
+        starts,
+        lengths,
+    )
 }

@@ -10,11 +10,10 @@ use borrow.Author.Tests.{lt-ltb}
 use lib.Dec.{ltb}
 use lib.ListN.{length, getD, length-append}
 use lib.Seq.{append-snoc, getD-append-add}
-use Rattle.sheet.specs.declared.Tables.{Tables}
 use Rattle.sheet.specs.Sheet.{Sheet}
 use Rattle.sheet.specs.Encode.{operandBytes, pressBytes, encode}
 use Rattle.sheet.specs.Part.{spanOf}
-use Rattle.sheet.specs.Tables.{tablesOf}
+use Rattle.sheet.specs.Tables.{Tables, tablesOf}
 use Rattle.sheet.specs.WellFormed.{WellFormed}
 use Rattle.lists.specs.laws.ListLaw.{all-at-index}
 use Rattle.sheet.specs.laws.PartLaw.{before, presses, after, layout, presses-length}

@@ -13,31 +13,31 @@ use Rattle.mutation.proofs.compare.Tie as tie
 returns : tie.Need-returns
 returns c =
     let at-load = c .before .before .before in
-    let entry = at-load .before .before .before .before in
+    let entry = at-load .before .before .before .before .before .before .before .before in
     let a = entry .args in
-    let g = c .before .enum-told .given in
+    let g = c .before .enum-told2 .given in
     let z = refusal-told _ _ _ _ (c .refusal-of .ensures) (g .1) in
-    let e = comparing-refused (a .sheet .now) (g .0 .0) (g .0 .1 .0) (closed-by (a .sheet .now) (at-load .load .result) (g .0 .0) (g .0 .1 .0) (at-load .load .ensures) (g .1)) (a .mutant .now) (length (a .buffer .now)) in
+    let e = comparing-refused (a .sheet .now) (g .0 .0) (g .0 .1 .0) (closed-by (a .sheet .now) (at-load .load .ensures .0) (g .0 .0) (g .0 .1 .0) (g .1)) (a .mutant .now) (length (a .buffer .now)) in
     let answer = ap₂ Refused (z .0) (z .1) ∙ sym (ap comparedAnswer e) in
     let bytes = sym (ap (λ q. overlay (comparedWrites q) (a .buffer .now)) e) in
     (answer, (bytes, told-compared (a .sheet .now) (a .mutant .now) (length (a .buffer .now)) _ (a .buffer .now) (a .buffer .now) answer bytes))
 
 compare-accepted-requires : tie.Need-compare-accepted-requires
 compare-accepted-requires c κs =
-    let at-reading = c .before .before .before in
-    let at-load = at-reading .before .before in
-    let entry = at-load .before .before .before .before in
-    let a = entry .args in let o = opened (a .sheet .now) (at-load .load .result) (at-reading .reading .given .0 .0) (at-load .load .ensures) (at-reading .reading .given .1) in (o .sheet, o .holds .read)
+    let at-told = c .before .before in
+    let at-load = at-told .before .before in
+    let entry = at-load .before .before .before .before .before .before .before .before in
+    let a = entry .args in let o = opened (a .sheet .now) (at-load .load .ensures .0) (at-told .enum-told .given .1) (at-load .load .ensures .1 .1) in (o .sheet, o .holds .loads .tabled)
 
 returns-2 : tie.Need-returns-2
 returns-2 c =
-    let at-reading = c .before .before .before .before .before .before in
-    let at-load = at-reading .before .before in
-    let entry = at-load .before .before .before .before in
+    let at-told = c .before .before .before .before .before in
+    let at-load = at-told .before .before in
+    let entry = at-load .before .before .before .before .before .before .before .before in
     let a = entry .args in
-    let o = opened (a .sheet .now) (at-load .load .result) (at-reading .reading .given .0 .0) (at-load .load .ensures) (at-reading .reading .given .1) in
+    let o = opened (a .sheet .now) (at-load .load .ensures .0) (at-told .enum-told .given .1) (at-load .load .ensures .1 .1) in
     let e = comparing-on (a .sheet .now) (o .sheet) (o .is) (a .mutant .now) (length (a .buffer .now)) in
-    let is = c .before .before .compare-accepted .ensures (o .sheet) (o .holds .read) in
+    let is = c .before .before .compare-accepted .ensures (o .sheet) (o .holds .loads .tabled) in
     let answer = is .answer ∙ sym (ap comparedAnswer e) in
     let bytes = is .bytes ∙ sym (ap (λ q. overlay (comparedWrites q) (a .buffer .now)) e) in
     (answer, (bytes, told-compared (a .sheet .now) (a .mutant .now) (length (a .buffer .now)) _ (a .buffer .now) _ answer bytes))
@@ -46,5 +46,5 @@ pub compare-spec : {M : Type 1} → statement M
 compare-spec =
     tie.close
     (tie.spec
-    (λ c κs. search needs) (λ c. search needs) (λ c. search needs) (λ c κs. search needs) returns compare-accepted-requires
+    (λ c κs. search needs) (λ c κs. search needs) (λ c. search needs) (λ c. search needs) (λ c κs. search needs) returns compare-accepted-requires
     (λ c. search needs) returns-2)

@@ -11,27 +11,28 @@ use Rattle.mutation.proofs.first_failed.Tie as tie
 returns : tie.Need-returns
 returns c =
     let at-load = c .before .before .before in
-    let entry = at-load .before .before .before in
+    let entry = at-load .before .before .before .before .before .before .before in
     let a = entry .args in
     let g = c .before .enum-told .given in
     let z = refusal-told _ _ _ _ (c .refusal-of .ensures) (g .1) in
-    let e = failing-refused (a .sheet .now) (g .0 .0) (g .0 .1 .0) (closed-by (a .sheet .now) (at-load .load .result) (g .0 .0) (g .0 .1 .0) (at-load .load .ensures) (g .1)) (a .mutant .now) in
+    let e = failing-refused (a .sheet .now) (g .0 .0) (g .0 .1 .0) (closed-by (a .sheet .now) (at-load .load .ensures .0) (g .0 .0) (g .0 .1 .0) (g .1)) (a .mutant .now) in
     let answer = ap₂ Refused (z .0) (z .1) ∙ sym (ap failedAnswer e) in
     (answer, told-failed (a .sheet .now) (a .mutant .now) _ answer)
 
 first-failed-accepted-requires : tie.Need-first-failed-accepted-requires
 first-failed-accepted-requires c κs =
-    let at-load = c .before .before .before .before in
-    let entry = at-load .before .before .before in
-    let a = entry .args in let o = opened (a .sheet .now) (at-load .load .result) (c .before .before .reading .given .0 .0) (at-load .load .ensures) (c .before .before .reading .given .1) in (o .sheet, o .holds)
+    let at-reading = c .before .before .before .before in
+    let at-load = at-reading .before .before in
+    let entry = at-load .before .before .before .before .before .before .before in
+    let a = entry .args in let o = opened (a .sheet .now) (at-load .load .ensures .0) (at-reading .reading .given .1) (at-load .load .ensures .1 .1) in (o .sheet, o .holds)
 
 returns-2 : tie.Need-returns-2
 returns-2 c =
-    let at-reading = c .before .before .before in
+    let at-reading = c .before .before .before .before .before in
     let at-load = at-reading .before .before in
-    let entry = at-load .before .before .before in
+    let entry = at-load .before .before .before .before .before .before .before in
     let a = entry .args in
-    let o = opened (a .sheet .now) (at-load .load .result) (at-reading .reading .given .0 .0) (at-load .load .ensures) (at-reading .reading .given .1) in
+    let o = opened (a .sheet .now) (at-load .load .ensures .0) (at-reading .reading .given .1) (at-load .load .ensures .1 .1) in
     let e = failing-on (a .sheet .now) (o .sheet) (o .is) (a .mutant .now) in
     let answer = c .first-failed-accepted .ensures (o .sheet) (o .holds) ∙ sym (ap failedAnswer e) in
     (answer, told-failed (a .sheet .now) (a .mutant .now) _ answer)
@@ -40,5 +41,5 @@ pub first-failed-spec : {M : Type 1} → statement M
 first-failed-spec =
     tie.close
     (tie.spec
-    (λ c κs. search needs) (λ c. search needs) (λ c. search needs) (λ c κs. search needs) returns first-failed-accepted-requires
+    (λ c κs. search needs) (λ c κs. search needs) (λ c. search needs) (λ c. search needs) (λ c κs. search needs) returns first-failed-accepted-requires
     returns-2)

@@ -4,7 +4,7 @@ use mathlib.Core.Path.{_≡_}
 use mathlib.Core.Bool.{cond}
 use mathlib.Core.List.{List, [], _∷_, _++_}
 use lib.Dec.{ltb}
-use lib.ListN.{length, getD, take, drop}
+use lib.ListN.{length, getD, take, drop, replicate}
 use Rattle.sheet.specs.declared.Span.{Span}
 use Rattle.sheet.specs.declared.Row.{Row}
 use Rattle.sheet.specs.declared.Size.{Size}
@@ -95,6 +95,15 @@ pub record Countable (unruled : ℕ) (targets counts : List ℕ) (sh : Sheet) : 
   pub leads : Leads targets (sh .rules)
   pub counts-are : ByPair counts (λ s x. length (rowsAt (sh .faults) s x))
   pub few : length (sh .faults) ≤ 256
+
+-- the tables that the passes after the rules fill, before the first
+pub record Cleared (counts firsts mutated diverted starts lengths : List ℕ) : Type 0 where
+  pub counts-are : counts ≡ replicate 256 0
+  pub firsts-are : firsts ≡ replicate 256 0
+  pub mutated-are : mutated ≡ replicate 256 0
+  pub diverted-are : diverted ≡ replicate 256 0
+  pub starts-are : starts ≡ replicate 256 0
+  pub lengths-are : lengths ≡ replicate 256 0
 
 -- what filling the tables starts from
 pub record Fillable (s : List ℕ) (summary : Summary) (outputs targets : List ℕ) (sh : Sheet) : Type 0 where

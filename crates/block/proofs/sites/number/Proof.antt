@@ -9,10 +9,10 @@ use Rattle.block.proofs.sites.number.Statement.{statement}
 use Rattle.block.proofs.sites.number.Tie as tie
 
 abbrev Inv-loop : tie.InvT-loop
-Inv-loop choices n k waking site₀ slots₀ count₀ i₀ site slots count i = Numbering (wakingFirst waking) n k choices site slots count i
+Inv-loop choices n k waking site₀ slots₀ pairs₀ count₀ i₀ site slots pairs count i = Numbering (wakingFirst waking) n k choices site slots count i
 
 abbrev μ-loop : tie.MeasureT-loop
-μ-loop choices n k waking site₀ slots₀ count₀ i₀ site slots count i = 16 * n - i
+μ-loop choices n k waking site₀ slots₀ pairs₀ count₀ i₀ site slots pairs count i = 16 * n - i
 
 -- at a suspect there is room for one more
 space : (c : tie.Then1 Inv-loop μ-loop) → c .before .before .before .loop .count < 32
@@ -33,12 +33,12 @@ loop-again c =
     let l = at-loop .loop in
     let e = sym (c .before .is-open .ensures (a .n) (omega arith)) in
     ⊎-elim
-    (λ w. rw (w .2, w .3, w .4) (number-open (wakingFirst (a .waking)) (a .n) (a .k) (a .choices .now) (l .site) (l .slots) (l .count) (l .i) (l .inv) (omega arith) (p .1) (e ∙ w .0 .taken)))
-    (λ w. rw (w .1, w .2, w .3) (number-shut (wakingFirst (a .waking)) (a .n) (a .k) (a .choices .now) (l .site) (l .slots) (l .count) (l .i) (l .inv) (omega arith) (e ∙ w .0 .left)))
+    (λ w. rw (w .2, w .3, w .5) (number-open (wakingFirst (a .waking)) (a .n) (a .k) (a .choices .now) (l .site) (l .slots) (l .count) (l .i) (l .inv) (omega arith) (p .1) (e ∙ w .0 .taken)))
+    (λ w. rw (w .1, w .2, w .4) (number-shut (wakingFirst (a .waking)) (a .n) (a .k) (a .choices .now) (l .site) (l .slots) (l .count) (l .i) (l .inv) (omega arith) (e ∙ w .0 .left)))
     (c .if1 .came)
 
-cast-t25 : tie.Need-cast-t25 Inv-loop μ-loop
-cast-t25 c =
+cast-t29 : tie.Need-cast-t29 Inv-loop μ-loop
+cast-t29 c =
     let entry = c .before .before .before .before .before in
     let a = entry .args in
     let l = c .before .loop in
@@ -65,8 +65,10 @@ number-spec =
     (λ c. omega arith)
     (λ c. omega (arith, space (c .before)))
     (λ c. omega (arith, space (c .before)))
+    (λ c. omega arith)
+    (λ c. omega (arith, space (c .before)))
     (λ c. omega (arith, space (c .before)))
     (λ c. omega arith)
     (λ c. omega arith)
-    loop-again cast-t25
-    (λ c. let a = c .before .before .before .before .before .args in let l = c .before .loop in number-end (wakingFirst (a .waking)) (a .n) (a .k) (a .choices .now) (l .site) (l .slots) (l .count) (l .i) (l .inv) (c .loop-test .left)))
+    loop-again cast-t29
+    (λ c. let a = c .before .before .before .before .before .args in let l = c .before .loop in number-end (wakingFirst (a .waking)) (a .n) (a .k) (a .choices .now) (l .site) (l .slots) (l .pairs) (l .count) (l .i) (l .inv) (c .loop-test .left)))
