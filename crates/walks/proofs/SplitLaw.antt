@@ -43,6 +43,13 @@ module _ (p : List ℕ) (i c : ℕ) where
   pub told-parent : {goal : Goal} {m log : List ℕ} {r : Told} → ToldOk goal m log (set p i c) r → (r .ok ≡ true → Has (r .used) i → ⊥) → ToldOk goal m log p r
   told-parent told none ok = record { at = λ b w g. told ok .at b w (agrees-child (λ h. absurd (none ok h)) g) }
 
+-- ---- the same part, written otherwise
+pub stands-as : {m log p q : List ℕ} {place : Place} → q ≡ p → Stands m log p place → Stands m log q place
+stands-as {m} {log} {p} {q} {place} e st = subst (λ (l : List ℕ). Stands m log l place) (sym e) st
+
+pub told-as : {goal : Goal} {m log p q : List ℕ} {r : Told} → q ≡ p → ToldOk goal m log q r → ToldOk goal m log p r
+told-as {goal} {m} {log} {p} {q} {r} e told = subst (λ (l : List ℕ). ToldOk goal m log l r) e told
+
 -- ---- all its choices
 -- none of the mutants whose choice at i is below c is sought
 pub record Tried (goal : Goal) (m log p : List ℕ) (i c used : ℕ) : Type 0 where

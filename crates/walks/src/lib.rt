@@ -64,6 +64,6 @@ pub fn none_from(
         state: 0,
         used: 0,
     };
-    let told = refute(block, log, goal, notes, *prefix, start, 33);
+    let told = refute(block, log, goal, notes, prefix, start, 33);
     told.ok
 }

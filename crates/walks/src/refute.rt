@@ -124,27 +124,27 @@ pub(crate) fn refute(
     log: &[u16],
     goal: Goal,
     notes: &mut [u16],
-    p: [u16; 32],
+    p: &[u16; 32],
     from: Place,
     left: u8,
 ) -> Told
-    requires { ⌜ Wf (now block) × Stands (now block) (now log) p from ⌝ }
-    ensures { λ r. ⌜ ToldOk goal (now (block .entry)) (now (log .entry)) p r ⌝ }
+    requires { ⌜ Wf (now block) × Stands (now block) (now log) (now p) from ⌝ }
+    ensures { λ r. ⌜ ToldOk goal (now (block .entry)) (now (log .entry)) (now (p .entry)) r ⌝ }
 {
-    let halt = look(block, log, goal, notes, &p, from);
+    let halt = look(block, log, goal, notes, p, from);
     let Halt::Waits(i, place) = halt else {
         return told_of(halt);
     };
-    let end = to_settle(block, &p, i, left);
+    let end = to_settle(block, p, i, left);
     if end == 0 {
         return unknown();
     }
+    let mut q = *p;
     let mut used: u32 = 0;
     let mut c: u16 = 0;
     while c < end {
-        let mut q = p;
         q[wide(i)] = c;
-        let told = refute(block, log, goal, notes, q, place, left - 1);
+        let told = refute(block, log, goal, notes, &q, place, left - 1);
         if is_final(told, i) {
             return told;
         }

@@ -1,14 +1,15 @@
 -- `refute`: none of the mutants whose choice at the suspect is below c is sought.
 use borrow.Author.Needs.{needs}
 use native.Mathlib.Omega.{arith}
-use mathlib.Core.Path.{_≡_, refl}
+use mathlib.Core.Path.{_≡_, refl, _∙_}
 use mathlib.Core.List.{List}
-use lib.ListN.{length}
+use lib.ListN.{length, set}
+use lib.Seq.{set-set}
 use Rattle.lists.specs.laws.TestLaw.{never}
 use Rattle.cubes.specs.declared.goal.Goal.{Goal}
 use Rattle.walks.specs.Walks.{Stands, SplitOk}
 use Rattle.walks.specs.declared.walk.Place.{Place}
-use Rattle.walks.proofs.SplitLaw.{Tried, tried-none, tried-more, tried-all, stands-child, told-parent}
+use Rattle.walks.proofs.SplitLaw.{Tried, tried-none, tried-more, tried-all, stands-child, told-parent, stands-as, told-as}
 use Prim.Native.Nat.{ℕ, _-_, _<_, _≤_}
 use borrow.Fn.Kinds.{In}
 use borrow.Fn.PlainCycle.{Measures, is, falls, and}
@@ -25,34 +26,35 @@ use Rattle.walks.proofs.refute.unknown.Reads as unknown-reads
 use Rattle.walks.proofs.refute.+refute.{statement}
 use Rattle.walks.proofs.refute.+refute.Tie.{close}
 
--- what stands before each choice
-record Trying (goal : Goal) (m log p : List ℕ) (i left end : ℕ) (place : Place) (notes₀ notes : List ℕ) (c used : ℕ) : Type 0 where
+-- what stands before each choice; q is p, settled at the suspect by the choice before
+record Trying (goal : Goal) (m log p q : List ℕ) (i left end : ℕ) (place : Place) (notes₀ notes : List ℕ) (c used : ℕ) : Type 0 where
   split : SplitOk m p i left end
   few : end ≤ 256
   stands : Stands m log p place
   tried : Tried goal m log p i c used
   same : length notes ≡ length notes₀
+  child : (v : ℕ) → set q i v ≡ set p i v
 
-abbrev μ-refute : Measures 3 refute-kinds.ps ℕ
+abbrev μ-refute : Measures 4 refute-kinds.ps ℕ
 μ-refute κs a = a .1 .1 .1 .1 .1 .1 .0
 
-abbrev refute-at : ℕ → In 3 refute-kinds.ps
-refute-at t = and 3 refute-kinds.ps (is 3 refute-kinds.ps μ-refute t) refute.Pre
+abbrev refute-at : ℕ → In 4 refute-kinds.ps
+refute-at t = and 4 refute-kinds.ps (is 4 refute-kinds.ps μ-refute t) refute.Pre
 
-abbrev refute-below : ℕ → In 3 refute-kinds.ps
-refute-below t = and 3 refute-kinds.ps (falls 3 refute-kinds.ps _<_ μ-refute t) refute.Pre
+abbrev refute-below : ℕ → In 4 refute-kinds.ps
+refute-below t = and 4 refute-kinds.ps (falls 4 refute-kinds.ps _<_ μ-refute t) refute.Pre
 
 abbrev cs : ℕ → refute-lts.Claims
 cs t = (look-reads.Asked, look-reads.Learnt, told-of-reads.Asked, told-of-reads.Learnt, to-settle-reads.Asked, to-settle-reads.Learnt, unknown-reads.Asked, unknown-reads.Learnt, wide-reads.Asked, wide-reads.Learnt, refute-below t, refute.Post, is-final-reads.Asked, is-final-reads.Learnt, united-reads.Asked, united-reads.Learnt)
 
 abbrev refute-Inv-loop : refute-lts.InvT-loop
-refute-Inv-loop block log goal notes₀ left p i place end used₀ c₀ notes used c = Trying goal block log p i left end place notes₀ notes c used
+refute-Inv-loop block log goal notes₀ p left i place end q₀ used₀ c₀ notes q used c = Trying goal block log p q i left end place notes₀ notes c used
 
 abbrev refute-μ-loop : refute-lts.MeasureT-loop
-refute-μ-loop block log goal notes₀ left p i place end used₀ c₀ notes used c = end - c
+refute-μ-loop block log goal notes₀ p left i place end q₀ used₀ c₀ notes q used c = end - c
 
 refute-look-requires : (t : ℕ) → refute-lts.Need-look-requires (cs t) (refute-at t) refute.Post refute-Inv-loop refute-μ-loop
-refute-look-requires t c κs = c .before .before .before .before .pre .1
+refute-look-requires t c κs = c .before .before .before .pre .1
 
 refute-returns : (t : ℕ) → refute-lts.Need-returns (cs t) (refute-at t) refute.Post refute-Inv-loop refute-μ-loop
 refute-returns t c = c .told-of .ensures _ _ _ _ (c .before .before .before .before .look .ensures)
@@ -61,34 +63,70 @@ refute-returns-2 : (t : ℕ) → refute-lts.Need-returns-2 (cs t) (refute-at t) 
 refute-returns-2 t c = λ e. never (cc)
 
 refute-loop-holds : (t : ℕ) → refute-lts.Need-loop-holds (cs t) (refute-at t) refute.Post refute-Inv-loop refute-μ-loop
-refute-loop-holds t c = let split = c .before .to-settle .ensures (omega (arith, c .if1 .left)) in record { split = split; few = omega (arith, split .count, c .before .before .before .before .before .before .before .before .before .before .before .before .before .pre .1 .0 .choices _ (split .low)); stands = rw (c .before .before .before .before .halt .given .1) at (c .before .before .before .before .before .before .before .before .look .ensures); tried = tried-none; same = refl }
+refute-loop-holds t c =
+    let at-if1 = c .before in
+    let at-halt = at-if1 .before .before .before in
+    let at-look = at-halt .before .before .before .before in
+    let entry = at-look .before .before .before .before in
+    let split = at-if1 .before .to-settle .ensures (omega (arith, at-if1 .if1 .left)) in
+    record {
+      split = split;
+      few = omega (arith, split .count, entry .pre .1 .0 .choices _ (split .low));
+      stands = rw (at-halt .halt .given .1) at (at-look .look .ensures);
+      tried = tried-none;
+      same = refl;
+      child = λ v. refl;
+    }
 
 refute-array-write-q : (t : ℕ) → refute-lts.Need-array-write-q (cs t) (refute-at t) refute.Post refute-Inv-loop refute-μ-loop
 refute-array-write-q t c = omega (arith, c .wide .ensures, c .before .before .loop .inv .split .low)
 
 refute-sub-refute : (t : ℕ) → refute-lts.Need-sub-refute (cs t) (refute-at t) refute.Post refute-Inv-loop refute-μ-loop
-refute-sub-refute t c = omega (arith, c .before .before .before .loop .inv .split .some)
+refute-sub-refute t c = omega (arith, c .before .before .before .before .loop .inv .split .some)
 
 refute-refute-requires : (t : ℕ) → refute-lts.Need-refute-requires (cs t) (refute-at t) refute.Post refute-Inv-loop refute-μ-loop
-refute-refute-requires t c κs = let s = c .before .before .before .before .before .before .before .before .before .before .before .before .before .before .before .before .before in (omega (arith, s .pre .0, c .before .before .before .loop .inv .split .some), (s .pre .1 .0, rw (c .before .wide .ensures .0) (stands-child _ _ _ (c .before .before .before .loop .inv .split .free) (c .before .before .before .loop .inv .stands))))
+refute-refute-requires t c κs =
+    let at-wide = c .before .before in
+    let at-loop = at-wide .before .before in
+    let s = at-loop .before .before .before .before .before .before .before .before .before .before .before .before .before in
+    let inv = at-loop .loop .inv in
+    (omega (arith, s .pre .0, inv .split .some), (s .pre .1 .0, rw (at-wide .wide .ensures .0) (stands-as (inv .child _) (stands-child _ _ _ (inv .split .free) (inv .stands)))))
 
 refute-is-final-requires : (t : ℕ) → refute-lts.Need-is-final-requires (cs t) (refute-at t) refute.Post refute-Inv-loop refute-μ-loop
-refute-is-final-requires t c κs = c .before .before .before .before .before .before .loop .inv .split .low
+refute-is-final-requires t c κs = c .before .before .before .before .before .before .before .loop .inv .split .low
 
 refute-same-length-3 : (t : ℕ) → refute-lts.Need-same-length-3 (cs t) (refute-at t) refute.Post refute-Inv-loop refute-μ-loop
-refute-same-length-3 t c = omega (arith, c .before .before .before .notes2 .given, c .before .before .before .before .before .before .before .before .loop .inv .same, c .before .before .before .before .before .before .before .before .before .before .before .before .before .before .before .before .notes .given)
+refute-same-length-3 t c =
+    let at-loop = c .before .before .before .before .before .before .before .before .before in
+    omega (arith, c .before .before .before .notes2 .given, at-loop .loop .inv .same, at-loop .before .before .before .before .before .before .before .before .notes .given)
 
 refute-returns-3 : (t : ℕ) → refute-lts.Need-returns-3 (cs t) (refute-at t) refute.Post refute-Inv-loop refute-μ-loop
-refute-returns-3 t c = told-parent (c .before .before .before .before .before .before .before .before .before .before .before .before .before .before .before .before .before .before .before .before .before .before .args .t5) (c .before .before .before .before .before .before .before .before .before .before .before .before .before .halt .given .0 .0) (c .before .before .before .before .before .before .before .before .loop .c) (rw (c .before .before .before .before .before .before .wide .ensures .0) at (c .before .before .before .before .refute .ensures)) (c .before .is-final .ensures .1 (c .if2 .taken))
+refute-returns-3 t c =
+    let at-refute = c .before .before .before .before in
+    let at-wide = at-refute .before .before .before in
+    let at-loop = at-wide .before .before in
+    told-parent _ _ (at-loop .loop .c) (told-as (at-loop .loop .inv .child _) (rw (at-wide .wide .ensures .0) at (at-refute .refute .ensures))) (c .before .is-final .ensures .1 (c .if2 .taken))
 
 refute-add-c : (t : ℕ) → refute-lts.Need-add-c (cs t) (refute-at t) refute.Post refute-Inv-loop refute-μ-loop
-refute-add-c t c = omega (arith, c .before .before .before .before .before .before .before .before .loop-test .taken, c .before .before .before .before .before .before .before .before .before .loop .inv .few)
+refute-add-c t c = let at-test = c .before .before .before .before .before .before .before .before .before in omega (arith, at-test .loop-test .taken, at-test .before .loop .inv .few)
 
 refute-loop-less : (t : ℕ) → refute-lts.Need-loop-less (cs t) (refute-at t) refute.Post refute-Inv-loop refute-μ-loop
-refute-loop-less t c = omega (arith, c .before .before .before .before .before .before .before .before .loop-test .taken)
+refute-loop-less t c = omega (arith, c .before .before .before .before .before .before .before .before .before .loop-test .taken)
 
 refute-loop-again : (t : ℕ) → refute-lts.Need-loop-again (cs t) (refute-at t) refute.Post refute-Inv-loop refute-μ-loop
-refute-loop-again t c = let inv = c .before .before .before .before .before .before .before .before .before .loop .inv in record { split = inv .split; few = inv .few; stands = inv .stands; tried = tried-more (inv .split .free) (inv .tried) (rw (c .before .before .before .before .before .before .before .wide .ensures .0) at (c .before .before .before .before .before .refute .ensures (c .before .before .is-final .ensures .0 (c .before .if2 .left)))) (c .united .ensures); same = omega (arith, c .before .before .before .before .notes2 .given, inv .same) }
+refute-loop-again t c =
+    let at-refute = c .before .before .before .before .before in
+    let at-wide = at-refute .before .before .before in
+    let at-loop = at-wide .before .before in
+    let inv = at-loop .loop .inv in
+    record {
+      split = inv .split;
+      few = inv .few;
+      stands = inv .stands;
+      tried = tried-more (inv .split .free) (inv .tried) (told-as (inv .child _) (rw (at-wide .wide .ensures .0) at (at-refute .refute .ensures)) (c .before .before .is-final .ensures .0 (c .before .if2 .left))) (c .united .ensures);
+      same = omega (arith, c .before .before .before .before .notes2 .given, inv .same);
+      child = λ v. rw (at-wide .wide .ensures .0) (set-set (at-loop .loop .q) _ (at-loop .loop .c) v ∙ inv .child v);
+    }
 
 refute-same-length-4 : (t : ℕ) → refute-lts.Need-same-length-4 (cs t) (refute-at t) refute.Post refute-Inv-loop refute-μ-loop
 refute-same-length-4 t c = omega (arith, c .before .loop .inv .same, c .before .before .before .before .before .before .before .before .before .notes .given)
