@@ -1,12 +1,12 @@
 /* Ranthelo for C: judges whether a test suite for a finite state machine is complete.
  *
- * Link with target/staticlib/libcapi.a (made by `rt staticlib capi`); it needs nothing else. A sheet, a board, presses,
+ * Link with target/staticlib/libranthelo.a (made by `rt staticlib ranthelo`); it needs nothing else. A sheet, a board, presses,
  * tables and buffers are lent for the call only. Each pointer is valid for its length and not null, even at length 0; a buffer that is
  * written, `answer` and `nodes` overlap nothing else that is lent. Each function fills `answer`, whose first two numbers are the
  * refusal's number (0: none) and place; after a refusal the others are 0 and every lent buffer is as it was.
  *
  * Threads: the library keeps nothing between calls and has no memory of its own, so any number of threads may call it at once.
- * Stack: a thread that calls it has RANTHELO_STACK bytes free. Judging needs about half of that, the other functions a tenth; with less
+ * Stack: a thread that calls it has RANTHELO_STACK bytes free. Judging and making need about half of that, the other functions a tenth; with less
  * the stack overflows, unchecked. No heap is used. */
 #ifndef RANTHELO_H
 #define RANTHELO_H
@@ -18,7 +18,7 @@
 extern "C" {
 #endif
 
-#define RANTHELO_VERSION "0.5.1"
+#define RANTHELO_VERSION "0.7.0"
 
 /* Bytes of stack that are enough for every function. */
 #define RANTHELO_STACK 524288
@@ -52,7 +52,8 @@ enum ranthelo_refusal {
     RANTHELO_BAD_CHOICE = 14,      /* a choice is not below its pair's number of choices; place its index */
     RANTHELO_BAD_PRESS = 15,       /* a press is not below the number of presses; place its index */
     RANTHELO_SHORT_BUFFER = 16,    /* a buffer is too short; place 0, or 1 for the sequence buffer of Judge */
-    RANTHELO_NO_TEST = 17          /* there is no such test; place 0 */
+    RANTHELO_NO_TEST = 17,         /* there is no such test; place 0 */
+    RANTHELO_NO_ROOM = 18          /* the next test does not fit: 256 tests or 16,384 bytes would be passed; place 0 */
 };
 
 /* The indexes of `answer`. The first two are those of every function. */
@@ -156,6 +157,16 @@ void ranthelo_judge(const uint8_t *sheet, size_t sheet_len, uint8_t *board, size
 /* Judge, and in `nodes` how many nodes its search looked at: a measurement, as it was on a refusal and otherwise free. */
 void ranthelo_judge_counting(const uint8_t *sheet, size_t sheet_len, uint8_t *board, size_t board_len, uint8_t *sequence,
                              size_t sequence_len, size_t answer[RANTHELO_JUDGE_ANSWER], uint32_t *nodes);
+
+/* Make the list complete: while it is not, the sequence that Judge tells is appended as a test. The made sheet at the buffer's front: the
+ * sheet's own tests, then the appended ones. The buffer has RANTHELO_MOST_BYTES at least. */
+enum ranthelo_make_answer {
+    RANTHELO_MAKE_LENGTH = 2,   /* the made sheet's */
+    RANTHELO_MAKE_APPENDED = 3, /* how many tests were appended */
+    RANTHELO_MAKE_ANSWER = 4
+};
+
+void ranthelo_make(const uint8_t *sheet, size_t sheet_len, uint8_t *buffer, size_t buffer_len, size_t answer[RANTHELO_MAKE_ANSWER]);
 
 #ifdef __cplusplus
 }

@@ -1,4 +1,4 @@
-//! Links the proved library, `libcapi.a`.
+//! Links the proved library, `libranthelo.a`.
 //!
 //! The environment variable RANTHELO_LIB names the archive's folder: an absolute path, or one relative to this
 //! package. Without it the archive is looked for where the toolchain puts it, in target/staticlib of the
@@ -8,7 +8,7 @@ use std::env;
 use std::path::{Path, PathBuf};
 use std::process::{Command, exit};
 
-const LIBRARY: &str = "capi";
+const LIBRARY: &str = "ranthelo";
 
 fn main() {
     println!("cargo:rerun-if-changed=build.rs");

@@ -41,6 +41,12 @@ pub const COMPLETE: Family = Family {
     faults: 44,
 };
 
+/// The same with 46 faults: the shape of the industrial machine of source document 000, with 16 inputs for its 24.
+pub const PUBLISHED: Family = Family {
+    faults: 46,
+    ..COMPLETE
+};
+
 /// Combination locks: nearly every output is 0.
 pub const LOCK: Family = Family {
     states: 12,
@@ -223,6 +229,12 @@ pub fn completed(mut sheet: Sheet) -> Option<Sheet> {
         };
         sheet.tests.push(survivor.sequence);
     }
+}
+
+/// The sheet without tests.
+pub fn without_tests(mut sheet: Sheet) -> Sheet {
+    sheet.tests.clear();
+    sheet
 }
 
 /// The sheet without its last test, which a survivor brought in.

@@ -1,8 +1,10 @@
-//! Prints how long the library's operations take, beside the same in plain Rust, and how much
-//! stack they need. With --plain: how long judge takes in plain Rust alone.
+//! Prints how long the library's operations take, beside the same in plain Rust, how long lists take
+//! to be made, and how much stack it all needs. With --plain: how long judge takes in plain Rust
+//! alone; with --making: how long lists take to be made.
 
 mod generate;
 mod judge;
+mod making;
 mod mutation;
 mod reading;
 mod stack;
@@ -18,6 +20,9 @@ fn main() {
             return stack::try_one(operation, bytes);
         }
     }
+    if arguments == ["--making"] {
+        return making::print();
+    }
     let library = arguments != ["--plain"];
     let mut table = Table::new(library);
     if library {
@@ -29,6 +34,7 @@ fn main() {
     judge::measure(&mut table);
     if library {
         table.print_growth();
+        making::print();
         stack::print();
     }
 }

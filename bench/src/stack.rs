@@ -28,6 +28,7 @@ const OPERATIONS: &[&str] = &[
     "first failed",
     "compare",
     "judge",
+    "make",
 ];
 
 pub fn print() {
@@ -114,6 +115,11 @@ fn perform(operation: &str, sheet: &[u8], deep: &[u8]) {
             let (mut board, mut sequence) = ([0; 32], [0; 256]);
             let mut answer = [0; 4];
             raw::judge(deep, &mut board, &mut sequence, &mut answer);
+            black_box(answer);
+        }
+        "make" => {
+            let mut answer = [0; 4];
+            raw::make(deep, &mut vec![0; MOST_BYTES], &mut answer);
             black_box(answer);
         }
         _ => {

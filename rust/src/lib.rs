@@ -2,7 +2,8 @@
 //!
 //! These are safe functions over the proved library. A sheet is a string of bytes: a specified machine, the faults that
 //! production may introduce, and a list of tests. [`judge`] says whether the list is complete, and if it is not, which
-//! faulty board passes it and which test to add. README.md of the repository has the format and what the answers mean.
+//! faulty board passes it and which test to add; [`make`] adds tests until it is. README.md of the repository has the
+//! format and what the answers mean.
 //!
 //! ```
 //! use ranthelo::{Verdict, judge, text};
@@ -42,8 +43,8 @@ mod refusal;
 pub mod text;
 
 pub use operations::{
-    Comparison, Failure, Run, Summary, Trial, Used, Verdict, compare, first_failed, generate,
-    judge, read, run, test_part, test_span, write,
+    Comparison, Failure, Made, Run, Summary, Trial, Used, Verdict, compare, first_failed, generate,
+    judge, make, read, run, test_part, test_span, write,
 };
 pub use raw::Tables;
 pub use refusal::{Refusal, meaning};

@@ -66,6 +66,15 @@ pub enum Verdict {
     Survivor { board: Vec<u8>, sequence: Vec<u8> },
 }
 
+/// A sheet whose list was made complete.
+#[derive(Clone, Debug, PartialEq, Eq)]
+pub struct Made {
+    /// The sheet with its own tests first, and the appended ones after them.
+    pub sheet: Vec<u8>,
+    /// How many tests were appended.
+    pub appended: usize,
+}
+
 /// The numbers after the refusal's number and place.
 fn rest<const N: usize>(answer: &[usize; N]) -> Result<&[usize], Refusal> {
     let (number, place) = (answer[0], answer[1]);
@@ -262,4 +271,28 @@ pub fn judge(sheet: &[u8]) -> Result<Verdict, Refusal> {
         }),
         _ => unreachable!("two numbers follow"),
     }
+}
+
+/// Makes the sheet's list of tests complete: while it is not, the sequence of the verdict's survivor is appended as a test. A
+/// refusal is reading's, or 18 where the next test does not fit. The thread needs [`STACK`](crate::STACK) bytes of stack.
+///
+/// ```
+/// use ranthelo::Verdict;
+///
+/// let sheet = ranthelo::text::assemble(b"SIZE 1 1 2\n RULE 0 0 0 0\n FAULT 0 0 1 0\n TEST")?;
+/// let made = ranthelo::make(&sheet)?;
+/// assert_eq!(made.appended, 1);
+/// assert_eq!(ranthelo::test_part(&made.sheet, 1)?, [5, 0]);
+/// assert_eq!(ranthelo::judge(&made.sheet)?, Verdict::Complete);
+/// # Ok::<(), Box<dyn std::error::Error>>(())
+/// ```
+pub fn make(sheet: &[u8]) -> Result<Made, Refusal> {
+    let (mut answer, mut appended) = ([0; 4], 0);
+    let sheet = sheet_from(|buffer| {
+        raw::make(sheet, buffer, &mut answer);
+        let numbers = rest(&answer)?;
+        appended = numbers[1];
+        Ok(numbers[0])
+    })?;
+    Ok(Made { sheet, appended })
 }

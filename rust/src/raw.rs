@@ -87,6 +87,13 @@ mod c {
             answer: *mut usize,
             nodes: *mut u32,
         );
+        pub fn ranthelo_make(
+            sheet: *const u8,
+            sheet_len: usize,
+            buffer: *mut u8,
+            buffer_len: usize,
+            answer: *mut usize,
+        );
     }
 }
 
@@ -251,6 +258,21 @@ pub fn judge_counting(
             sequence.len(),
             answer.as_mut_ptr(),
             nodes,
+        )
+    }
+}
+
+/// Make the list complete. Number, place, the made sheet's length, how many tests were appended; the made sheet at the buffer's
+/// front.
+pub fn make(sheet: &[u8], buffer: &mut [u8], answer: &mut [usize; 4]) {
+    // SAFETY: both slices and the answer are valid for their lengths throughout the call.
+    unsafe {
+        c::ranthelo_make(
+            sheet.as_ptr(),
+            sheet.len(),
+            buffer.as_mut_ptr(),
+            buffer.len(),
+            answer.as_mut_ptr(),
         )
     }
 }

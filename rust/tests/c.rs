@@ -12,7 +12,7 @@ use std::process::{Command, Output, Stdio};
 const FOLDER: &str = env!("RANTHELO_FOLDER");
 
 fn archive() -> PathBuf {
-    Path::new(FOLDER).join("libcapi.a")
+    Path::new(FOLDER).join("libranthelo.a")
 }
 
 fn header() -> String {
@@ -154,6 +154,7 @@ fn constants_are_those_of_the_package() {
         ("RANTHELO_MOST_OPEN_PAIRS", ranthelo::MOST_OPEN_PAIRS),
         ("RANTHELO_MOST_SEQUENCE", ranthelo::MOST_SEQUENCE),
         ("RANTHELO_NO_TEST", 17),
+        ("RANTHELO_NO_ROOM", 18),
     ] {
         assert_eq!(value(name), expected.to_string(), "{name}");
     }
@@ -177,7 +178,7 @@ fn refusals_are_numbered() {
         assert!(line.contains("/* ") && line.ends_with("*/"), "{line}");
         assert!(number == 0 || ranthelo::meaning(number).is_some(), "{line}");
     }
-    assert!(lines.len() > 17);
+    assert!(lines.len() > 18);
 }
 
 /// The header, the package, the pkg-config file and the change log have one version.

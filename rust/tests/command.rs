@@ -6,8 +6,9 @@ use common::{command, examples, file, gives, output, output_on, status, text};
 use std::fs::{self, File};
 
 /// The words that take a sheet, with the options that they need.
-const WORDS: [&[&str]; 9] = [
+const WORDS: [&[&str]; 10] = [
     &["judge"],
+    &["make"],
     &["read"],
     &["run", "--board", "1", "--press", "0"],
     &["first-failed", "--board", "1"],
@@ -67,6 +68,73 @@ fn judge_explains_completeness_and_refusals() {
         2,
         "refused 4 at 0\n\n>     0  01 11 01 01     SIZE 17 1 1\n         refused 4: states 17 is not 1 to 16\n",
         "ranthelo: 17-states.sheet: refused 4 at 0: states 17 is not 1 to 16\n",
+    );
+}
+
+#[test]
+fn make() {
+    let told = "ranthelo: P1.sheet: 1 test appended\n";
+    let made = "SIZE 2 2 2\nRULE 0 0 1 1\nRULE 0 1 0 0\nRULE 1 0 0 1\nRULE 1 1 1 0\nFAULT 1 1 1 1\nTEST 0 1\nTEST 0 1 0\n";
+    gives(&["make", "--text", "P1.sheet"], 0, made, told);
+    let bytes = ranthelo::text::assemble(made.as_bytes()).expect("a text");
+    let output = output(&["make", "P1.sheet"]);
+    assert_eq!(output.stdout, bytes);
+    assert_eq!((status(&output), text(&output.stderr)), (0, told.into()));
+    let to = file("made.sheet", b"old");
+    gives(&["make", "P1.sheet", "-o", &to], 0, "", told);
+    assert_eq!(fs::read(&to).unwrap(), bytes);
+    gives(&["make", "P1.sheet", "--text", "-o", &to], 0, "", told);
+    assert_eq!(fs::read_to_string(to).unwrap(), made);
+}
+
+/// A complete list stays as it is, and every made list is complete.
+#[test]
+fn made_lists_are_complete() {
+    let p2 = fs::read(examples().join("P2.sheet")).unwrap();
+    let output = output(&["make", "P2.sheet"]);
+    assert_eq!((status(&output), &output.stdout), (0, &p2));
+    let told = "ranthelo: P2.sheet: 0 tests appended\n";
+    assert_eq!(text(&output.stderr), told);
+    for (name, appended) in [
+        ("P1", 1),
+        ("P3", 1),
+        ("P4", 1),
+        ("P9", 2),
+        ("P10", 0),
+        ("P1-start", 1),
+        ("P4-quiet", 1),
+        ("only-start", 1),
+        ("256-tests", 0),
+    ] {
+        let output = common::output(&["make", &format!("{name}.sheet")]);
+        let tests = if appended == 1 { "test" } else { "tests" };
+        let told = format!("ranthelo: {name}.sheet: {appended} {tests} appended\n");
+        assert_eq!((status(&output), text(&output.stderr)), (0, told));
+        let judged = output_on(&["judge", "-"], &output.stdout);
+        assert_eq!(
+            (status(&judged), &judged.stdout[..]),
+            (0, &b"complete\n"[..])
+        );
+        let again = output_on(&["make", "-"], &output.stdout);
+        assert_eq!((status(&again), again.stdout), (0, output.stdout), "{name}");
+    }
+}
+
+/// Where the next test does not fit, nothing is written.
+#[test]
+fn make_without_room() {
+    let full = "full-list.txt";
+    let to = file("unmade.sheet", b"old");
+    let why = "the next test does not fit: 256 tests or 16,384 bytes would be passed";
+    let told = format!("ranthelo: {full}: refused 18 at 0: {why}\n");
+    gives(&["make", full], 2, "", &told);
+    gives(&["make", full, "-o", &to], 2, "", &told);
+    assert_eq!(fs::read(to).unwrap(), b"old");
+    gives(
+        &["make", "unreachable-state.sheet"],
+        2,
+        "",
+        "ranthelo: unreachable-state.sheet: refused 11 at 4: state 1 can't be reached by RULEs\n",
     );
 }
 
@@ -453,7 +521,8 @@ fn either_form_and_standard_input() {
         for input in [&p1[..], source.as_bytes()] {
             let output = output_on(&with(word, &["-"]), input);
             assert_eq!(output.stdout, expected.stdout, "{word:?}");
-            assert_eq!(output.stderr, expected.stderr, "{word:?}");
+            let told = text(&output.stderr).replace("standard input", "P1.sheet");
+            assert_eq!(told, text(&expected.stderr), "{word:?}");
             assert_eq!(status(&output), status(&expected), "{word:?}");
         }
     }
@@ -570,7 +639,7 @@ fn failed_writes() {
             "{word:?}"
         );
     }
-    for word in ["assemble", "write", "draw"] {
+    for word in ["make", "assemble", "write", "draw"] {
         let told = "ranthelo: /dev/full: No space left on device (os error 28)\n";
         gives(&[word, "P2.sheet", "-o", "/dev/full"], 3, "", told);
     }

@@ -3,7 +3,9 @@
 mod common;
 
 use common::root;
-use ranthelo::{STACK, Tables, compare, first_failed, generate, judge, raw, read, run, write};
+use ranthelo::{
+    STACK, Tables, compare, first_failed, generate, judge, make, raw, read, run, write,
+};
 use std::fs;
 use std::thread::Builder;
 
@@ -17,7 +19,7 @@ fn in_stack(bytes: usize, work: impl FnOnce() + Send + 'static) {
 
 /// The sheets kept for measuring, some of which settle every open pair.
 #[test]
-fn judging() {
+fn judging_and_making() {
     let folder = root().join("bench/machines");
     let files = fs::read_dir(folder).expect("the kept sheets");
     let sheets: Vec<Vec<u8>> = files
@@ -27,6 +29,8 @@ fn judging() {
     for sheet in sheets {
         in_stack(STACK / 4 * 3, move || {
             judge(&sheet).expect("an accepted sheet");
+            let refused = make(&sheet).err().map(|refusal| refusal.number);
+            assert!(matches!(refused, None | Some(18)), "{refused:?}");
         });
     }
 }

@@ -1,7 +1,7 @@
 //! A small judge by enumeration, written from documents 01 and 02 alone: it builds every
 //! mutant (01: board) and tries it. Fit for sheets with few mutants.
 
-use crate::reference::{read, Move, Refusal, Sheet};
+use crate::reference::{read, Move, Refusal, Sheet, MOST_BYTES, MOST_TESTS};
 use std::collections::{BTreeSet, VecDeque};
 
 /// The specified machine of a sheet with the choices at each pair and the test
@@ -59,6 +59,13 @@ pub struct Failed {
 pub struct Survivor {
     pub board: Vec<u8>,
     pub sequence: Vec<u8>,
+}
+
+/// A sheet whose suite was made complete, and how many tests were appended.
+#[derive(Clone, Debug, PartialEq, Eq)]
+pub struct Made {
+    pub sheet: Vec<u8>,
+    pub appended: usize,
 }
 
 /// The choices at a pair: the rule, then its faults; without a rule every move, or sound 0 and the
@@ -332,4 +339,23 @@ pub fn judge(
         return refuse(16, 1);
     }
     Ok(machine.judge())
+}
+
+/// Make, with a buffer of `room` bytes: the sheet with the sequences of its survivors as further tests.
+pub fn make(bytes: &[u8], room: usize) -> Result<Made, Refusal> {
+    let mut sheet = read(bytes)?.sheet;
+    if room < MOST_BYTES {
+        return refuse(16, 0);
+    }
+    let tests = sheet.tests.len();
+    while let Some(survivor) = Machine::new(&sheet).judge() {
+        sheet.tests.push(survivor.sequence);
+        if sheet.tests.len() > MOST_TESTS || sheet.encode().len() > MOST_BYTES {
+            return refuse(18, 0);
+        }
+    }
+    Ok(Made {
+        sheet: sheet.encode(),
+        appended: sheet.tests.len() - tests,
+    })
 }

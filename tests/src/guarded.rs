@@ -4,6 +4,7 @@
 mod memory;
 
 pub mod judge;
+pub mod making;
 pub mod mutation;
 pub mod reading;
 pub mod writing;

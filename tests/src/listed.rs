@@ -48,6 +48,11 @@ pub fn p6() -> Vec<u8> {
     hexadecimal("01 01 01 01 06")
 }
 
+/// P3 with 256 empty tests: no test can be appended.
+pub fn full_list() -> Vec<u8> {
+    before_end(p3(), &[TEST; 256])
+}
+
 /// P4 whose boards ignore the unspecified press.
 pub fn p4_quiet() -> Vec<u8> {
     after_size(p4(), &[QUIET])
@@ -168,6 +173,7 @@ pub fn all() -> Vec<(&'static str, Vec<u8>)> {
         ("33-open-pairs", open_pairs(33)),
         ("256-tests", tests(256)),
         ("257-tests", tests(257)),
+        ("full-list", full_list()),
     ]
 }
 
@@ -196,6 +202,7 @@ pub fn verdicts() -> Vec<(&'static str, Vec<u8>, Option<Survivor>)> {
         ),
         ("200-quiet-pairs", quiet_pairs(), None),
         ("equal-start", equal_start(), None),
+        ("full-list", full_list(), survivor(&[1], &[0, 1, 0])),
     ]
 }
 
@@ -238,6 +245,7 @@ pub fn readings() -> Vec<(&'static str, Result<Summary, Refusal>)> {
         ("33-open-pairs", refused(12, 19)),
         ("256-tests", accepted([1, 1, 1, 0, 0, 256, 0])),
         ("257-tests", refused(8, 4 + 256)),
+        ("full-list", accepted([2, 2, 2, 4, 1, 256, 1])),
     ]
 }
 

@@ -142,7 +142,7 @@ fn every_operation_promises() {
         "generator/src/lib.rt",
         "mutation/src/lib.rt",
         "mutation/src/verdict.rt",
-        "capi/src/lib.rt",
+        "ranthelo/src/lib.rt",
         "report/src/lib.rt",
     ] {
         let text = fs::read_to_string(located(file)).expect(file);

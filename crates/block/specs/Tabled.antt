@@ -1,11 +1,12 @@
 -- An accepted sheet as the reading layer hands it over, and its tables in the block.
-use Prim.Native.Nat.{ℕ, _/_, _%_, _<_}
+use Prim.Native.Nat.{ℕ, _/_, _%_, _≤_, _<_}
 use mathlib.Core.Path.{_≡_}
 use mathlib.Core.List.{List}
 use lib.ListN.{length, getD}
 use Rattle.sheet.specs.declared.Summary.{Summary}
 use Rattle.lists.specs.Lists.{maybe}
 use Rattle.sheet.specs.Sheet.{Sheet, ruleAt, wakings}
+use Rattle.sheet.specs.Encode.{encode}
 use Rattle.sheet.specs.Reading.{summaryOf}
 use Rattle.sheet.specs.Tables.{Tables, tablesOf, firstFault as firstRow, noRow}
 use Rattle.sheet.specs.WellFormed.{WellFormed}
@@ -39,3 +40,10 @@ pub record Loads (sh : Sheet) (m starts lengths : List ℕ) : Type 0 where
   pub tabled : Tabled sh m
   pub starts-are : starts ≡ tablesOf sh .starts
   pub lengths-are : lengths ≡ tablesOf sh .lengths
+
+-- an accepted sheet as it is loaded: its bytes, where its tests stand in them and how many they are, and its tables in the block
+pub record ReadFrom (sh : Sheet) (s starts lengths : List ℕ) (tests : ℕ) (m : List ℕ) : Type 0 where
+  pub loads : Loads sh m starts lengths
+  pub bytes : encode sh ≡ s
+  pub many : tests ≡ length (sh .tests)
+  pub short : length s ≤ 16384

@@ -1,2 +1,3 @@
 pub mod ChoiceLaw
 pub mod TabledLaw
+pub mod OpenedLaw

@@ -1,2 +1,3 @@
 pub mod FactsKept
+pub mod Steering
 pub mod laws

@@ -1,5 +1,6 @@
 // Steering by the tests of a log: how far each has come, what it refutes, which suspect is next, how wide a cube fails a test.
-// Promises bounds, and that the facts of other crates are left alone; what it proposes is checked by others.
+// Promises which cursors, notes and facts change, which suspects a proposal speaks of and which may be picked; the proposal itself is checked
+// by others.
 // Called by `refutation` and `store`.
 mod observed;
 mod progress;

@@ -4,8 +4,8 @@ use cubes::tables::FACTS;
 use cubes::tables::TEST_COUNT;
 use cubes::tables::TESTS;
 ghost use mathlib.Core.Path.{_≡_};
-ghost use Prim.Native.Nat.{_<_, _≤_};
-ghost use lib.ListN.{length};
+ghost use Prim.Native.Nat.{_+_, _<_, _≤_, _%_};
+ghost use lib.ListN.{length, getD};
 ghost use Rattle.cursors.specs.FactsKept.{FactsKept};
 
 // Notes an observation where it is a reset: the next test begins there. How many tests there are.
@@ -52,12 +52,15 @@ pub fn add_test(facts: &mut [u16; FACTS], at: usize)
 
 // Where the reset of a test stands.
 pub fn test_at(facts: &[u16; FACTS], t: usize) -> usize
-    ensures { λ r. ⌜ r < 65536 ⌝ }
+    ensures { λ r. ⌜ (r ≡ getD (now (facts .entry)) (560 + t % 256) 0) × (r < 65536) ⌝ }
 {
     wide16(facts[TESTS + t % 256])
 }
 
-pub fn tests_of(facts: &[u16; FACTS]) -> usize {
+// How many tests there are.
+pub fn tests_of(facts: &[u16; FACTS]) -> usize
+    ensures { λ r. ⌜ r ≡ getD (now (facts .entry)) 816 0 ⌝ }
+{
     wide16(facts[TEST_COUNT])
 }
 

@@ -12,7 +12,11 @@ use cubes::tables::FACTS;
 use leaves::among;
 use leaves::joined;
 use leaves::lone;
-ghost use Prim.Native.Nat.{_<_};
+ghost use mathlib.Core.Path.{_≡_};
+ghost use Prim.Native.Nat.{_+_, _*_, _%_, _<_, _≤_};
+ghost use lib.ListN.{getD};
+ghost use Rattle.cubes.specs.Sets.{HasAll};
+ghost use Rattle.cursors.specs.Steering.{begin, Begun, Advanced};
 
 // What a test waits for where it is no suspect: it has not begun, it is through, or it has failed.
 const NOT_BEGUN: u8 = 254;
@@ -24,7 +28,9 @@ const FAILED: u8 = 253;
 // The state of a test before its reset, from which the waking state is the next one.
 const ASLEEP: u8 = 16;
 
-fn cursor(at: usize, state: u8, wait: u8) -> u32 {
+fn cursor(at: usize, state: u8, wait: u8) -> u32
+    ensures { λ r. ⌜ r ≡ at % 65536 * 65536 + state * 256 + wait ⌝ }
+{
     ((at % 65536) as u32) * 65536 + (state as u32) * 256 + (wait as u32)
 }
 
@@ -36,17 +42,23 @@ fn state_of(c: u32) -> u8 {
     (c / 256 % 256) as u8
 }
 
-pub fn wait_of(c: u32) -> u8 {
+pub fn wait_of(c: u32) -> u8
+    ensures { λ r. ⌜ r ≡ c % 256 ⌝ }
+{
     (c % 256) as u8
 }
 
 // A test before its reset.
-pub fn begun(facts: &[u16; FACTS], t: usize) -> u32 {
+pub fn begun(facts: &[u16; FACTS], t: usize) -> u32
+    ensures { λ r. ⌜ r ≡ begin (now (facts .entry)) (t % 256) ⌝ }
+{
     cursor(test_at(facts, t), ASLEEP, NOT_BEGUN)
 }
 
 // Every test before its reset.
-pub fn start_cursors(facts: &[u16; FACTS], cursors: &mut [u32; 256]) {
+pub fn start_cursors(facts: &[u16; FACTS], cursors: &mut [u32; 256])
+    ensures { λ r. ⌜ Begun 256 (now (facts .entry)) (now (cursors .exit)) ⌝ }
+{
     let mut t: usize = 0;
     while t < 256 {
         cursors[t] = begun(facts, t);
@@ -121,7 +133,9 @@ fn advance_if(
     settled: u32,
     from: u32,
     last: u8,
-) -> u32 {
+) -> u32
+    ensures { λ r. ⌜ ((from % 256 ≡ last → ⊥) → r ≡ from) ⌝ }
+{
     if wait_of(from) != last {
         return from;
     }
@@ -137,7 +151,9 @@ pub fn advance_all(
     settled: u32,
     cursors: &mut [u32; 256],
     last: u8,
-) -> usize {
+) -> usize
+    ensures { λ r. ⌜ Advanced last (now (cursors .entry)) (now (cursors .exit)) × (r ≤ 256) × (r < 256 → r < getD (now (facts .entry)) 816 0) ⌝ }
+{
     let end = tests_of(facts);
     let mut t: usize = 0;
     while t < 256 {
@@ -155,7 +171,9 @@ pub fn advance_all(
 }
 
 // The settled suspects that a test meets, up to its wrong output.
-pub fn met(block: &[u8; BLOCK], log: &[u16], p: &[u8; 32], settled: u32, from: u32) -> u32 {
+pub fn met(block: &[u8; BLOCK], log: &[u16], p: &[u8; 32], settled: u32, from: u32) -> u32
+    ensures { λ r. ⌜ HasAll r settled ⌝ }
+{
     let mut used: u32 = 0;
     let mut c = from;
     let mut n: u8 = 0;

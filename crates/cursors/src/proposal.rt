@@ -24,6 +24,8 @@ use leaves::literal;
 use leaves::lone;
 use leaves::without_least;
 ghost use Prim.Native.Nat.{_<_, _≤_};
+ghost use Rattle.leaves.specs.Members.{Literals};
+ghost use Rattle.cursors.specs.Steering.{SpeaksOf, Narrowed};
 
 // How many inputs follow a reset.
 fn length_of(log: &[u16], from: usize) -> usize
@@ -91,7 +93,9 @@ fn fill_bad(
 }
 
 // What a suspect is narrowed to, so that it gives its own wrong output, or leads where it may.
-fn narrowed(facts: &[u16; FACTS], own: u8, i: u8, o: u8, into: u16) -> u32 {
+fn narrowed(facts: &[u16; FACTS], own: u8, i: u8, o: u8, into: u16) -> u32
+    ensures { λ r. ⌜ r < 1048576 ⌝ }
+{
     if own == o {
         return literal(o, into);
     }
@@ -119,6 +123,7 @@ fn narrow_step(
     bad: u16,
 ) -> u32
     requires { ⌜ (k < 257) × (o < 16) ⌝ }
+    ensures { λ r. ⌜ Narrowed (now (base .entry)) (now (cube .entry)) (now (cube .exit)) ⌝ }
 {
     let go = arrive(block, facts, cube, k, o);
     let i = site(block, k);
@@ -145,7 +150,9 @@ fn narrow_states(
     set: u16,
     v: u16,
     bad: u16,
-) -> u32 {
+) -> u32
+    ensures { λ r. ⌜ Narrowed (now (base .entry)) (now (cube .entry)) (now (cube .exit)) ⌝ }
+{
     let mut next: u32 = 0;
     let mut left = set;
     let mut n: u8 = 0;
@@ -173,6 +180,7 @@ fn narrow_once<'a>(
     length: usize,
 ) -> bool
     requires { ⌜ (from ≤ 65536) × (length ≤ 256) ⌝ }
+    ensures { λ r. ⌜ Narrowed (now (base .entry)) (now (cube .entry)) (now (cube .exit)) ⌝ }
 {
     let mut next = narrow_step(block, facts, base, cube, WAKING, 0, bad[0]);
     let mut l: usize = 0;
@@ -209,6 +217,7 @@ fn narrow_all<'a>(
     length: usize,
 )
     requires { ⌜ (from ≤ 65536) × (length ≤ 256) ⌝ }
+    ensures { λ r. ⌜ Narrowed (now (base .entry)) (now (cube .entry)) (now (cube .exit)) ⌝ }
 {
     let mut rounds: u16 = 0;
     while rounds < 600 {
@@ -228,7 +237,9 @@ pub fn propose_fail(
     settled: u32,
     t: usize,
     cube: &mut [u32; 32],
-) {
+)
+    ensures { λ r. ⌜ Literals (now (cube .exit)) × SpeaksOf settled (now (cube .exit)) ⌝ }
+{
     let mut base = [0u32; 32];
     let mut bad = [0u16; 257];
     let used = met(block, log, p, settled, begun(facts, t));

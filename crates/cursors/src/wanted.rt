@@ -21,7 +21,11 @@ use leaves::note;
 use leaves::set_note;
 use leaves::size;
 use leaves::without_least;
-ghost use Prim.Native.Nat.{_<_};
+ghost use mathlib.Core.Path.{_≡_};
+ghost use mathlib.Core.Logic.{_⊎_};
+ghost use Prim.Native.Nat.{_+_, _*_, _%_, _<_};
+ghost use Rattle.leaves.specs.Noted.{Changed};
+ghost use Rattle.cursors.specs.Steering.{Marked, Picked};
 
 // From here on a hint names a test, and below an entry of the store.
 pub const FROM_TEST: u16 = 32768;
@@ -29,6 +33,7 @@ pub const FROM_TEST: u16 = 32768;
 // Notes what refutes the transitions to some states, those of one suspect and output.
 fn set_hints(notes: &mut [u16], k: usize, next: u16, h: u16)
     requires { ⌜ k < 512 ⌝ }
+    ensures { λ r. ⌜ Changed 576 8768 (now (notes .entry)) (now (notes .exit)) ⌝ }
 {
     let mut left = next;
     let mut n: u8 = 0;
@@ -43,7 +48,9 @@ fn set_hints(notes: &mut [u16], k: usize, next: u16, h: u16)
 }
 
 // Notes next states of a suspect as refuted.
-pub fn mark(notes: &mut [u16], j: u8, o: u8, next: u16, h: u16) {
+pub fn mark(notes: &mut [u16], j: u8, o: u8, next: u16, h: u16)
+    ensures { λ r. ⌜ Marked (j % 32 * 16 + o % 16) next (now (notes .entry)) (now (notes .exit)) ⌝ }
+{
     let k = cell(j, o);
     let old = note(notes, DEAD + k);
     let new = less(next, old);
@@ -60,7 +67,9 @@ fn outputs_of(facts: &[u16; FACTS], j: u8) -> u16 {
 }
 
 // Notes the choices of a suspect with another output than a test wants.
-fn mark_test(facts: &[u16; FACTS], notes: &mut [u16], j: u8, want: u8, h: u16) {
+fn mark_test(facts: &[u16; FACTS], notes: &mut [u16], j: u8, want: u8, h: u16)
+    ensures { λ r. ⌜ Changed 64 8768 (now (notes .entry)) (now (notes .exit)) ⌝ }
+{
     let mut left = less(outputs_of(facts, j), add(0, want));
     let mut n: u8 = 0;
     while n < 16 {
@@ -90,7 +99,9 @@ fn mark_want(
     notes: &mut [u16],
     waiting: &mut [u16; 32],
     h: u16,
-) {
+)
+    ensures { λ r. ⌜ Changed 64 8768 (now (notes .entry)) (now (notes .exit)) ⌝ }
+{
     let j = wait_of(c);
     if j >= 32 {
         return;
@@ -106,7 +117,9 @@ pub fn mark_wants(
     cursors: &[u32; 256],
     notes: &mut [u16],
     waiting: &mut [u16; 32],
-) {
+)
+    ensures { λ r. ⌜ Changed 64 8768 (now (notes .entry)) (now (notes .exit)) ⌝ }
+{
     let end = tests_of(facts);
     let mut t: u16 = 0;
     while t < 256 {
@@ -158,7 +171,9 @@ struct Best {
 }
 
 // The better one: fewer choices left for each test that waits for it.
-fn better(facts: &[u16; FACTS], notes: &[u16], best: Best, j: u8, tests: u16) -> Best {
+fn better(facts: &[u16; FACTS], notes: &[u16], best: Best, j: u8, tests: u16) -> Best
+    ensures { λ r. ⌜ (r .at ≡ best .at) ⊎ ((r .at ≡ j) × (tests ≡ 0 → ⊥)) ⌝ }
+{
     if tests == 0 {
         return best;
     }
@@ -172,7 +187,9 @@ fn better(facts: &[u16; FACTS], notes: &[u16], best: Best, j: u8, tests: u16) ->
 }
 
 // The suspect with the fewest choices left for each test that waits for it, or 255.
-pub fn pick(block: &[u8; BLOCK], facts: &[u16; FACTS], notes: &[u16], waiting: &[u16; 32]) -> u8 {
+pub fn pick(block: &[u8; BLOCK], facts: &[u16; FACTS], notes: &[u16], waiting: &[u16; 32]) -> u8
+    ensures { λ r. ⌜ Picked (now (block .entry)) (now (waiting .entry)) r ⌝ }
+{
     let end = slots(block);
     let mut best = Best {
         at: 255,

@@ -1,6 +1,6 @@
 // Sheets from a seed (02, Point 4).
 // Promises every byte of the sheet that a seed and sizes make, and that reading accepts it.
-// Called by users, and by `capi`.
+// Called by users, and by `ranthelo`.
 ghost use mathlib.Core.Path.{_≡_};
 ghost use Prim.Native.Nat.{_≤_};
 ghost use lib.ListN.{length};

@@ -1,4 +1,5 @@
 pub mod Tests
 pub mod Recorded
 pub mod Walked
+pub mod Suites
 pub mod laws

@@ -1,2 +1,3 @@
 pub mod TestsLaw
 pub mod WalkedLaw
+pub mod SuitesLaw

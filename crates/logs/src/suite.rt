@@ -8,11 +8,13 @@ ghost use mathlib.Core.Path.{_≡_};
 ghost use Prim.Native.Nat.{_+_, _<_, _≤_};
 ghost use mathlib.Core.List.{[], _∷_};
 ghost use lib.ListN.{length};
+ghost use Rattle.sheet.specs.Sheet.{Sheet};
 ghost use Rattle.model.specs.Log.{reset, seen, testLog, testsLog};
 ghost use Rattle.block.specs.Tabulated.{ruleOf};
 ghost use Rattle.block.specs.Logged.{observation};
 ghost use Rattle.logs.specs.Tests.{inputsAt, testsAt, TestAt, TestsAt};
 ghost use Rattle.logs.specs.Recorded.{Written, Recorded};
+ghost use Rattle.logs.specs.Suites.{SuiteIn, Logged};
 
 fn observed(x: u8, o: u8) -> u16
     requires { ⌜ (x < 16) × (o < 16) ⌝ }
@@ -23,7 +25,7 @@ fn observed(x: u8, o: u8) -> u16
 
 // Writes a reset and the inputs of the test whose PRESS commands start at `start`, from a place of the log on; gives the place after
 // them.
-fn record_test(
+pub fn record_test(
     sheet: &[u8],
     start: usize,
     inputs: usize,
@@ -53,7 +55,7 @@ fn record_test(
 }
 
 // Writes the log of the tests at the log's front; gives its length.
-pub fn record_suite(
+fn record_suite(
     sheet: &[u8],
     starts: &[u16; 256],
     lengths: &[u16; 256],
@@ -72,4 +74,19 @@ pub fn record_suite(
         t += 1;
     }
     to
+}
+
+// Writes the log of an accepted sheet's suite at the log's front; gives its length.
+pub fn log_suite<'a>(
+    sheet: &[u8],
+    starts: &'a [u16; 256],
+    lengths: &'a [u16; 256],
+    tests: usize,
+    block: &[u8; BLOCK],
+    log: &mut [u16],
+) -> usize
+    requires { ⌜ ((sh : Sheet) × SuiteIn sh (now sheet) (now starts) (now lengths) tests (now block) (length (now log))) ⌝ }
+    ensures { λ r. ⌜ ((sh : Sheet) → SuiteIn sh (now (sheet .entry)) (now (starts .entry)) (now (lengths .entry)) tests (now (block .entry)) (length (now (log .entry))) → Logged sh (now (log .exit)) r) ⌝ }
+{
+    record_suite(sheet, starts, lengths, tests, block, log)
 }

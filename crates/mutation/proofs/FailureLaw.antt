@@ -1,4 +1,4 @@
--- The suite of an accepted sheet as a log, and the first failed test along it.
+-- The first failed test, along the log of an accepted sheet's suite.
 use Prim.Native.Nat.{ℕ, _≤_}
 use native.Mathlib.Omega.{arith}
 use mathlib.Core.Path.{_≡_, refl, _∙_, ap, ap₂}
@@ -33,34 +33,13 @@ use Rattle.usage.specs.Tried.{Inside, placeOf, Reached}
 use Rattle.usage.specs.laws.MarksLaw.{used-tried}
 use Rattle.mutation.specs.declared.Failed.{Failed}
 use Rattle.mutation.specs.Answers.{usedOf, failedOf, failedAnswer}
-use Rattle.mutation.specs.Operate.{ReadFrom}
-use Rattle.mutation.specs.words.Suites.{SuiteIn, Logged, Plays, failedBy}
+use Rattle.logs.specs.Suites.{SuiteIn, Logged}
+use Rattle.logs.specs.laws.SuitesLaw.{wf, suite, located}
+use Rattle.mutation.specs.words.Suites.{Plays, failedBy}
 
-module _ {sh : Sheet} {s starts lengths m : List ℕ} {tests room : ℕ} (su : SuiteIn sh s starts lengths tests m room) where
-  wf : WellFormed sh
-  wf = su .tabled .formed
-
-  suite : testsAt s starts lengths tests ≡ sh .tests
-  suite = rw (su .starts-are, su .lengths-are) (tests-are sh wf (su .bytes) {tables = tablesOf sh} refl (su .many))
-
-  -- its tests are where the tables say
-  pub located : TestsAt (ruleOf m) s starts lengths tests
-  located = rw (su .starts-are, su .lengths-are) (tests-at sh wf (rule-same (su .tabled)) (su .bytes) {tables = tablesOf sh} refl (su .many))
-
-  log-is : testsLog (ruleOf m) (testsAt s starts lengths tests) ≡ suiteLog sh
-  log-is = rw (su .starts-are, su .lengths-are) (tests-log sh wf (rule-same (su .tabled)) (su .bytes) {tables = tablesOf sh} refl (su .many))
-
-  pub inside : Inside s starts lengths tests
-  inside = record { few = located .few; each = λ t l. located .each t l .inside }
-
-  -- there is room for their log, and it is the suite's
-  pub roomy : length (testsLog (ruleOf m) (testsAt s starts lengths tests)) ≤ room
-  roomy = rw log-is (su .fits)
-
-  pub logged : {old new : List ℕ} {n : ℕ} → Recorded old new n (testsLog (ruleOf m) (testsAt s starts lengths tests)) → Logged sh new n
-  logged re = record { inside = re .inside; is = re .is ∙ log-is }
-
--- ---- a mutant along it
+-- its tests are inside the sheet
+pub inside : {sh : Sheet} {s starts lengths m : List ℕ} {tests room : ℕ} → SuiteIn sh s starts lengths tests m room → Inside s starts lengths tests
+inside su = record { few = located su .few; each = λ t l. located su .each t l .inside }
 
 place-wrong : (o : Option Place) → placeOf (wrongOf o) ≡ o
 place-wrong none = refl
@@ -102,24 +81,3 @@ module _ {sh : Sheet} {b s starts lengths m outputs targets log : List ℕ} {tes
     where
       marked : set ≡ markAll (actsIn m targets) start (mark 0 (startSlotOf m)) (triedOf (sh .tests) (firstFailedOf sh b))
       marked = es ∙ rw (found-place, suite su) refl
-
--- ---- a sheet that was read
-
-module _ {sh : Sheet} {s starts lengths m : List ℕ} {tests : ℕ} (rd : ReadFrom sh s starts lengths tests m) where
-  suite-in : {room : ℕ} → length (suiteLog sh) ≤ room → SuiteIn sh s starts lengths tests m room
-  suite-in l =
-      record {
-        tabled = rd .loads .tabled;
-        bytes = rd .bytes;
-        starts-are = rd .loads .starts-are;
-        lengths-are = rd .loads .lengths-are;
-        many = rd .many;
-        fits = l;
-      }
-
-  -- with an array as long as the sheet, or as long as any suite's log
-  pub suite-short : {room : ℕ} → length s ≤ room → SuiteIn sh s starts lengths tests m room
-  suite-short l = suite-in (omega (arith, log-below sh, ap length (rd .bytes)))
-
-  pub suite-long : {room : ℕ} → 8448 ≤ room → SuiteIn sh s starts lengths tests m room
-  suite-long l = suite-in (omega (arith, log-most sh (rd .loads .tabled .formed) (rw (rd .bytes) (rd .short))))

@@ -30,7 +30,7 @@ use Rattle.search.specs.laws.JudgementLaw.{none-judged, first-judged}
 use Rattle.mutation.specs.declared.verdict.Judged.{Judged}
 use Rattle.mutation.specs.declared.verdict.Judged.the-variants as judged
 use Rattle.mutation.specs.Judging.{judgedBy, Judges, SaysOf, ToldJudged}
-use Rattle.mutation.proofs.OpenLaw.{closed-by}
+use Rattle.block.specs.laws.OpenedLaw.{closed-by}
 
 -- ---- a sheet that was read, in the block
 

@@ -1,18 +1,16 @@
--- What the answers of Run, First failed test and Compare tell; an accepted sheet as it was read.
+-- What the answers of Run, First failed test and Compare tell.
 use Prim.Native.Nat.{ℕ, _*_, _≤_, _<_}
 use mathlib.Core.Path.{_≡_}
 use mathlib.Core.Option.{Option, none, some}
 use mathlib.Core.List.{List, [], _∷_}
 use lib.ListN.{length, getD, take}
 use Rattle.sheet.specs.Sheet.{Sheet}
-use Rattle.sheet.specs.Encode.{encode}
 use Rattle.sheet.specs.Reading.{accepted, reading}
 use Rattle.model.specs.Mutant.{IsMutant}
 use Rattle.model.specs.Used.{Usage, Uses}
 use Rattle.model.specs.Suite.{Place, triedOf}
 use Rattle.model.specs.Verdict.{RanMeans, UsedMeans, FailedMeans, ComparedMeans}
 use Rattle.block.specs.Layout.{statesOf, inputsOf}
-use Rattle.block.specs.Tabled.{Loads}
 use Rattle.machine.specs.Rounds.{Valid}
 use Rattle.mutation.specs.declared.Used.{Used}
 use Rattle.mutation.specs.declared.Ran.{Ran}
@@ -21,13 +19,6 @@ use Rattle.mutation.specs.declared.Failed.{Failed}
 use Rattle.mutation.specs.declared.Failed.the-variants as failed
 use Rattle.mutation.specs.declared.Compared.{Compared}
 use Rattle.mutation.specs.declared.Compared.the-variants as compared
-
--- an accepted sheet as it is loaded: its bytes, where its tests stand in them and how many they are, and its tables in the block
-pub record ReadFrom (sh : Sheet) (s starts lengths : List ℕ) (tests : ℕ) (m : List ℕ) : Type 0 where
-  pub loads : Loads sh m starts lengths
-  pub bytes : encode sh ≡ s
-  pub many : tests ≡ length (sh .tests)
-  pub short : length s ≤ 16384
 
 -- what running asks: the machine stays among the states of a block, starts there, and the inputs are the block's
 pub record Runnable (m targets : List ℕ) (start : ℕ) (inputs : List ℕ) : Type 0 where

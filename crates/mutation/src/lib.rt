@@ -1,6 +1,6 @@
 // The operations on the mutants of a sheet (01: boards): run, first failed test, compare; and judge, on its test suite (01: list).
 // Promises for every input the answer and every lent byte, by the definitions of `model`, and what the answer means.
-// Called by users, and by `capi` and `report`.
+// Called by users, and by `ranthelo` and `report`.
 ghost use mathlib.Core.Path.{_≡_};
 ghost use lib.ListN.{length};
 ghost use Rattle.lists.specs.Lists.{overlay};

@@ -1,5 +1,4 @@
 // A mutant on the tests of a sheet, along the log of its suite.
-ghost use Prim.Native.Nat.{_≤_};
 ghost use mathlib.Core.Path.{_≡_};
 ghost use mathlib.Core.List.{List};
 ghost use lib.ListN.{length};
@@ -9,33 +8,19 @@ ghost use Rattle.sheet.specs.Reading.{accepted};
 ghost use Rattle.model.specs.Suite.{findingOf};
 ghost use Rattle.model.specs.Operations.{withMutant};
 ghost use Rattle.mutation.specs.Answers.{failedAnswer};
-ghost use Rattle.mutation.specs.Operate.{ReadFrom};
-ghost use Rattle.mutation.specs.words.Suites.{SuiteIn, Logged, Plays, failedBy};
+ghost use Rattle.block.specs.Tabled.{ReadFrom};
+ghost use Rattle.logs.specs.Suites.{SuiteIn};
+ghost use Rattle.mutation.specs.words.Suites.{Plays, failedBy};
 use crate::Failed;
 use crate::Used;
 use crate::counted;
 use block::BLOCK;
 use logs::Wrong;
 use logs::first_wrong;
-use logs::record_suite;
+use logs::log_suite;
 use machine::Fit;
 use machine::machine_of;
 use usage::use_tried;
-
-// Writes the log of an accepted sheet's suite at the log's front; gives its length.
-pub(crate) fn log_suite(
-    sheet: &[u8],
-    starts: &[u16; 256],
-    lengths: &[u16; 256],
-    tests: usize,
-    block: &[u8; BLOCK],
-    log: &mut [u16],
-) -> usize
-    requires { ⌜ ((sh : Sheet) × SuiteIn sh (now sheet) (now starts) (now lengths) tests (now block) (length (now log))) ⌝ }
-    ensures { λ r. ⌜ ((sh : Sheet) → SuiteIn sh (now (sheet .entry)) (now (starts .entry)) (now (lengths .entry)) tests (now (block .entry)) (length (now (log .entry))) → Logged sh (now (log .exit)) r) ⌝ }
-{
-    record_suite(sheet, starts, lengths, tests, block, log)
-}
 
 fn failure(found: Wrong, used: Used) -> Failed
     ensures { λ r. ⌜ r ≡ failedBy found used ⌝ }

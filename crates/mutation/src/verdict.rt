@@ -1,5 +1,4 @@
 // 01's Judge.
-use crate::suite::log_suite;
 use block::BLOCK;
 use block::fresh;
 use block::load;
@@ -7,6 +6,7 @@ use block::slots;
 use block::states;
 use block::wide;
 use cubes::goal::Goal;
+use logs::log_suite;
 use machine::Difference;
 use machine::bound;
 use search::Searched;
@@ -22,8 +22,8 @@ ghost use Rattle.sheet.specs.Reading.{accepted};
 ghost use Rattle.model.specs.Suite.{judgeOf};
 ghost use Rattle.model.specs.Operations.{judging, judgeOn};
 ghost use Rattle.search.specs.Shown.{Room};
-ghost use Rattle.mutation.specs.Operate.{ReadFrom};
-ghost use Rattle.mutation.specs.words.Suites.{SuiteIn};
+ghost use Rattle.block.specs.Tabled.{ReadFrom};
+ghost use Rattle.logs.specs.Suites.{SuiteIn};
 ghost use Rattle.mutation.specs.Judging.{judgedAnswer, judgedBy, boardWrites, sequenceWrites, Judges, Measured, ToldJudged};
 
 // What Judge answers: complete, or the length of the first survivor's shortest distinguishing sequence.

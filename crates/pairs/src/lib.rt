@@ -1,5 +1,5 @@
 // Steering by pairs of states (specification's, mutant's): which wide cube may conform, and how far a settled part is known to.
-// Promises nothing of any result, but that it comes; what it proposes is checked by others.
+// Promises that what it proposes is a cube, which others check, and that a suspect it meets is not settled.
 // Called by `refutation`.
 mod cells;
 mod proposal;

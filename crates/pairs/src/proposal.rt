@@ -20,6 +20,9 @@ use leaves::literal;
 use leaves::low;
 use leaves::packed;
 use leaves::without_least;
+ghost use mathlib.Core.Path.{_≡_};
+ghost use mathlib.Core.Bool.{true};
+ghost use Rattle.leaves.specs.Members.{Literals};
 
 // Whether no wrong output and only safe pairs follow a pair on an input.
 fn cell_safe(
@@ -127,6 +130,17 @@ fn narrows(cell: Cell, go: u16) -> bool {
     cell.go != go || !cell.sound
 }
 
+// Narrows the cube at such a suspect; whether it stayed as it was.
+fn narrow_cell(cube: &mut [u32; 32], cell: Cell, go: u16) -> bool
+    ensures { λ r. ⌜ (Literals (now (cube .entry)) → Literals (now (cube .exit))) ⌝ }
+{
+    if !narrows(cell, go) {
+        return true;
+    }
+    cube[wide(cell.site % 32)] = literal(cell.output, go);
+    false
+}
+
 // Spreads over one input, and narrows the cube where it would leave the safe pairs.
 fn spread_cell(
     block: &[u8; BLOCK],
@@ -137,7 +151,9 @@ fn spread_cell(
     w: Rows,
     z: u8,
     x: u8,
-) -> Rows {
+) -> Rows
+    ensures { λ r. ⌜ (Literals (now (cube .entry)) → Literals (now (cube .exit))) ⌝ }
+{
     let cell = look(block, facts, cube, z, x);
     if cell.next == 255 {
         return w;
@@ -151,15 +167,11 @@ fn spread_cell(
     }
     let next = low(cell.next);
     let go = common(cell.go, safe[wide(next)]);
-    let mut good = w.good;
-    if narrows(cell, go) {
-        cube[wide(cell.site % 32)] = literal(cell.output, go);
-        good = false;
-    }
+    let stayed = narrow_cell(cube, cell, go);
     pairs[wide(next)] = either(pairs[wide(next)], go);
     Rows {
         rows: add(w.rows, next),
-        good,
+        good: w.good & stayed,
         strict: w.strict,
     }
 }
@@ -173,7 +185,9 @@ fn spread_pair(
     pairs: &mut [u16; 16],
     from: Rows,
     z: u8,
-) -> Rows {
+) -> Rows
+    ensures { λ r. ⌜ (Literals (now (cube .entry)) → Literals (now (cube .exit))) ⌝ }
+{
     let end = inputs(block);
     let mut w = from;
     let mut x: u8 = 0;
@@ -196,7 +210,9 @@ fn spread_next(
     pairs: &mut [u16; 16],
     done: &mut [u16; 16],
     w: Rows,
-) -> Rows {
+) -> Rows
+    ensures { λ r. ⌜ (Literals (now (cube .entry)) → Literals (now (cube .exit))) ⌝ }
+{
     let a = least(w.rows);
     let new = less(pairs[wide(a)], done[wide(a)]);
     if new == 0 {
@@ -219,7 +235,9 @@ fn start(
     safe: &[u16; 16],
     cube: &mut [u32; 32],
     pairs: &mut [u16; 16],
-) -> bool {
+) -> bool
+    ensures { λ r. ⌜ (Literals (now (cube .entry)) → Literals (now (cube .exit))) ⌝ }
+{
     *pairs = [0u16; 16];
     let all = starts(block, facts, cube);
     pairs[0] = all;
@@ -242,7 +260,9 @@ fn spread(
     cube: &mut [u32; 32],
     pairs: &mut [u16; 16],
     strict: bool,
-) -> bool {
+) -> bool
+    ensures { λ r. ⌜ (Literals (now (cube .entry)) → Literals (now (cube .exit))) ⌝ }
+{
     let mut done = [0u16; 16];
     let mut w = Rows {
         rows: add(0, 0),
@@ -267,7 +287,9 @@ fn narrow(
     safe: &[u16; 16],
     cube: &mut [u32; 32],
     pairs: &mut [u16; 16],
-) {
+)
+    ensures { λ r. ⌜ (Literals (now (cube .entry)) → Literals (now (cube .exit))) ⌝ }
+{
     let mut rounds: u16 = 0;
     while rounds < 600 {
         if spread(block, facts, safe, cube, pairs, false) {
@@ -285,7 +307,9 @@ pub fn propose(
     settled: u32,
     cube: &mut [u32; 32],
     pairs: &mut [u16; 16],
-) -> bool {
+) -> bool
+    ensures { λ r. ⌜ (r ≡ true → Literals (now (cube .exit))) ⌝ }
+{
     let mut safe = [65535u16; 16];
     exact(p, settled, cube);
     if !spread(block, facts, &safe, cube, pairs, true) {

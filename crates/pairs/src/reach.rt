@@ -16,6 +16,10 @@ use leaves::in_set;
 use leaves::least;
 use leaves::low;
 use leaves::packed;
+ghost use mathlib.Core.Path.{_≡_};
+ghost use mathlib.Core.Bool.{true};
+ghost use mathlib.Core.Logic.{_⊎_};
+ghost use Rattle.pairs.specs.Meeting.{Free, Meets};
 
 // How many pairs of states are listed, the first unsettled suspect met (255: none), and whether an output can be wrong: at
 // which suspect, and which is right.
@@ -27,23 +31,39 @@ struct Reach {
     want: u8,
 }
 
-// A wrong output, or an unsettled suspect.
-fn found(w: Reach, cell: Cell) -> Reach {
-    let mut first = w.first;
-    if first == 255 {
-        first = cell.site;
-    }
+// A wrong output is in reach.
+fn wrong(w: Reach, cell: Cell) -> Reach
+    ensures { λ r. ⌜ r .first ≡ w .first ⌝ }
+{
     Reach {
         end: w.end,
-        first,
-        wrong: !cell.sound,
+        first: w.first,
+        wrong: true,
         at: cell.site,
         want: cell.output,
     }
 }
 
+// An unsettled suspect; the first one stays.
+fn wait(w: Reach, i: u8) -> Reach
+    ensures { λ r. ⌜ (r .first ≡ w .first) ⊎ (r .first ≡ i) ⌝ }
+{
+    if w.first != 255 {
+        return w;
+    }
+    Reach {
+        end: w.end,
+        first: i,
+        wrong: false,
+        at: 255,
+        want: 0,
+    }
+}
+
 // Lists a pair of states, if it is not listed.
-fn list_pair(seen: &mut [u16; 16], list: &mut [u8; 256], w: Reach, a: u8, b: u8) -> Reach {
+fn list_pair(seen: &mut [u16; 16], list: &mut [u8; 256], w: Reach, a: u8, b: u8) -> Reach
+    ensures { λ r. ⌜ r .first ≡ w .first ⌝ }
+{
     let row = wide(low(a));
     if in_set(seen[row], b) {
         return w;
@@ -63,8 +83,14 @@ fn list_pair(seen: &mut [u16; 16], list: &mut [u8; 256], w: Reach, a: u8, b: u8)
     }
 }
 
-fn unsettled(cube: &[u32; 32], i: u8) -> bool {
-    i < 32 && cube[wide(i % 32)] == ANY
+// Whether it is a suspect all of whose transitions the cube means.
+fn unsettled(cube: &[u32; 32], i: u8) -> bool
+    ensures { λ r. ⌜ (r ≡ true → Free (now (cube .entry)) i) ⌝ }
+{
+    if i >= 32 {
+        return false;
+    }
+    cube[wide(i)] == ANY
 }
 
 // One input at a pair of states.
@@ -77,13 +103,18 @@ fn walk_cell(
     w: Reach,
     z: u8,
     x: u8,
-) -> Reach {
+) -> Reach
+    ensures { λ r. ⌜ (Free (now (cube .entry)) (w .first) → Free (now (cube .entry)) (r .first)) ⌝ }
+{
     let cell = look(block, facts, cube, z, x);
     if cell.next == 255 {
         return w;
     }
-    if !cell.sound || unsettled(cube, cell.site) {
-        return found(w, cell);
+    if !cell.sound {
+        return wrong(w, cell);
+    }
+    if unsettled(cube, cell.site) {
+        return wait(w, cell.site);
     }
     list_pair(seen, list, w, cell.next, least(cell.go))
 }
@@ -97,7 +128,9 @@ fn walk_pair(
     list: &mut [u8; 256],
     from: Reach,
     z: u8,
-) -> Reach {
+) -> Reach
+    ensures { λ r. ⌜ (Free (now (cube .entry)) (from .first) → Free (now (cube .entry)) (r .first)) ⌝ }
+{
     let end = inputs(block);
     let mut w = from;
     let mut x: u8 = 0;
@@ -118,7 +151,9 @@ fn walk(
     cube: &[u32; 32],
     seen: &mut [u16; 16],
     list: &mut [u8; 256],
-) -> Reach {
+) -> Reach
+    ensures { λ r. ⌜ Free (now (cube .entry)) (r .first) ⌝ }
+{
     let mut w = Reach {
         end: 0,
         first: 255,
@@ -150,7 +185,9 @@ pub fn meet(
     p: &[u8; 32],
     settled: u32,
     notes: &mut [u16],
-) -> u8 {
+) -> u8
+    ensures { λ r. ⌜ Meets settled (now (notes .entry)) (now (notes .exit)) r ⌝ }
+{
     let mut cube = [ANY; 32];
     let mut seen = [0u16; 16];
     let mut list = [0u8; 256];

@@ -8,6 +8,7 @@ use leaves::among;
 use leaves::keep_witness;
 use leaves::packed;
 ghost use Prim.Native.Nat.{_<_};
+ghost use Rattle.leaves.specs.Noted.{Changed};
 
 // The choice of a suspect that is a transition, or 256.
 fn choice_of(block: &[u8; BLOCK], j: u8, step: u8) -> u16
@@ -56,7 +57,9 @@ fn noted(block: &[u8; BLOCK], p: &[u8; 32], settled: u32, at: u8, want: u8, j: u
 }
 
 // Keeps the settled part, with a wrong output where it can be, as a witness.
-pub fn keep(block: &[u8; BLOCK], p: &[u8; 32], settled: u32, at: u8, want: u8, notes: &mut [u16]) {
+pub fn keep(block: &[u8; BLOCK], p: &[u8; 32], settled: u32, at: u8, want: u8, notes: &mut [u16])
+    ensures { λ r. ⌜ Changed 4 40 (now (notes .entry)) (now (notes .exit)) ⌝ }
+{
     let mut kept = [256u16; 32];
     let mut j: u8 = 0;
     while j < 32 {

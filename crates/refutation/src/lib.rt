@@ -37,7 +37,7 @@ ghost use Rattle.refutation.specs.Branching.{Found, PrefixIn};
 // Fills the facts of a block and a log; false where it has none.
 pub fn prepare(block: &[u8; BLOCK], log: &[u16], facts: &mut [u16; FACTS]) -> bool
     requires { ⌜ Wf (now block) × (length (now facts) ≡ 832) ⌝ }
-    ensures { λ r. ⌜ (r ≡ true → Ready (now (block .entry)) (now (facts .exit))) ⌝ }
+    ensures { λ r. ⌜ (length (now (facts .exit)) ≡ 832) × (r ≡ true → Ready (now (block .entry)) (now (facts .exit))) ⌝ }
 {
     if !enter_all(block, facts) {
         return false;

@@ -1,6 +1,6 @@
 // The sheet format: reading a sheet, the part of one test, the tables of an accepted sheet. It knows nothing of mutants.
 // Promises the answers of Read and One test's part for every string of bytes, and every entry of the tables that it fills.
-// Called by users, and by `writing`, `block`, `mutation`, `report` and `capi`.
+// Called by users, and by `writing`, `block`, `mutation`, `report` and `ranthelo`.
 ghost use denote.Ref.{ptr};
 ghost use mathlib.Core.Path.{_≡_};
 ghost use Rattle.sheet.specs.Reading as reading;

@@ -1,1 +1,2 @@
 mod StoreLaw
+mod LiveLaw

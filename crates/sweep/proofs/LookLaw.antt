@@ -44,6 +44,7 @@ use Rattle.search.specs.laws.TabulatesLaw.{tabulates}
 use Rattle.walks.specs.Walks.{NoneBy}
 use Rattle.sweep.specs.Sweep.{Cleared, Shares, Blames, Full}
 use Rattle.sweep.specs.Looking.{BySome, Found}
+use Rattle.sweep.specs.laws.SurvivorLaw.{full-mutant}
 
 -- the set of all slots has each of them
 all-has : (j : ℕ) → j < 32 → Has 4294967295 j
@@ -63,17 +64,11 @@ module _ {sh : Sheet} {m log p : List ℕ} (f : ForSheet sh m log) (full : Full 
   tb = f .tabled
 
   few : length (slots sh) ≤ 32
-  few = omega (arith, slot-count sh, f .tabled .formed .few-open)
+  few = omega (arith, slot-count sh, tb .formed .few-open)
 
   -- its choices are a mutant
   pub is-mutant : IsMutant sh (mutantIn sh p)
-  unfolding IsMutant
-  is-mutant =
-      let long : length (mutantIn sh p) ≡ length (slots sh) = length-take-le (length (slots sh)) p (omega (arith, few, full .long)) in
-      in-range (slots sh) (mutantIn sh p) long
-      (λ j h.
-      let l : j < length (slots sh) = omega (arith, long) in
-      rw (getD-take (length (slots sh)) p j 0 l) (rw (f .tabled .choices j (omega (arith, few)) ∙ getD-default (slots sh) j 1 0 l) at (full .low j (omega (arith, few)))))
+  is-mutant = full-mutant tb full
 
   settles : Settles sh p (mutantIn sh p)
   settles = record { at = λ j l. sym (getD-take (length (slots sh)) p j 0 l) }

@@ -8,7 +8,10 @@ use leaves::WITNESS;
 use leaves::note;
 use leaves::set_note;
 use walks::gives_from;
+ghost use mathlib.Core.Path.{_≡_};
 ghost use Prim.Native.Nat.{_<_};
+ghost use lib.ListN.{set, replicate};
+ghost use Rattle.leaves.specs.Noted.{Changed};
 ghost use Rattle.block.specs.Tabulated.{Wf};
 
 // What may be spent, and which survivor is overwritten next.
@@ -28,7 +31,10 @@ const ENOUGH: u16 = 128;
 
 const MORE: u16 = 8;
 
-pub fn fresh_notes() -> [u16; NOTES] {
+// The notes of a sweep that begins.
+pub fn fresh_notes() -> [u16; NOTES]
+    ensures { λ r. ⌜ r ≡ set (replicate 10128 0) 9856 128 ⌝ }
+{
     let mut notes = [0u16; NOTES];
     notes[EFFORT] = ENOUGH;
     notes
@@ -48,11 +54,14 @@ pub(crate) fn spend(notes: &mut [u16], n: u16) {
     set_note(notes, EFFORT, left - n);
 }
 
-fn earn(notes: &mut [u16]) {
+fn earn(notes: &mut [u16])
+    ensures { λ r. ⌜ Changed 9856 9872 (now (notes .entry)) (now (notes .exit)) ⌝ }
+{
     let left = note(notes, EFFORT);
-    if left < 32768 {
-        set_note(notes, EFFORT, left + MORE);
+    if left >= 32768 {
+        return;
     }
+    set_note(notes, EFFORT, left + MORE);
 }
 
 // Where choice j of survivor w stands.
@@ -130,6 +139,7 @@ fn survivor(notes: &[u16], w: usize) -> [u16; 32] {
 // Forgets a survivor that a test tells from the specification, or may.
 fn test_one(block: &[u8; BLOCK], log: &[u16], notes: &mut [u16], w: usize, at: usize)
     requires { ⌜ Wf (now block) × (w < 8) ⌝ }
+    ensures { λ r. ⌜ Changed 9856 9872 (now (notes .entry)) (now (notes .exit)) ⌝ }
 {
     if note(notes, HELD + w) == 0 {
         return;
@@ -141,9 +151,10 @@ fn test_one(block: &[u8; BLOCK], log: &[u16], notes: &mut [u16], w: usize, at: u
     set_note(notes, HELD + w, 0);
 }
 
-// After a test was appended whose reset stands at a place of the log.
+// After a test was appended whose reset stands at a place of the log: more may be spent, and survivors are forgotten; nothing else changes.
 pub fn test_survivors(block: &[u8; BLOCK], log: &[u16], notes: &mut [u16], at: usize)
     requires { ⌜ Wf (now block) ⌝ }
+    ensures { λ r. ⌜ Changed 9856 9872 (now (notes .entry)) (now (notes .exit)) ⌝ }
 {
     earn(notes);
     let mut w: usize = 0;

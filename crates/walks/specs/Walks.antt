@@ -63,6 +63,13 @@ GoesTo n (halt.Waits i place) = Unit {0}
 GoesTo n (halt.Ends place) = place .at ≡ n
 GoesTo n halt.Lost = Unit {0}
 
+-- it does not end but from a reset at a place of the log
+abbrev pub Starts : List ℕ → ℕ → Halt → Type 0
+Starts log at (halt.Fails used) = Unit {0}
+Starts log at (halt.Waits i place) = Unit {0}
+Starts log at (halt.Ends place) = (at < length log) × (getD log at 0 ≡ 256)
+Starts log at halt.Lost = Unit {0}
+
 abbrev pub ToldOk : Goal → List ℕ → List ℕ → List ℕ → Told → Type 0
 ToldOk goal m log p r = r .ok ≡ true → NoneBy goal m log p (r .used)
 

@@ -9,16 +9,19 @@ use crate::walk::Place;
 use crate::walk::walk;
 use block::BLOCK;
 ghost use mathlib.Core.List.{List};
-ghost use Prim.Native.Nat.{ℕ};
+ghost use mathlib.Core.Path.{_≡_};
+ghost use mathlib.Core.Bool.{true};
+ghost use Prim.Native.Nat.{ℕ, _<_};
+ghost use lib.ListN.{length, getD};
 ghost use Rattle.block.specs.Tabulated.{Wf};
 ghost use Rattle.cubes.specs.declared.goal.Goal.{Goal};
 ghost use Rattle.cubes.specs.declared.goal.Goal.the-variants.{Nonconforming};
-ghost use Rattle.walks.specs.Walks.{Halts, ToldOk};
+ghost use Rattle.walks.specs.Walks.{Halts, Starts, ToldOk};
 
 // Where a walk from the reset at a place of the log halts; it is lost where no reset stands there.
 fn walk_from(block: &[u8; BLOCK], log: &[u16], p: &[u16; 32], at: usize) -> Halt
     requires { ⌜ Wf (now block) ⌝ }
-    ensures { λ r. ⌜ ((goal : Goal) → Halts goal (now (block .entry)) (now (log .entry)) (now (p .entry)) r) ⌝ }
+    ensures { λ r. ⌜ ((goal : Goal) → Halts goal (now (block .entry)) (now (log .entry)) (now (p .entry)) r) × Starts (now (log .entry)) at r ⌝ }
 {
     if at >= log.len() {
         return Halt::Lost;
@@ -57,9 +60,10 @@ pub fn by_reach(block: &[u8; BLOCK], p: &[u16; 32]) -> Told
     }
 }
 
-// Whether the log from the reset at a place on is given by a mutant with the settled choices, which it does not leave. This steers only.
+// Whether the log from the reset at a place on is given by a mutant with the settled choices, which it does not leave.
 pub fn gives_from(block: &[u8; BLOCK], log: &[u16], p: &[u16; 32], at: usize) -> bool
     requires { ⌜ Wf (now block) ⌝ }
+    ensures { λ r. ⌜ (r ≡ true → (at < length (now (log .entry))) × (getD (now (log .entry)) at 0 ≡ 256)) ⌝ }
 {
     match walk_from(block, log, p, at) {
         Halt::Ends(_) => true,

@@ -3,11 +3,17 @@ use leaves::SPENT;
 use leaves::count_node;
 use leaves::note;
 use leaves::set_note;
+ghost use mathlib.Core.Path.{_≡_};
+ghost use mathlib.Core.Bool.{true, false};
+ghost use Prim.Native.Nat.{_<_, _≤_};
+ghost use lib.ListN.{length, getD};
 
 const BUDGET: u16 = 512;
 
 // Whether an attempt has come to its end; notes too short to tell make none.
-pub fn spent(notes: &[u16]) -> bool {
+pub fn spent(notes: &[u16]) -> bool
+    ensures { λ r. ⌜ (r ≡ false → getD (now (notes .entry)) 5 0 < 512) × (r ≡ true → 5 < length (now (notes .entry)) → 512 ≤ getD (now (notes .entry)) 5 0) ⌝ }
+{
     if notes.len() <= SPENT {
         return true;
     }

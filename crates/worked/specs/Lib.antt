@@ -3,3 +3,4 @@ pub mod Rows
 pub mod Refusals
 pub mod WrittenRows
 pub mod GeneratedRows
+pub mod MadeRows

@@ -26,7 +26,7 @@ use Rattle.model.specs.laws.QuickJudgeLaw.{tabulate, cellAt, rounds, compareQui
 use Rattle.worked.specs.Sheets.{p1machine, p1, p2, p3, emptyTest, p4machine, p4, p5, p6, p9machine, bababa, p9, p10, stuck, chain, open32, open33, manyTests, p1start, onlyRules, onlyStart, equalStart, start31, start32, p4silent, p4quiet, p4quietStart, quiet200}
 
 -- the sheet that was read
-abbrev sheetOf : Result Sheet → Sheet
+abbrev pub sheetOf : Result Sheet → Sheet
 sheetOf (accepted sh) = sh
 sheetOf (refused number place) = blank .sheet
 
@@ -205,7 +205,7 @@ unfoldable pub rows : List Row
 rows = listed ++ (judged p10 4 16 (accepted complete) ∷ (further ++ (touching ++ (waking ++ silent))))
 
 -- the definitions that the rows compute with, by one name: to unfold it is to unfold them
-computing : Unit {0}
+unfoldable pub computing : Unit {0}
 unfolding p1machine p1 p2 p3 emptyTest p4machine p4 p5 p6 p9machine bababa p9 p10 stuck chain open32 open33 manyTests p1start onlyRules onlyStart equalStart start31 start32 p4silent p4quiet p4quietStart quiet200 last precedes count any all upTo joined rowsAt ruleAt after leads reachedWithin allReached unruledChoices choicesAt isOpen openBelow openPairs wakings wakingChoices wakingSlots openSlots firstBroken ascends rises lastTest ruleAfter refusal addPress advance finishing doing oneCommand from blank reading summaryOf rowBytes operandBytes testBytes sizeBytes quietBytes machineBytes spanOf parting outputsFrom rule unruled transitions suspects slots siteIn siteOf choiceLists mutants acts step initial startSlot outputs has markFrom markAll usedOn least shows within best shortest distance compareFrom comparePair wrongFrom wrongIn firstFailedIn firstFailedOf findingOf compareOf survivorAmong judgeOf firstHigh firstOver withMutant responseOf runOn running failing compareOn comparing judgeOn judging
 computing = tt
 

@@ -8,7 +8,7 @@ ghost use Rattle.writing.specs.Drawing.{rowsOf, testsOf, total, drawing,
 ghost use Rattle.writing.specs.words.Spelled.{Spelled};
 use sheet::Size;
 
-fn byte(b: u8, sheet: &mut [u8], at: usize) -> usize
+pub fn byte(b: u8, sheet: &mut [u8], at: usize) -> usize
     requires { ⌜ at < length (now sheet) ⌝ }
     ensures { λ r. ⌜ Spelled (now (sheet .entry)) (now (sheet .exit)) at r (b ∷ []) ⌝ }
 {
@@ -16,7 +16,7 @@ fn byte(b: u8, sheet: &mut [u8], at: usize) -> usize
     at + 1
 }
 
-pub(crate) fn bytes(part: &[u8], sheet: &mut [u8], at: usize) -> usize
+pub fn bytes(part: &[u8], sheet: &mut [u8], at: usize) -> usize
     requires { ⌜ at + length (now part) ≤ length (now sheet) ⌝ }
     ensures { λ r. ⌜ Spelled (now (sheet .entry)) (now (sheet .exit)) at r (now (part .entry)) ⌝ }
 {
@@ -78,7 +78,7 @@ fn operands(b: u8, table: &[u8], sheet: &mut [u8], at: usize) -> usize
     to
 }
 
-fn test(inputs: &[u8], sheet: &mut [u8], at: usize) -> usize
+pub fn test(inputs: &[u8], sheet: &mut [u8], at: usize) -> usize
     requires { ⌜ at + length (4 ∷ pressBytes (now inputs)) ≤ length (now sheet) ⌝ }
     ensures { λ r. ⌜ Spelled (now (sheet .entry)) (now (sheet .exit)) at r (4 ∷ pressBytes (now (inputs .entry))) ⌝ }
 {

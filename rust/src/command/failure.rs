@@ -1,7 +1,7 @@
 //! What keeps the command from an answer: told in one line on standard error.
 
 use super::Status;
-use std::io::{self, Write};
+use super::output;
 
 /// A line for standard error, and the status that goes with it.
 pub struct Failure {
@@ -30,9 +30,7 @@ impl Failure {
         self.status
     }
 
-    /// Says it on standard error. If that fails too, the status is left.
     pub fn tell(&self) {
-        let line = format!("ranthelo: {}\n", self.told.replace('\n', " "));
-        let _ = io::stderr().write_all(line.as_bytes());
+        output::tell(&self.told);
     }
 }

@@ -1,4 +1,4 @@
-//! Answers to standard output, sheets and pictures to a file or standard output.
+//! Answers to standard output, sheets and pictures to a file or standard output, a word on standard error.
 
 use super::Status;
 use super::arguments::Arguments;
@@ -16,6 +16,12 @@ pub fn print(bytes: &[u8]) -> Result<Status, Failure> {
         Ok(()) => Ok(Status::Good),
         Err(error) => Err(Failure::unusable("standard output", error)),
     }
+}
+
+/// Says a line on standard error. If that fails, the status is left.
+pub fn tell(what: &str) {
+    let line = format!("ranthelo: {}\n", what.replace('\n', " "));
+    let _ = io::stderr().write_all(line.as_bytes());
 }
 
 /// Writes to the file that the option names, otherwise to standard output.

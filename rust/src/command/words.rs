@@ -82,6 +82,17 @@ which is the test to add; or refused with number and place. Status 0, 1 or 2.",
         perform: judging::judge,
     },
     Word {
+        name: "make",
+        purpose: "the sheet with its list made complete",
+        arguments: SHEET,
+        options: &[&OUTPUT, &TEXT],
+        details: "\
+Writes the sheet with tests after its own: while the list is incomplete, the departing sequence that judge tells is appended.
+How many there were is told on standard error. Status 0; 2 if the sheet is refused, or if the next test does not fit: then
+nothing is written.",
+        perform: judging::make,
+    },
+    Word {
         name: "read",
         purpose: "the figures of a sheet, or why it is refused",
         arguments: SHEET,

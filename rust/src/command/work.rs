@@ -1,6 +1,7 @@
 //! Work that may take long: in a thread with the stack that it needs, and with a word to whoever waits at a terminal.
 
-use std::io::{self, IsTerminal, Write};
+use super::output;
+use std::io::{self, IsTerminal};
 use std::sync::mpsc::channel;
 use std::thread::{self, Builder};
 use std::time::Duration;
@@ -12,7 +13,7 @@ const PATIENCE: Duration = Duration::from_secs(1);
 pub fn at_work<T: Send>(what: &str, work: impl FnOnce() -> T + Send) -> T {
     let tell = || {
         if io::stderr().is_terminal() {
-            let _ = writeln!(io::stderr(), "ranthelo: {what}");
+            output::tell(what);
         }
     };
     with_patience(PATIENCE, tell, work)

@@ -37,7 +37,7 @@ unfolding testsFrom
 tests-more sheet starts lengths t n l = let e : n - t ≡ suc (n - (t + 1)) = omega arith in rw e refl
 
 -- the inputs of PRESS commands
-inputs-at : (front xs rest : List ℕ) (at : ℕ) → length front ≡ at → inputsAt (front ++ (pressBytes xs ++ rest)) at (length xs) ≡ xs
+pub inputs-at : (front xs rest : List ℕ) (at : ℕ) → length front ≡ at → inputsAt (front ++ (pressBytes xs ++ rest)) at (length xs) ≡ xs
 unfolding inputsAt operandBytes
 inputs-at front [] rest at e = refl
 inputs-at front (x ∷ xs) rest at e =
@@ -78,7 +78,7 @@ module _ (sh : Sheet) (wf : WellFormed sh) where
   few : (t : ℕ) → t < length (sh .tests) → t < 256
   few t l = omega (arith, wf .few-tests)
 
-  rules-low : Low (rule sh)
+  pub rules-low : Low (rule sh)
   rules-low = record {
     at = λ s x r e.
         let h = rule-in sh wf s x r e in

@@ -5,7 +5,7 @@ use mathlib.Core.Path.{_≡_, refl, sym, _∙_, ap, subst}
 use mathlib.Core.Bool.{Bool, true, false, cond}
 use mathlib.Core.Logic.{_⊎_, inl, inr}
 use mathlib.Core.List.{List, [], _∷_, _++_, append-assoc, append-nil}
-use borrow.Author.Tests.{ltb-true, ltb-false}
+use borrow.Author.Tests.{ltb-true, ltb-false, lt-ltb, le-ltb}
 use lib.Dec.{ltb}
 use lib.ListN.{length, length-append}
 use Rattle.lists.specs.laws.TestLaw.{never}
@@ -26,6 +26,29 @@ use Rattle.model.specs.Longer.{withTest}
 use Rattle.model.specs.Making.{Grown, judgedBy, growFrom, Needed, EachNeeded, MadeComplete, NoRoom, MadeMeans}
 use Rattle.model.specs.laws.LongerLaw.{rule-longer, step-longer, start-longer, shortest-test, well-formed-longer}
 
+-- ---- by the judgement
+pub grow-complete : (room appended : ℕ) (sh : Sheet) → judgeOf sh ≡ complete → growFrom room appended sh ≡ accepted (record { sheet = sh; appended = appended })
+unfolding growFrom
+grow-complete zero appended sh e = rw e refl
+grow-complete (suc room) appended sh e = rw e refl
+
+pub grow-more : (room appended : ℕ) (sh : Sheet) (b xs : List ℕ) → judgeOf sh ≡ survivor b xs → 0 < room → length (encode (withTest sh xs)) ≤ 16384 →
+    growFrom room appended sh ≡ growFrom (room - 1) (appended + 1) (withTest sh xs)
+unfolding growFrom
+grow-more zero appended sh b xs e some l = absurd (omega arith)
+grow-more (suc room) appended sh b xs e some l =
+    let less : suc room - 1 ≡ room = omega arith in
+    let more : appended + 1 ≡ suc appended = omega arith in
+    rw (e, le-ltb 16384 (length (encode (withTest sh xs))) l, less, more) refl
+
+pub grow-full : (room appended : ℕ) (sh : Sheet) (b xs : List ℕ) → judgeOf sh ≡ survivor b xs → (room ≡ 0) ⊎ (16384 < length (encode (withTest sh xs))) →
+    growFrom room appended sh ≡ refused 18 0
+unfolding growFrom
+grow-full zero appended sh b xs e h = rw e refl
+grow-full (suc room) appended sh b xs e (inl z) = absurd (omega arith)
+grow-full (suc room) appended sh b xs e (inr l) = rw (e, lt-ltb 16384 (length (encode (withTest sh xs))) l) refl
+
+-- ---- what it means
 -- what an answer means: the suite is made, and the sheet is accepted; or there is no room
 abbrev pub GrownMeans : Sheet → ℕ → Result Grown → Type 0
 GrownMeans sh n (accepted g) =

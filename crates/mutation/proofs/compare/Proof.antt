@@ -4,7 +4,8 @@ use lib.ListN.{length}
 use Rattle.mutation.specs.declared.Compared.the-variants.{Refused}
 use Rattle.lists.specs.Lists.{overlay}
 use Rattle.mutation.specs.Answers.{comparedAnswer, comparedWrites}
-use Rattle.mutation.proofs.OpenLaw.{opened, closed-by, comparing-on, comparing-refused, told-compared}
+use Rattle.block.specs.laws.OpenedLaw.{opened, closed-by}
+use Rattle.mutation.proofs.OpenLaw.{comparing-on, comparing-refused, told-compared}
 use Rattle.sheet.specs.laws.RefusalLaw.{refusal-told}
 use borrow.Author.Needs.{needs}
 use Rattle.mutation.proofs.compare.Statement.{statement}

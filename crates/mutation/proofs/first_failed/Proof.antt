@@ -2,7 +2,8 @@
 use mathlib.Core.Path.{sym, _∙_, ap, ap₂}
 use Rattle.mutation.specs.declared.Failed.the-variants.{Refused}
 use Rattle.mutation.specs.Answers.{failedAnswer}
-use Rattle.mutation.proofs.OpenLaw.{opened, closed-by, failing-on, failing-refused, told-failed}
+use Rattle.block.specs.laws.OpenedLaw.{opened, closed-by}
+use Rattle.mutation.proofs.OpenLaw.{failing-on, failing-refused, told-failed}
 use Rattle.sheet.specs.laws.RefusalLaw.{refusal-told}
 use borrow.Author.Needs.{needs}
 use Rattle.mutation.proofs.first_failed.Statement.{statement}

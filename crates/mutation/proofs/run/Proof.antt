@@ -4,7 +4,8 @@ use lib.ListN.{length}
 use Rattle.mutation.specs.declared.Ran.the-variants.{Refused}
 use Rattle.lists.specs.Lists.{overlay}
 use Rattle.mutation.specs.Answers.{ranAnswer, ranWrites}
-use Rattle.mutation.proofs.OpenLaw.{opened, closed-by, ran-on, running-refused, told-ran}
+use Rattle.block.specs.laws.OpenedLaw.{opened, closed-by}
+use Rattle.mutation.proofs.OpenLaw.{ran-on, running-refused, told-ran}
 use Rattle.sheet.specs.laws.RefusalLaw.{refusal-told}
 use borrow.Author.Needs.{needs}
 use Rattle.mutation.proofs.run.Statement.{statement}

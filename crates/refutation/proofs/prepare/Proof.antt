@@ -15,12 +15,12 @@ returns-2 : tie.Need-returns-2
 returns-2 c =
     let at-if1 = c .before .before .before .before in
     let at-enter-all = at-if1 .before in
-    λ e. prepared (at-enter-all .before .before .before .pre .0) (at-enter-all .enter-all .ensures .has (not-false _ (at-if1 .if1 .left))) (c .before .before .exchange-all .ensures) (c .find-tests .ensures)
+    (c .find-tests .ensures .long, λ e. prepared (at-enter-all .before .before .before .pre .0) (at-enter-all .enter-all .ensures .has (not-false _ (at-if1 .if1 .left))) (c .before .before .exchange-all .ensures) (c .find-tests .ensures))
 
 pub prepare-spec : {M : Type 1} → statement M
 prepare-spec =
     tie.close
     (tie.spec
     (λ c κs. search needs)
-    (λ c. λ e. void e)
+    (λ c. (c .before .enter-all .ensures .long, λ e. void e))
     exchange-all-requires (λ c κs. search needs) returns-2)

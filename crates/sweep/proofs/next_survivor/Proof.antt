@@ -29,14 +29,16 @@ turn-requires c κs =
 returns : tie.Need-returns Inv-loop μ-loop
 returns c =
     let at-match = c .before in
-    let at-turn = at-match .before .before .before .before .before .before .before in
+    let at-notes = at-match .before .before .before .before in
+    let at-turn = at-notes .before .before .before in
     let at-loop = at-turn .before .before .before .before .before in
     let inv = at-loop .loop .inv in let told = at-turn .turn .ensures in (λ sh f s. rw (c .ended .ensures) (ended-ok _ (at-turn .turn .result) (told .0 sh f) (inv .each sh f s)), (told .1 .0, λ e. sym (inv .same-store) ∙ told .1 .1 (gave-up (at-turn .turn .result) (at-match .match .keys2) (sym (c .ended .ensures) ∙ e))))
 
 advance-requires : tie.Need-advance-requires Inv-loop μ-loop
 advance-requires c κs =
     let at-turned = c .before .before .before in
-    let at-turn = at-turned .before .before .before .before .before .before .before .before in
+    let at-notes = at-turned .before .before .before .before .before in
+    let at-turn = at-notes .before .before .before in
     let at-loop = at-turn .before .before .before .before .before in
     let s = at-loop .loop .inv .some in (s .0, s .1 .tabled, s .2, rw (at-turned .turned .given .1) at (at-turn .turn .ensures .0 (s .0) (s .1)))
 
@@ -44,7 +46,8 @@ returns-2 : tie.Need-returns-2 Inv-loop μ-loop
 returns-2 c =
     let at-advance = c .before in
     let at-turned = at-advance .before .before .before .before in
-    let at-turn = at-turned .before .before .before .before .before .before .before .before in
+    let at-notes = at-turned .before .before .before .before .before in
+    let at-turn = at-notes .before .before .before in
     let at-loop = at-turn .before .before .before .before .before in
     let none = not-true (at-advance .advance .result) (c .if1 .taken) in (λ sh f s. rw none at (at-advance .advance .ensures sh (f .tabled) (at-loop .loop .inv .each sh f s) (rw (at-turned .turned .given .1) at (at-turn .turn .ensures .0 sh f))), (at-turn .turn .ensures .1 .0, λ e. never (cc)))
 
@@ -52,7 +55,8 @@ loop-less : tie.Need-loop-less Inv-loop μ-loop
 loop-less c =
     let at-advance = c .before in
     let at-turned = at-advance .before .before .before .before in
-    let at-turn = at-turned .before .before .before .before .before .before .before .before in
+    let at-notes = at-turned .before .before .before .before .before in
+    let at-turn = at-notes .before .before .before in
     let at-loop = at-turn .before .before .before .before .before in
     let some = not-false (at-advance .advance .result) (c .if1 .left) in sweeping-less (at-loop .loop .inv) (λ sh f. rw (at-turned .turned .given .1) at (at-turn .turn .ensures .0 sh f)) (λ sh tb s re. rw some at (at-advance .advance .ensures sh tb s re))
 
@@ -60,43 +64,53 @@ loop-again : tie.Need-loop-again Inv-loop μ-loop
 loop-again c =
     let at-advance = c .before in
     let at-turned = at-advance .before .before .before .before in
-    let at-turn = at-turned .before .before .before .before .before .before .before .before in
+    let at-notes = at-turned .before .before .before .before .before in
+    let at-turn = at-notes .before .before .before in
     let at-loop = at-turn .before .before .before .before .before in
     let some = not-false (at-advance .advance .result) (c .if1 .left) in sweeping-more (at-loop .loop .inv) (λ sh f. rw (at-turned .turned .given .1) at (at-turn .turn .ensures .0 sh f)) (λ sh tb s re. rw some at (at-advance .advance .ensures sh tb s re)) (at-turn .turn .ensures .1 .0) (at-turn .turn .kept .1 .1 .1 .0) (at-turn .turn .kept .1 .1 .1 .1 .0) (at-turn .turn .kept .1 .1 .1 .1 .1 .1 .0)
 
 same-length : tie.Need-same-length Inv-loop μ-loop
 same-length c =
-    let at-turn = c .before .before .before .before .before .before .before .before in
+    let at-notes = c .before .before .before .before .before in
+    let at-turn = at-notes .before .before .before in
     let at-loop = at-turn .before .before .before .before .before in
     at-turn .turn .kept .1 .1 .1 .0 ∙ at-loop .loop .inv .same-store
 
 same-length-2 : tie.Need-same-length-2 Inv-loop μ-loop
 same-length-2 c =
-    let at-turn = c .before .before .before .before .before .before .before .before in
+    let at-notes = c .before .before .before .before .before in
+    let at-turn = at-notes .before .before .before in
     let at-loop = at-turn .before .before .before .before .before in
     at-turn .turn .kept .1 .1 .1 .1 .0 ∙ at-loop .loop .inv .same-notes
 
 same-length-3 : tie.Need-same-length-3 Inv-loop μ-loop
 same-length-3 c =
-    let at-turn = c .before .before .before .before .before .before .before .before in
+    let at-notes = c .before .before .before .before .before in
+    let at-turn = at-notes .before .before .before in
     let at-loop = at-turn .before .before .before .before .before in
     at-turn .turn .kept .1 .1 .1 .1 .1 .1 .0 ∙ at-loop .loop .inv .same-sequence
 
 same-length-4 : tie.Need-same-length-4 Inv-loop μ-loop
 same-length-4 c =
-    let at-turn = c .before .before .before .before .before .before .before .before .before .before .before .before .before in
+    let at-turned = c .before .before .before .before .before in
+    let at-notes = at-turned .before .before .before .before .before in
+    let at-turn = at-notes .before .before .before in
     let at-loop = at-turn .before .before .before .before .before in
     at-turn .turn .kept .1 .1 .1 .0 ∙ at-loop .loop .inv .same-store
 
 same-length-5 : tie.Need-same-length-5 Inv-loop μ-loop
 same-length-5 c =
-    let at-turn = c .before .before .before .before .before .before .before .before .before .before .before .before .before in
+    let at-turned = c .before .before .before .before .before in
+    let at-notes = at-turned .before .before .before .before .before in
+    let at-turn = at-notes .before .before .before in
     let at-loop = at-turn .before .before .before .before .before in
     at-turn .turn .kept .1 .1 .1 .1 .0 ∙ at-loop .loop .inv .same-notes
 
 same-length-6 : tie.Need-same-length-6 Inv-loop μ-loop
 same-length-6 c =
-    let at-turn = c .before .before .before .before .before .before .before .before .before .before .before .before .before in
+    let at-turned = c .before .before .before .before .before in
+    let at-notes = at-turned .before .before .before .before .before in
+    let at-turn = at-notes .before .before .before in
     let at-loop = at-turn .before .before .before .before .before in
     at-turn .turn .kept .1 .1 .1 .1 .1 .1 .0 ∙ at-loop .loop .inv .same-sequence
 

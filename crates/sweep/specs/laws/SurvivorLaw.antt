@@ -7,18 +7,18 @@ use native.Mathlib.Nat.{le-of-suc-le-suc}
 use native.Mathlib.Omega.{arith}
 use lib.Pow.{pow-pos}
 use lib.ListN.{length, getD, replicate, length-replicate, getD-replicate}
-use lib.Seq.{getD-take}
+use lib.Seq.{getD-take, length-take-le}
 use Rattle.lists.specs.Lists.{Before}
 use Rattle.sheet.specs.Sheet.{Sheet}
 use Rattle.model.specs.Mutant.{slots, IsMutant}
 use Rattle.model.specs.Suite.{survivor, judgeOf}
 use Rattle.model.specs.laws.JudgeLaw.{judge-first}
-use Rattle.model.specs.laws.OperationLaw.{mutant-length}
+use Rattle.model.specs.laws.OperationLaw.{mutant-length, in-range}
 use Rattle.model.specs.laws.SuspectLaw.{slot-count}
 use Rattle.block.specs.Tabled.{Tabled}
-use Rattle.block.specs.laws.TabledLaw.{slot-some}
+use Rattle.block.specs.laws.TabledLaw.{getD-default, slot-some}
 use Rattle.search.specs.Search.{mutantIn}
-use Rattle.sweep.specs.Sweep.{Cleared, Swept}
+use Rattle.sweep.specs.Sweep.{Cleared, Full, Swept}
 use Rattle.sweep.specs.Looking.{Found}
 use Rattle.sweep.specs.laws.SlotLaw.{has-below}
 
@@ -43,6 +43,17 @@ differs (x ∷ b) (y ∷ c) (inr (e, h)) =
     first-then d zero l = e
     first-then d (suc i) l = d .same i (le-of-suc-le-suc l)
 
+-- all the choices are a mutant
+pub full-mutant : {sh : Sheet} {m p : List ℕ} → Tabled sh m → Full m p → IsMutant sh (mutantIn sh p)
+unfolding IsMutant
+full-mutant {sh} {m} {p} tb full =
+    let few : length (slots sh) ≤ 32 = omega (arith, slot-count sh, tb .formed .few-open) in
+    let long : length (mutantIn sh p) ≡ length (slots sh) = length-take-le (length (slots sh)) p (omega (arith, few, full .long)) in
+    in-range (slots sh) (mutantIn sh p) long
+    (λ j h.
+    let l : j < length (slots sh) = omega (arith, long) in
+    rw (getD-take (length (slots sh)) p j 0 l) (rw (tb .choices j (omega (arith, few)) ∙ getD-default (slots sh) j 1 0 l) at (full .low j (omega (arith, few)))))
+
 module _ {sh : Sheet} {m p blame : List ℕ} (tb : Tabled sh m) (sw : Swept sh m p blame) where
   -- no mutant before it survives
   pub before-cleared : (b : List ℕ) → IsMutant sh b → Before b (mutantIn sh p) → Cleared sh b
@@ -59,9 +70,9 @@ module _ {sh : Sheet} {m p blame : List ℕ} (tb : Tabled sh m) (sw : Swept sh m
       (rw (getD-take (length (slots sh)) p (d .place) 0 inside) at (d .less))
 
   -- so a survivor there is the verdict
-  pub survivor-judged : {n : ℕ} {buffer : List ℕ} → IsMutant sh (mutantIn sh p) → (found : Found sh (mutantIn sh p) n buffer) → judgeOf sh ≡ survivor (mutantIn sh p) (found .inputs)
-  survivor-judged is found =
-      judge-first sh (mutantIn sh p) (found .inputs) is (found .passes) (found .compared) (λ c ic before. before-cleared c ic before)
+  pub survivor-judged : {n : ℕ} {buffer : List ℕ} → (found : Found sh (mutantIn sh p) n buffer) → judgeOf sh ≡ survivor (mutantIn sh p) (found .inputs)
+  survivor-judged found =
+      judge-first sh (mutantIn sh p) (found .inputs) (full-mutant tb (sw .full)) (found .passes) (found .compared) (λ c ic before. before-cleared c ic before)
 
 -- ---- the first mutant of all, with no slots to blame
 pub swept-first : {sh : Sheet} {m : List ℕ} → Tabled sh m → Swept sh m (replicate 32 0) (replicate 32 0)

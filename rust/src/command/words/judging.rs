@@ -1,14 +1,14 @@
-//! `judge`.
+//! `judge` and `make`.
 
 use super::{EXPLAIN, fields};
 use crate::command::Status;
 use crate::command::arguments::Arguments;
 use crate::command::failure::Failure;
 use crate::command::input::Input;
-use crate::command::output::print;
+use crate::command::output::{deliver_sheet, print, tell};
 use crate::command::work::at_work;
 use ranthelo::machine::Machine;
-use ranthelo::{Refusal, Verdict, explain, list};
+use ranthelo::{Made, Refusal, Verdict, explain, list};
 
 const COMPLETE: &str = "
 Every departing board fails some test. Whatever behaves as a board of this sheet and passes the list
@@ -45,6 +45,17 @@ pub fn judge(arguments: &Arguments) -> Result<Status, Failure> {
             Err(input.refused(refusal))
         }
     }
+}
+
+pub fn make(arguments: &Arguments) -> Result<Status, Failure> {
+    let input = Input::open(arguments.argument(0))?;
+    let work = format!("{}: making tests takes a while", input.name);
+    let made = at_work(&work, || ranthelo::make(&input.sheet));
+    let Made { sheet, appended } = made.map_err(|r| input.refused(r))?;
+    let status = deliver_sheet(arguments, &sheet)?;
+    let tests = if appended == 1 { "test" } else { "tests" };
+    tell(&format!("{}: {appended} {tests} appended", input.name));
+    Ok(status)
 }
 
 /// What a board's choices are, and how it sounds on a sequence.

@@ -6,7 +6,7 @@ use Rattle.sheet.specs.Reading.{accepted}
 use Rattle.model.specs.Suite.{findingOf}
 use Rattle.mutation.specs.Answers.{failedAnswer}
 use Rattle.mutation.proofs.OperateLaw.{mutant-refused, plays, failed-on}
-use Rattle.mutation.proofs.FailureLaw.{suite-short, suite-long}
+use Rattle.logs.specs.laws.SuitesLaw.{suite-short, suite-long}
 use Rattle.mutation.proofs.suite.first_failed_accepted.Statement.{statement}
 use Rattle.mutation.proofs.suite.first_failed_accepted.Tie as tie
 

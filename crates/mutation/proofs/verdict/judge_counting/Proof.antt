@@ -3,7 +3,7 @@ use mathlib.Core.Path.{refl, ap₂}
 use Rattle.sheet.specs.laws.RefusalLaw.{refusal-told}
 use borrow.Author.Needs.{needs}
 use Rattle.mutation.specs.declared.verdict.Judged.the-variants.{Refused}
-use Rattle.mutation.proofs.OpenLaw.{opened}
+use Rattle.block.specs.laws.OpenedLaw.{opened}
 use Rattle.mutation.proofs.JudgingLaw.{judge-refused, judge-accepted}
 use Rattle.mutation.proofs.verdict.judge_counting.Statement.{statement}
 use Rattle.mutation.proofs.verdict.judge_counting.Tie as tie

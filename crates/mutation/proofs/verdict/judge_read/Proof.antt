@@ -1,7 +1,7 @@
 use borrow.Author.Needs.{needs}
 use mathlib.Core.Path.{refl, _∙_}
 use native.Mathlib.Omega.{arith}
-use Rattle.mutation.proofs.FailureLaw.{suite-short, suite-long}
+use Rattle.logs.specs.laws.SuitesLaw.{suite-short, suite-long}
 use Rattle.mutation.proofs.JudgingLaw.{judges-no-board, judges-no-sequence, room, judges-room}
 use Rattle.mutation.proofs.verdict.judge_read.Statement.{statement}
 use Rattle.mutation.proofs.verdict.judge_read.Tie as tie

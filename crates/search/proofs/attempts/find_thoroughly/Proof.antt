@@ -25,7 +25,7 @@ search-requires c κs =
     let at-how-many = at-fresh-store .before in
     let at-prepare = at-how-many .before in
     let at-entry = at-prepare .before .before .before .before in
-    ((at-entry .pre .0, rw (c .unsettled .ensures) (start (at-entry .pre .1))), (lent _ (at-how-many .how-many .ensures) (at-prepare .prepare .ensures), at-fresh-store .fresh-store .ensures _ _ _))
+    ((at-entry .pre .0, rw (c .unsettled .ensures) (start (at-entry .pre .1))), (lent _ (at-how-many .how-many .ensures) (at-prepare .prepare .ensures .1), at-fresh-store .fresh-store .ensures _ _ _))
 
 returns : tie.Need-returns
 returns c =

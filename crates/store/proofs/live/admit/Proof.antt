@@ -1,19 +1,17 @@
 use borrow.Author.Needs.{needs}
-use mathlib.Core.Path.{_≡_}
-use lib.ListN.{length}
-use Prim.Native.Nat.{_-_, _≤_}
+use native.Mathlib.Omega.{arith}
+use Prim.Native.Nat.{_≤_, _-_}
+use Rattle.leaves.specs.Noted.{Changed}
+use Rattle.leaves.specs.laws.NotedLaw.{changed-none, changed-set, changed-more}
 use Rattle.store.proofs.live.admit.Statement.{statement}
 use Rattle.store.proofs.live.admit.Tie as tie
-
-abbrev Inv-loop : tie.InvT-loop
-Inv-loop notes₀ e n₀ notes n = (length notes ≡ length notes₀) × (n ≤ 34)
-
-abbrev μ-loop : tie.MeasureT-loop
-μ-loop notes₀ e n₀ notes n = 34 - n
 
 pub admit-spec : {M : Type 1} → statement M
 admit-spec =
     tie.close
     (tie.spec
-    Inv-loop μ-loop (λ c. search needs) (λ c κs. search needs) (λ c κs. search needs) (λ c. search needs) (λ c κs. search needs)
-    (λ c κs. search needs) (λ c. search needs) (λ c. search needs) (λ c. search needs) (λ c. search needs) (λ c. search needs))
+    (λ notes₀ e n₀ notes n. (n ≤ 34) × Changed 8768 9856 notes₀ notes) (λ notes₀ e n₀ notes n. 34 - n)
+    (λ c. (omega arith, changed-none)) (λ c κs. search needs) (λ c κs. search needs) (λ c. search needs)
+    (λ c κs. search needs) (λ c κs. search needs) (λ c. search needs) (λ c. search needs)
+    (λ c. (omega arith, changed-more (c .before .before .before .before .before .before .before .before .before .loop .inv .1) (changed-set _ _ (omega arith) (omega arith) (c .before .before .set-note .ensures))))
+    (λ c. search needs) (λ c. c .before .loop .inv .1))

@@ -15,24 +15,33 @@ lay-requires c κs =
 
 initial-requires : tie.Need-initial-requires
 initial-requires c κs =
-    let entry = c .before .before .before .before .before .before .before in
+    let at-blank = c .before .before .before .before in
+    let entry = at-blank .before .before .before in
     lay-asks (entry .pre .0 .0 .1) (entry .pre .0 .1) .0
 
 by-test-requires : tie.Need-by-test-requires
 by-test-requires c κs =
-    let entry = c .before .before .before .before .before .before .before .before .before .before .before .before .before .before in
+    let at-outputs2 = c .before .before .before .before .before in
+    let at-blank2 = at-outputs2 .before .before .before .before .before in
+    let entry = at-blank2 .before .before .before .before in
     lay-asks (entry .pre .0 .0 .1) (entry .pre .0 .1) .0
 
 distinguish-requires : tie.Need-distinguish-requires
 distinguish-requires c κs =
-    let at-initial = c .before .before .before .before .before .before .before .before in
+    let at-match = c .before .before .before .before in
+    let at-initial = at-match .before .before .before .before in
     let at-lay = at-initial .before in
-    let entry = at-lay .before .before .before .before .before .before .before in
+    let at-blank = at-lay .before .before .before .before in
+    let entry = at-blank .before .before .before in
     let a = compare-asks (entry .pre .0 .0 .1) (entry .pre .0 .1) (at-lay .lay .ensures) (at-initial .initial .ensures) in (a .0, (a .1, entry .pre .1))
 
 by-reach-requires : tie.Need-by-reach-requires
 by-reach-requires c κs =
-    let entry = c .before .before .before .before .before .before .before .before .before .before .before .before .before .before .before .before .before .before .before .before .before in
+    let at-distinguish = c .before .before .before .before in
+    let at-match = at-distinguish .before .before .before .before .before in
+    let at-lay = at-match .before .before .before .before .before in
+    let at-blank = at-lay .before .before .before .before in
+    let entry = at-blank .before .before .before in
     lay-asks (entry .pre .0 .0 .1) (entry .pre .0 .1) .0
 
 returns : tie.Need-returns
@@ -41,7 +50,8 @@ returns c =
     let at-first-wrong = at-known-told .before .before .before in
     let at-initial = at-first-wrong .before .before .before in
     let at-lay = at-initial .before in
-    let entry = at-lay .before .before .before .before .before .before .before in
+    let at-blank = at-lay .before .before .before .before in
+    let entry = at-blank .before .before .before in
     λ sh f. blames f (entry .pre .0 .1) (c .by-test .ensures) (fails f (entry .pre .0 .1) (at-lay .lay .ensures) (at-initial .initial .ensures) (at-first-wrong .first-wrong .ensures) (at-known-told .before .test .given .1))
 
 returns-2 : tie.Need-returns-2
@@ -49,9 +59,11 @@ returns-2 c =
     let at-by-reach = c .before in
     let at-enum-told2 = at-by-reach .before in
     let at-distinguish = at-enum-told2 .before .before .before .before in
-    let at-initial = at-distinguish .before .before .before .before .before .before .before .before .before in
+    let at-match = at-distinguish .before .before .before .before .before in
+    let at-initial = at-match .before .before .before .before in
     let at-lay = at-initial .before in
-    let entry = at-lay .before .before .before .before .before .before .before in
+    let at-blank = at-lay .before .before .before .before in
+    let entry = at-blank .before .before .before in
     λ sh f. blames f (entry .pre .0 .1) (c .or-all .ensures _ _ _ (at-by-reach .by-reach .ensures _)) (conforms f (entry .pre .0 .1) (at-lay .lay .ensures) (at-initial .initial .ensures) (at-distinguish .distinguish .ensures .0) (at-enum-told2 .enum-told2 .given .1))
 
 returns-3 : tie.Need-returns-3
@@ -61,7 +73,8 @@ returns-3 c =
     let at-first-wrong = at-enum-told .before .before in
     let at-initial = at-first-wrong .before .before .before in
     let at-lay = at-initial .before in
-    let entry = at-lay .before .before .before .before .before .before .before in
+    let at-blank = at-lay .before .before .before .before in
+    let entry = at-blank .before .before .before in
     λ sh f. shown f (entry .pre .0 .1) (at-lay .lay .ensures) (at-initial .initial .ensures) (at-distinguish .distinguish .ensures .0) (at-first-wrong .first-wrong .ensures) (at-enum-told .enum-told .given .1) (c .before .d .given .1) _ (at-distinguish .distinguish .ensures .1)
 
 pub look-through-spec : {M : Type 1} → statement M

@@ -14,7 +14,8 @@ abbrev μ-loop : tie.MeasureT-loop
 
 settle-requires : tie.Need-settle-requires Inv-loop μ-loop
 settle-requires c κs =
-    let at-highest = c .before .before .before .before .before .before .before .before in
+    let at-before2 = c .before .before .before .before .before in
+    let at-highest = at-before2 .before .before .before in
     let inv = at-highest .before .before .loop .inv in
     (at-highest .highest .ensures .low, few-choices inv .0, blame-long inv)
 
@@ -64,7 +65,7 @@ advance-spec =
     (λ c κs. c .before .before .before .before .highest .ensures .low)
     settle-requires returns
     (λ c κs. search needs)
-    (λ c. record { fits = omega (arith, c .wide2 .ensures .0, c .before .before .before .before .before .before .before .highest .ensures .low) })
-    (λ c. omega (arith, c .wide2 .ensures .0, c .before .before .before .before .before .before .before .highest .ensures .low))
-    (λ c κs. few-choices (c .before .before .before .before .before .before .before .before .before .before .loop .inv))
+    (λ c. let at-before2 = c .before .before .before .before in record { fits = omega (arith, c .wide2 .ensures .0, at-before2 .before .before .before .highest .ensures .low) })
+    (λ c. let at-before2 = c .before .before .before .before in omega (arith, c .wide2 .ensures .0, at-before2 .before .before .before .highest .ensures .low))
+    (λ c κs. let at-before2 = c .before .before .before .before .before in few-choices (at-before2 .before .before .before .before .before .loop .inv))
     loop-less loop-again returns-2)

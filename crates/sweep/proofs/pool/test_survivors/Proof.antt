@@ -1,19 +1,17 @@
 use borrow.Author.Needs.{needs}
-use mathlib.Core.Path.{_≡_}
-use lib.ListN.{length}
+use native.Mathlib.Omega.{arith}
 use Prim.Native.Nat.{_≤_, _-_}
+use Rattle.leaves.specs.Noted.{Changed}
+use Rattle.leaves.specs.laws.NotedLaw.{changed-none, changed-more}
 use Rattle.sweep.proofs.pool.test_survivors.Statement.{statement}
 use Rattle.sweep.proofs.pool.test_survivors.Tie as tie
-
-abbrev Inv-loop : tie.InvT-loop
-Inv-loop block log notes₀ at w₀ notes w = (w ≤ 8) × (length notes ≡ length notes₀)
-
-abbrev μ-loop : tie.MeasureT-loop
-μ-loop block log notes₀ at w₀ notes w = 8 - w
 
 pub test-survivors-spec : {M : Type 1} → statement M
 test-survivors-spec =
     tie.close
     (tie.spec
-    Inv-loop μ-loop (λ c κs. search needs) (λ c. search needs) (λ c κs. search needs) (λ c. search needs) (λ c. search needs)
-    (λ c. search needs) (λ c. search needs) (λ c. search needs))
+    (λ block log notes₀ at w₀ notes w. (w ≤ 8) × Changed 9856 9872 notes₀ notes) (λ block log notes₀ at w₀ notes w. 8 - w)
+    (λ c κs. search needs) (λ c. (omega arith, changed-none)) (λ c κs. search needs) (λ c. search needs)
+    (λ c. search needs)
+    (λ c. (omega arith, changed-more (c .before .before .before .before .before .loop .inv .1) (c .before .before .test-one .ensures)))
+    (λ c. search needs) (λ c. changed-more (c .before .before .before .before .earn .ensures) (c .before .loop .inv .1)))

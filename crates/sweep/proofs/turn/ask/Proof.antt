@@ -6,7 +6,8 @@ use Rattle.sweep.proofs.turn.ask.Tie as tie
 
 returns : tie.Need-returns
 returns c =
-    let at-told-from = c .before .before .before .before .before .before in
+    let at-store = c .before .before .before .before .before in
+    let at-told-from = at-store .before in
     (at-told-from .told-from .ensures .0 .kept, asked-none (c .nothing .ensures))
 
 returns-2 : tie.Need-returns-2

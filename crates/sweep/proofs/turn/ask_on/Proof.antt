@@ -25,7 +25,8 @@ loop-holds c =
 ask-requires : tie.Need-ask-requires Inv-loop μ-loop
 ask-requires c κs =
     let at-loop = c .before .before .before in
-    let entry = at-loop .before .before .before .before .before .before .before .before in
+    let at-slots = at-loop .before .before .before .before in
+    let entry = at-slots .before .before .before .before in
     (entry .pre .0, at-loop .loop .inv .0, entry .pre .2)
 
 same-length : tie.Need-same-length Inv-loop μ-loop
@@ -47,20 +48,27 @@ returns c =
 
 later-requires : tie.Need-later-requires Inv-loop μ-loop
 later-requires c κs =
-    let at-loop-test = c .before .before .before .before .before .before .before .before .before .before .before .before .before .before in
+    let at-keep = c .before .before .before .before in
+    let at-notes = at-keep .before .before .before .before in
+    let at-ask = at-notes .before .before .before in
+    let at-loop-test = at-ask .before .before .before in
     let at-loop = at-loop-test .before in
     omega (arith, at-loop-test .loop-test .taken, at-loop .loop .inv .3)
 
 loop-less : tie.Need-loop-less Inv-loop μ-loop
 loop-less c =
-    let at-loop-test = c .before .before .before .before .before .before .before .before .before .before .before .before .before .before .before in
+    let at-keep = c .before .before .before .before .before in
+    let at-notes = at-keep .before .before .before .before in
+    let at-ask = at-notes .before .before .before in
+    let at-loop-test = at-ask .before .before .before in
     let at-loop = at-loop-test .before in
     omega (arith, c .later .ensures, at-loop-test .loop-test .taken, at-loop .loop .inv .3)
 
 loop-again : tie.Need-loop-again Inv-loop μ-loop
 loop-again c =
     let at-keep = c .before .before .before .before .before in
-    let at-ask = at-keep .before .before .before .before .before .before .before in
+    let at-notes = at-keep .before .before .before .before in
+    let at-ask = at-notes .before .before .before in
     let at-loop = at-ask .before .before .before .before in
     (at-ask .ask .ensures .0, at-ask .ask .kept .1 .1 .1 .0 ∙ at-loop .loop .inv .1, at-keep .keep .kept .0 ∙ at-ask .ask .kept .1 .1 .1 .1 .0 ∙ at-loop .loop .inv .2, at-loop .loop .inv .3)
 

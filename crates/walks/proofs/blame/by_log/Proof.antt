@@ -7,4 +7,4 @@ by-log-spec =
     tie.close
     (tie.spec
     (λ c κs. search needs) (λ c κs. search needs)
-    (λ c goal. c .told-of .ensures goal _ _ _ (c .before .walk-from .ensures goal)))
+    (λ c goal. c .told-of .ensures goal _ _ _ (c .before .walk-from .ensures .0 goal)))

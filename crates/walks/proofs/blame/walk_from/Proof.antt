@@ -1,6 +1,6 @@
 use borrow.Author.Needs.{needs}
 use native.Mathlib.Omega.{arith}
-use Rattle.walks.proofs.BlameLaw.{stands-before}
+use Rattle.walks.proofs.BlameLaw.{stands-before, starts}
 use Rattle.walks.proofs.blame.walk_from.Statement.{statement}
 use Rattle.walks.proofs.blame.walk_from.Tie as tie
 
@@ -11,4 +11,5 @@ pub walk-from-spec : {M : Type 1} → statement M
 walk-from-spec =
     tie.close
     (tie.spec
-    (λ c. search needs) (λ c. search needs) (λ c. search needs) (λ c. search needs) walk-requires (λ c. search needs))
+    (λ c. search needs) (λ c. search needs) (λ c. search needs) (λ c. search needs) walk-requires
+    (λ c. (c .walk .ensures, starts _ _ (c .walk .result) (omega arith) (c .before .if2 .left))))

@@ -8,5 +8,5 @@ by-pairs-spec =
     tie.close
     (tie.spec
     (λ c κs. search needs) (λ c κs. search needs) (λ c. search needs)
-    (λ c log st. none-conforming (c .before .before .before .before .before .before .spread .ensures (c .if1 .taken)))
+    (λ c log st. let at-spend = c .before .before .before .before in none-conforming (at-spend .before .before .spread .ensures (c .if1 .taken)))
     (λ c κs. search needs) (λ c. search needs) (λ c. search needs) (λ c. search needs) (λ c. search needs))

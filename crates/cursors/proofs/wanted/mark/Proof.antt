@@ -1,0 +1,14 @@
+use borrow.Author.Needs.{needs}
+use Rattle.cursors.proofs.MarkingLaw.{marked-none, marked-some}
+use Prim.Native.Nat.{_+_, _*_, _%_}
+use Rattle.cursors.proofs.wanted.mark.Statement.{statement}
+use Rattle.cursors.proofs.wanted.mark.Tie as tie
+
+pub mark-spec : {M : Type 1} → statement M
+mark-spec =
+    tie.close
+    (tie.spec
+    (λ c κs. search needs) (λ c. search needs) (λ c κs. search needs) (λ c κs. search needs) (λ c. search needs)
+    (λ c. marked-none _ _ (c .before .before .before .before .cell .ensures .0) (c .before .before .note .ensures) (c .before .less .ensures) (c .if1 .taken))
+    (λ c κs. search needs) (λ c. search needs) (λ c κs. search needs) (λ c κs. search needs) (λ c. search needs)
+    (λ c. let at-either = c .before .before .before in let at-set-hints = at-either .before .before .before .before in let at-note = at-set-hints .before .before .before .before in marked-some _ _ (at-note .before .before .cell .ensures .0) (at-note .before .before .cell .ensures .1) (at-note .note .ensures) (at-set-hints .set-hints .ensures) (at-either .either .ensures) (c .before .before .set-note .ensures)))

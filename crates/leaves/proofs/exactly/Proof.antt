@@ -1,0 +1,15 @@
+use borrow.Author.Needs.{needs}
+use native.Mathlib.Omega.{arith}
+use borrow.Author.Tests.{not-true, not-false}
+use Rattle.leaves.proofs.MembersLaw.{means-only}
+use Rattle.leaves.proofs.exactly.Statement.{statement}
+use Rattle.leaves.proofs.exactly.Tie as tie
+
+pub exactly-spec : {M : Type 1} → statement M
+exactly-spec =
+    tie.close
+    (tie.spec
+    (λ c κs. search needs)
+    (λ c. record { meant = λ h. absurd (c .before .among .ensures .1 (not-true _ (c .if1 .taken)) h); free = λ h. search needs })
+    (λ c κs. search needs) (λ c κs. search needs)
+    (λ c. record { meant = λ h. means-only (omega arith) (omega arith) (c .before .add .ensures) (omega arith); free = λ h. absurd (h (c .before .before .before .among .ensures .0 (not-false _ (c .before .before .if1 .left)))) }))

@@ -1,0 +1,2 @@
+pub mod MembersLaw
+pub mod NotedLaw

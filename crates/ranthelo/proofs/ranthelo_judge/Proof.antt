@@ -1,0 +1,15 @@
+-- The answer's numbers are those of the operation's answer, and the buffers hold what it writes.
+use borrow.Author.Needs.{needs}
+use mathlib.Core.Path.{ap, _∙_}
+use Rattle.ranthelo.specs.Numbers.{judgedNumbers}
+use Rattle.ranthelo.proofs.ranthelo_judge.Statement.{statement}
+use Rattle.ranthelo.proofs.ranthelo_judge.Tie as tie
+
+returns : tie.Need-returns
+returns c =
+    let e = c .before .before .before .before .before .before .judge .ensures in
+    (c .tell .ensures ∙ ap judgedNumbers (e .0), (e .1 .0, e .1 .1 .0))
+
+pub ranthelo-judge-spec : {M : Type 1} → statement M
+ranthelo-judge-spec =
+    tie.close (tie.spec (λ c κs. search needs) (λ c κs. search needs) (λ c. search needs) (λ c. search needs) returns)

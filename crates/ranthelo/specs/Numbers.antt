@@ -1,0 +1,63 @@
+-- The answers as numbers: a refusal's number and place first (0 and 0 where there is none), then the values, 0 on a refusal.
+use Prim.Native.Nat.{ℕ}
+use mathlib.Core.List.{List, [], _∷_}
+use Rattle.sheet.specs.declared.Reading.{Reading}
+use Rattle.sheet.specs.declared.Reading.the-variants as read
+use Rattle.sheet.specs.declared.Parting.{Parting}
+use Rattle.sheet.specs.declared.Parting.the-variants as part
+use Rattle.writing.specs.declared.Written.{Written}
+use Rattle.writing.specs.declared.Written.the-variants as written
+use Rattle.mutation.specs.declared.Ran.{Ran}
+use Rattle.mutation.specs.declared.Ran.the-variants as ran
+use Rattle.mutation.specs.declared.Failed.{Failed}
+use Rattle.mutation.specs.declared.Failed.the-variants as failed
+use Rattle.mutation.specs.declared.Compared.{Compared}
+use Rattle.mutation.specs.declared.Compared.the-variants as compared
+use Rattle.mutation.specs.declared.verdict.Judged.{Judged}
+use Rattle.mutation.specs.declared.verdict.Judged.the-variants as judged
+use Rattle.making.specs.declared.Made.{Made}
+use Rattle.making.specs.declared.Made.the-variants as made
+
+-- number, place; states, inputs, outputs (01: n, k, m), and how many RULEs, FAULTs, TESTs and open pairs
+abbrev pub readNumbers : Reading → List ℕ
+readNumbers (read.Accepted z) =
+    0 ∷ 0 ∷ z .states ∷ z .inputs ∷ z .outputs ∷ z .rules ∷ z .faults ∷ z .tests ∷ z .suspects ∷ []
+readNumbers (read.Refused number place) = number ∷ place ∷ 0 ∷ 0 ∷ 0 ∷ 0 ∷ 0 ∷ 0 ∷ 0 ∷ []
+
+-- number, place; start and length of the part
+abbrev pub partNumbers : Parting → List ℕ
+partNumbers (part.At span) = 0 ∷ 0 ∷ span .start ∷ span .length ∷ []
+partNumbers (part.Refused number place) = number ∷ place ∷ 0 ∷ 0 ∷ []
+
+-- number, place; the sheet's length
+abbrev pub writtenNumbers : Written → List ℕ
+writtenNumbers (written.Done length) = 0 ∷ 0 ∷ length ∷ []
+writtenNumbers (written.Refused number place) = number ∷ place ∷ 0 ∷ []
+
+-- number, place; how many slots are used, and the set of them
+abbrev pub ranNumbers : Ran → List ℕ
+ranNumbers (ran.Done u) = 0 ∷ 0 ∷ u .number ∷ u .set ∷ []
+ranNumbers (ran.Refused number place) = number ∷ place ∷ 0 ∷ 0 ∷ []
+
+-- number, place; 1 if a test fails, that test and the position of its first wrong output; how many slots are used, and the set of them
+abbrev pub failedNumbers : Failed → List ℕ
+failedNumbers (failed.Nothing u) = 0 ∷ 0 ∷ 0 ∷ 0 ∷ 0 ∷ u .number ∷ u .set ∷ []
+failedNumbers (failed.At test position u) = 0 ∷ 0 ∷ 1 ∷ test ∷ position ∷ u .number ∷ u .set ∷ []
+failedNumbers (failed.Refused number place) = number ∷ place ∷ 0 ∷ 0 ∷ 0 ∷ 0 ∷ 0 ∷ []
+
+-- number, place; 1 if the mutant differs, and the length of the sequence
+abbrev pub comparedNumbers : Compared → List ℕ
+comparedNumbers compared.Conforms = 0 ∷ 0 ∷ 0 ∷ 0 ∷ []
+comparedNumbers (compared.Differs d) = 0 ∷ 0 ∷ 1 ∷ d ∷ []
+comparedNumbers (compared.Refused number place) = number ∷ place ∷ 0 ∷ 0 ∷ []
+
+-- number, place; 1 if there is a survivor, and the length of its sequence
+abbrev pub judgedNumbers : Judged → List ℕ
+judgedNumbers judged.Complete = 0 ∷ 0 ∷ 0 ∷ 0 ∷ []
+judgedNumbers (judged.Survivor d) = 0 ∷ 0 ∷ 1 ∷ d ∷ []
+judgedNumbers (judged.Refused number place) = number ∷ place ∷ 0 ∷ 0 ∷ []
+
+-- number, place; the made sheet's length, and how many tests were appended
+abbrev pub madeNumbers : Made → List ℕ
+madeNumbers (made.Done length appended) = 0 ∷ 0 ∷ length ∷ appended ∷ []
+madeNumbers (made.Refused number place) = number ∷ place ∷ 0 ∷ 0 ∷ []
