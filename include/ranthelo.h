@@ -111,7 +111,7 @@ enum ranthelo_generate_answer {
 void ranthelo_generate(uint32_t seed, uint8_t states, uint8_t inputs, uint8_t outputs, uint8_t *buffer, size_t buffer_len,
                        size_t answer[RANTHELO_GENERATE_ANSWER]);
 
-/* Run a board on presses: one sound for each at the buffer's front. */
+/* Run a board on presses: one sound for each at the buffer's front, which has a byte or more for each press. */
 enum ranthelo_run_answer {
     RANTHELO_RUN_USED = 2,     /* how many open pairs were used */
     RANTHELO_RUN_USED_SET = 3, /* the set of them, bit 0 for the first pair */
@@ -134,7 +134,7 @@ enum ranthelo_first_failed_answer {
 void ranthelo_first_failed(const uint8_t *sheet, size_t sheet_len, const uint8_t *board, size_t board_len,
                            size_t answer[RANTHELO_FIRST_FAILED_ANSWER]);
 
-/* Compare: the shortest departing sequence at the buffer's front. */
+/* Compare: the shortest departing sequence at the buffer's front, which has n * n bytes or more, n being the states. */
 enum ranthelo_compare_answer {
     RANTHELO_COMPARE_DEPARTS = 2, /* 1 if the board departs */
     RANTHELO_COMPARE_LENGTH = 3,  /* the sequence's */
@@ -144,7 +144,8 @@ enum ranthelo_compare_answer {
 void ranthelo_compare(const uint8_t *sheet, size_t sheet_len, const uint8_t *board, size_t board_len, uint8_t *buffer,
                       size_t buffer_len, size_t answer[RANTHELO_COMPARE_ANSWER]);
 
-/* Judge: the first departing board that passes the list, and its shortest departing sequence, at the buffers' fronts. */
+/* Judge: the first departing board that passes the list, and its shortest departing sequence, at the buffers' fronts. The one has as many
+ * bytes as there are open pairs (RANTHELO_READ_OPEN_PAIRS) or more, the other n * n, for a complete list too. */
 enum ranthelo_judge_answer {
     RANTHELO_JUDGE_SURVIVES = 2, /* 0 for complete, 1 for a survivor */
     RANTHELO_JUDGE_LENGTH = 3,   /* the sequence's */

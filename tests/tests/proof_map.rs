@@ -142,6 +142,7 @@ fn every_operation_promises() {
         "generator/src/lib.rt",
         "mutation/src/lib.rt",
         "mutation/src/verdict.rt",
+        "making/src/lib.rt",
         "ranthelo/src/lib.rt",
         "report/src/lib.rt",
     ] {

@@ -80,12 +80,6 @@ finished state.Complete result m bytes log g not h = h
 finished state.Full result m bytes log g not h = h
 finished state.Unknown result m bytes log g not h = absurd (not refl)
 
-pub finished-either : (s : State) (result : Result Grown) (m bytes log : List ℕ) (g : Growth) → (tagOf the-type s ≡ 0) ⊎ (tagOf the-type s ≡ 1) → Reached s result m bytes log g → Finished s result bytes g
-finished-either state.Complete result m bytes log g h f = f
-finished-either state.Full result m bytes log g h f = f
-finished-either state.Unknown result m bytes log g (inl e) f = absurd (omega arith)
-finished-either state.Unknown result m bytes log g (inr e) f = absurd (omega arith)
-
 -- ---- the end
 pub made-inside : {result : Result Grown} {bytes : List ℕ} {end appended : ℕ} → Complete result bytes end appended → end ≤ length bytes
 made-inside c = omega (arith, c .short, c .long)

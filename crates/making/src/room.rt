@@ -5,7 +5,6 @@ use crate::grow::State;
 use crate::grow::grow;
 use block::BLOCK;
 use cubes::tables::FACTS;
-use leaves::SHORT;
 use logs::log_suite;
 use refutation::fresh_store;
 use refutation::prepare;
@@ -40,8 +39,8 @@ fn no_bytes() -> [u8; 16384]
     [0u8; 16384]
 }
 
-// With a store of refutations, where the block has facts for them.
-fn grow_thoroughly(block: &[u8; BLOCK], bytes: &mut [u8], log: &mut [u16], from: Growth) -> Growth
+// With a store of refutations, where the block has facts for them; otherwise with the least one, so that no sweep gives up.
+fn grow_whole(block: &[u8; BLOCK], bytes: &mut [u8], log: &mut [u16], from: Growth) -> Growth
     requires { ⌜ ((result : Result Grown) × (sh : Sheet) × GrowingIn result sh (now block) (now bytes) (now log) from) ⌝ }
     ensures { λ r. ⌜ ((result : Result Grown) (sh : Sheet) → GrowingIn result sh (now (block .entry)) (now (bytes .entry)) (now (log .entry)) from → Finished (r .state) result (now (bytes .exit)) r) ⌝ }
 {
@@ -53,22 +52,6 @@ fn grow_thoroughly(block: &[u8; BLOCK], bytes: &mut [u8], log: &mut [u16], from:
     }
     let mut small = [0u32; 1];
     grow(block, &mut facts, &mut small, &mut notes, bytes, log, from)
-}
-
-// First without a store, which is enough for most sheets.
-fn grow_whole(block: &[u8; BLOCK], bytes: &mut [u8], log: &mut [u16], from: Growth) -> Growth
-    requires { ⌜ ((result : Result Grown) × (sh : Sheet) × GrowingIn result sh (now block) (now bytes) (now log) from) ⌝ }
-    ensures { λ r. ⌜ ((result : Result Grown) (sh : Sheet) → GrowingIn result sh (now (block .entry)) (now (bytes .entry)) (now (log .entry)) from → Finished (r .state) result (now (bytes .exit)) r) ⌝ }
-{
-    let mut facts = no_facts();
-    let mut store = [0u32; 0];
-    let mut notes = [0u16; SHORT];
-    let quick = grow(block, &mut facts, &mut store, &mut notes, bytes, log, from);
-    let state = quick.state;
-    match state {
-        State::Unknown => grow_thoroughly(block, bytes, log, quick),
-        State::Complete | State::Full => quick,
-    }
 }
 
 // The made sheet to the buffer's front; nothing where it does not fit.

@@ -12,7 +12,7 @@ use Rattle.sheet.specs.Reading.{Result, accepted, refused, reading, withTests}
 use Rattle.model.specs.Suite.{Judgement, complete, survivor, judgeOf}
 use Rattle.model.specs.Implementation.{Guaranteed}
 use Rattle.model.specs.Operations.{reads, refuseIf}
-use Rattle.model.specs.Verdict.{RightOn, ShortestOf, Survives, FirstSurvivor, Complete}
+use Rattle.model.specs.Verdict.{RightOn, ShortestOf, FirstSurvivor, Complete}
 use Rattle.model.specs.Longer.{withTest}
 
 -- a sheet whose suite is judged complete, and how many of its tests were appended
@@ -43,10 +43,11 @@ unfoldable pub making : List ℕ → ℕ → Result Grown
 making s room = reads (reading s) (λ sh. makeOn sh room)
 
 -- ---- what it means
--- the test xs is needed after the tests ts: some nonconforming mutant that passes all of them fails it
+-- the test xs is the verdict's sequence after the tests ts; so some nonconforming mutant that passes all of them fails it
 pub record Needed (sh : Sheet) (ts : List (List ℕ)) (xs : List ℕ) : Type 0 where
   pub mutant : List ℕ
-  pub survives : Survives (withTests sh ts) mutant
+  pub first : FirstSurvivor (withTests sh ts) mutant
+  pub shortest : ShortestOf (withTests sh ts) mutant xs
   pub fails : RightOn sh mutant xs → ⊥
 
 -- each of the tests us, appended to ts one after another, is needed where it was appended

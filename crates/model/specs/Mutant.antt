@@ -1,4 +1,4 @@
--- Mutants of a sheet (01: boards): one transition chosen at each suspect (01: open pair).
+-- Mutants of a sheet (01: boards): one transition chosen at each suspect (01: open pair), and where it wakes.
 use Prim.Native.Nat.{ℕ, zero, suc, _+_, _<_}
 use mathlib.Core.Bool.{cond, _&&_}
 use mathlib.Core.Option.{Option, none, some}

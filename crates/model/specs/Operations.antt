@@ -40,7 +40,7 @@ firstOver k (x ∷ xs) =
     let rest = later (firstOver k xs) in
     cond (ltb x k) rest (some zero)
 
--- 13: the mutant's length is not the number of suspects; 14: a choice out of range
+-- 13: the mutant's length is not the number of slots; 14: a choice out of range
 unfoldable pub withMutant : {A : Type 0} → Sheet → List ℕ → Result A → Result A
 withMutant sh b r = refuseIf (not (eqb (length b) (length (slots sh)))) 13 0 (refuseAt (firstHigh (slots sh) b) 14 r)
 
@@ -71,7 +71,7 @@ compareOn sh b room = withMutant sh b (refuseIf (ltb room (sh .size .states * sh
 unfoldable pub comparing : List ℕ → List ℕ → ℕ → Result (Option (List ℕ))
 comparing s b room = reads (reading s) (λ sh. compareOn sh b room)
 
--- Judge: 16 at place 0 for a board buffer shorter than the number of suspects, then 16 at place 1 for a sequence buffer
+-- Judge: 16 at place 0 for a board buffer shorter than the number of slots, then 16 at place 1 for a sequence buffer
 -- shorter than n × n
 unfoldable pub judgeOn : Sheet → ℕ → ℕ → Result Judgement
 judgeOn sh boardRoom sequenceRoom =

@@ -61,7 +61,7 @@ baa = 0x04 ∷ 0x05 ∷ 1 ∷ 0x05 ∷ 0 ∷ 0x05 ∷ 0 ∷ []
 unfoldable pub full : ℕ → List ℕ → List ℕ
 full n tests = p1machine ++ (replicate n 0x04 ++ (tests ++ 0x06 ∷ []))
 
--- incomplete lists, complete ones, no room for one test more, a short buffer, no sheet; with START; with QUIET
+-- incomplete lists, complete ones, no room for one test more; with START; with QUIET; a short buffer, which comes first; no sheet
 unfoldable pub rows : List MadeRow
 rows =
     row p1 16384 (made (p1machine ++ (ab ++ (aba ++ 0x06 ∷ []))) 1)
@@ -75,12 +75,13 @@ rows =
     ∷ row p1start 16384 (made (p1machine ++ 0x07 ∷ 1 ∷ (ab ++ (aba ++ 0x06 ∷ []))) 1)
     ∷ row p4quiet 16384 (made (p4silent ++ (ab ++ (aba ++ 0x06 ∷ []))) 1)
     ∷ row p1 16383 (refused 16 0)
+    ∷ row (full 256 []) 16383 (refused 16 0)
     ∷ row [] 0 (refused 2 0)
     ∷ []
 
 pub rows-hold : AllHold rows
 unfolding computing rows full AllHold encode body growFrom makeOn making
-rows-hold = (refl, (refl, (refl, (refl, (refl, (refl, (refl, (refl, (refl, (refl, (refl, (refl, tt))))))))))))
+rows-hold = (refl, (refl, (refl, (refl, (refl, (refl, (refl, (refl, (refl, (refl, (refl, (refl, (refl, tt)))))))))))))
 
 -- ---- P9, made complete by two tests
 -- its conforming mutants are compared over all sequences of 16 inputs: a quicker judgement, proved to be the same, computes it

@@ -1,2 +1,2 @@
--- What the crate's own functions say to one another: no promise to a user rests on it.
+-- What the functions that spell promise: no promise to a user rests on it.
 pub mod Spelled

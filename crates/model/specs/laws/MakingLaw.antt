@@ -69,14 +69,14 @@ each-longer : (sh : Sheet) (vs ts us : List (List ℕ)) → EachNeeded (withTest
 unfolding EachNeeded
 each-longer sh vs ts [] n = tt
 each-longer sh vs ts (xs ∷ us) n = (
-  record { mutant = n .0 .mutant; survives = n .0 .survives; fails = λ right. n .0 .fails (right-longer sh vs (n .0 .mutant) xs right) },
+  record { mutant = n .0 .mutant; first = n .0 .first; shortest = n .0 .shortest; fails = λ right. n .0 .fails (right-longer sh vs (n .0 .mutant) xs right) },
   each-longer sh vs (ts ++ xs ∷ []) us (n .1),
 )
 
 -- the verdict of a sheet is a survivor with this sequence
 module _ (sh : Sheet) (b xs : List ℕ) (first : FirstSurvivor sh b) (shortest : ShortestOf sh b xs) where
   here : Needed sh (sh .tests) xs
-  here = record { mutant = b; survives = first .survives; fails = distinguished-wrong sh b xs shortest }
+  here = record { mutant = b; first = first; shortest = shortest; fails = distinguished-wrong sh b xs shortest }
 
   -- what is appended after it
   joins : (added : List (List ℕ)) → (sh .tests ++ xs ∷ []) ++ added ≡ sh .tests ++ xs ∷ added
