@@ -17,7 +17,8 @@ use Rattle.generator.proofs.spell.Tie as tie
 
 mul-ruled : tie.Need-mul-ruled
 mul-ruled c =
-    let entry = c .before .before .before .before .before .before .before in
+    let at-rules = c .before .before .before .before .before in
+    let entry = at-rules .before .before in
     omega (arith, few-pairs (entry .args .size) (entry .pre .0), c .pairs-of .ensures)
 
 mul-faulted : tie.Need-mul-faulted
@@ -46,14 +47,16 @@ array-share-prefix-faults c =
 
 slice-aggregate-write-2 : tie.Need-slice-aggregate-write-2
 slice-aggregate-write-2 c =
-    let at-put-pairs = c .before .before .before .before .before .before in
+    let at-rules2 = c .before .before .before .before .before in
+    let at-put-pairs = at-rules2 .before in
     let entry = at-put-pairs .before .before .before .before in
     sym (length-take-le _ _ (standing-inside (entry .args .size) (entry .args .seed) (at-put-pairs .put-pairs .ensures) (blank-ready (entry .pre .0)) (omega arith) .1))
 
 returns : tie.Need-returns
 returns c =
     let at-write = c .before .before in
-    let at-pairs-of = at-write .before .before .before .before .before .before .before .before in
+    let at-faults3 = at-write .before .before .before .before .before in
+    let at-pairs-of = at-faults3 .before .before .before in
     let at-put-pairs = at-pairs-of .before .before .before in
     let entry = at-put-pairs .before .before .before .before in
     let a = entry .args in

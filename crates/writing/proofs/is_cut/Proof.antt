@@ -15,14 +15,16 @@ returns c size quiet starts = rw (ne-eqb (length (c .before .before .before .bef
 returns-2 : tie.Need-returns-2
 unfolding isCut
 returns-2 c size quiet starts =
-    let entry = c .before .before .before .before .before .before in
+    let at-shared-slice-known = c .before .before .before .before .before in
+    let entry = at-shared-slice-known .before in
     let a = entry .args in
     rw (eq-eqb (length (a .rules .now) % 4) 0 (c .before .if1 .left), ne-eqb (length (a .faults .now) % 4) 0 (c .if2 .taken)) refl
 
 returns-3 : tie.Need-returns-3
 unfolding isCut
 returns-3 c size quiet starts =
-    let entry = c .before .before .before .before .before .before .before in
+    let at-shared-slice-known2 = c .before .before .before .before .before in
+    let entry = at-shared-slice-known2 .before .before in
     let a = entry .args in
     rw (eq-eqb (length (a .rules .now) % 4) 0 (c .before .before .if1 .left), eq-eqb (length (a .faults .now) % 4) 0 (c .before .if2 .left), c .adds-up .ensures) refl
 

@@ -12,7 +12,8 @@ use Rattle.writing.proofs.write.Tie as tie
 
 returns : tie.Need-returns
 returns c =
-    let entry = c .before .before .before .before .before .before .before .before in
+    let at-shared-slice-known3 = c .before .before .before .before .before in
+    let entry = at-shared-slice-known3 .before .before .before in
     let a = entry .args in
     let d = drawing (a .size) (a .quiet) (a .rules .now) (a .faults .now) (a .starts .now) (a .lengths .now) (a .presses .now) in
     write-cut d (length (a .buffer .now)) (a .buffer .now) (sym (c .before .is-cut .ensures (a .size) (a .quiet) (a .starts .now)) ∙ c .if1 .taken)
@@ -20,7 +21,8 @@ returns c =
 returns-2 : tie.Need-returns-2
 returns-2 c =
     let at-is-cut = c .before .before .before in
-    let entry = at-is-cut .before .before .before .before .before .before .before in
+    let at-shared-slice-known2 = at-is-cut .before .before .before .before .before in
+    let entry = at-shared-slice-known2 .before .before in
     let a = entry .args in
     let d = drawing (a .size) (a .quiet) (a .rules .now) (a .faults .now) (a .starts .now) (a .lengths .now) (a .presses .now) in
     write-long d (length (a .buffer .now)) (sym (at-is-cut .is-cut .ensures (a .size) (a .quiet) (a .starts .now)) ∙ c .before .before .if1 .left) (c .before .is-long .result) (c .before .is-long .ensures) (a .buffer .now) (c .if2 .taken)
@@ -29,7 +31,8 @@ spell-requires : tie.Need-spell-requires
 spell-requires c κs =
     let at-if1 = c .before .before .before in
     let at-is-cut = at-if1 .before in
-    let entry = at-is-cut .before .before .before .before .before .before .before in
+    let at-shared-slice-known2 = at-is-cut .before .before .before .before .before in
+    let entry = at-shared-slice-known2 .before .before in
     let a = entry .args in
     let d = drawing (a .size) (a .quiet) (a .rules .now) (a .faults .now) (a .starts .now) (a .lengths .now) (a .presses .now) in
     (omega (arith, whole d (sym (at-is-cut .is-cut .ensures (a .size) (a .quiet) (a .starts .now)) ∙ at-if1 .if1 .left) .tests), spell-room d (length (a .buffer .now)) (sym (at-is-cut .is-cut .ensures (a .size) (a .quiet) (a .starts .now)) ∙ at-if1 .if1 .left) (c .before .before .is-long .result) (c .before .before .is-long .ensures) (c .before .if2 .left))
@@ -40,7 +43,8 @@ array-share-prefix-sheet c =
     let at-is-long = at-if2 .before in
     let at-if1 = at-is-long .before in
     let at-is-cut = at-if1 .before in
-    let entry = at-is-cut .before .before .before .before .before .before .before in
+    let at-shared-slice-known2 = at-is-cut .before .before .before .before .before in
+    let entry = at-shared-slice-known2 .before .before in
     let a = entry .args in
     let d = drawing (a .size) (a .quiet) (a .rules .now) (a .faults .now) (a .starts .now) (a .lengths .now) (a .presses .now) in
     spelled-inside d (length (a .buffer .now)) (sym (at-is-cut .is-cut .ensures (a .size) (a .quiet) (a .starts .now)) ∙ at-if1 .if1 .left) (at-is-long .is-long .result) (at-is-long .is-long .ensures) (at-if2 .if2 .left) (c .before .spell .ensures)
@@ -51,18 +55,21 @@ slice-aggregate-put c =
     let at-is-long = at-if2 .before in
     let at-if1 = at-is-long .before in
     let at-is-cut = at-if1 .before in
-    let entry = at-is-cut .before .before .before .before .before .before .before in
+    let at-shared-slice-known2 = at-is-cut .before .before .before .before .before in
+    let entry = at-shared-slice-known2 .before .before in
     let a = entry .args in
     let d = drawing (a .size) (a .quiet) (a .rules .now) (a .faults .now) (a .starts .now) (a .lengths .now) (a .presses .now) in
     sym (length-take-le _ _ (spelled-inside d (length (a .buffer .now)) (sym (at-is-cut .is-cut .ensures (a .size) (a .quiet) (a .starts .now)) ∙ at-if1 .if1 .left) (at-is-long .is-long .result) (at-is-long .is-long .ensures) (at-if2 .if2 .left) (c .before .before .spell .ensures)))
 
 returns-3 : tie.Need-returns-3
 returns-3 c =
-    let at-spell = c .before .before .before .before .before .before in
+    let at-sheet2 = c .before .before .before .before .before in
+    let at-spell = at-sheet2 .before in
     let at-is-long = at-spell .before .before .before in
     let at-if1 = at-is-long .before in
     let at-is-cut = at-if1 .before in
-    let entry = at-is-cut .before .before .before .before .before .before .before in
+    let at-shared-slice-known2 = at-is-cut .before .before .before .before .before in
+    let entry = at-shared-slice-known2 .before .before in
     let a = entry .args in
     let d = drawing (a .size) (a .quiet) (a .rules .now) (a .faults .now) (a .starts .now) (a .lengths .now) (a .presses .now) in
     write-spelled d (length (a .buffer .now)) (sym (at-is-cut .is-cut .ensures (a .size) (a .quiet) (a .starts .now)) ∙ at-if1 .if1 .left) (at-is-long .is-long .result) (at-is-long .is-long .ensures)

@@ -12,10 +12,11 @@ put-requires c κs =
 
 returns-2 : tie.Need-returns-2
 returns-2 c =
-    let entry = c .before .before .before .before .before .before .before .before .before in
-    let i = c .before .before .before .before .before .before .wide in
-    let o = c .before .before .before .before .before .wide2 in
-    entered (i .result * 16 + o .result) (512 + c .before .wide3 .result) (entry .pre .0) (entry .pre .1) (entry .pre .2) (entry .pre .3) (entry .pre .4) (c .before .before .before .before .before .before .before .before .transition .ensures) (omega (arith, c .before .before .before .before .before .before .before .if1 .left)) (rw (i .ensures .0, o .ensures .0)) (rw (c .before .wide3 .ensures .0)) (c .before .before .before .put .ensures) (c .put2 .ensures)
+    let at-wide2 = c .before .before .before .before .before in
+    let entry = at-wide2 .before .before .before .before in
+    let i = at-wide2 .before .wide in
+    let o = at-wide2 .wide2 in
+    entered (i .result * 16 + o .result) (512 + c .before .wide3 .result) (entry .pre .0) (entry .pre .1) (entry .pre .2) (entry .pre .3) (entry .pre .4) (at-wide2 .before .before .before .transition .ensures) (omega (arith, at-wide2 .before .before .if1 .left)) (rw (i .ensures .0, o .ensures .0)) (rw (c .before .wide3 .ensures .0)) (c .before .before .before .put .ensures) (c .put2 .ensures)
 
 pub enter-spec : {M : Type 1} → statement M
 enter-spec =

@@ -15,8 +15,10 @@ abbrev μ-loop : tie.MeasureT-loop
 
 enter-requires : tie.Need-enter-requires Inv-loop μ-loop
 enter-requires c κs =
-    let i = c .before .before .before .before .before .site .ensures in
-    (c .before .before .before .before .before .before .pre .0, c .before .before .before .before .before .before .pre .1, i, omega (arith, i, c .before .before .before .before .before .before .pre .0 .sites (c .before .before .before .before .before .before .args .k) (c .before .before .before .before .before .before .pre .1) (rw i at (c .before .before .before .before .if1 .left))), rw (c .before .before .before .choices .ensures) at (c .before .loop-test .taken), c .before .before .loop .inv .grows .long ∙ c .before .before .before .before .before .before .pre .2)
+    let at-site = c .before .before .before .before .before in
+    let at-entry = at-site .before in
+    let i = at-site .site .ensures in
+    (at-entry .pre .0, at-entry .pre .1, i, omega (arith, i, at-entry .pre .0 .sites (at-entry .args .k) (at-entry .pre .1) (rw i at (c .before .before .before .before .if1 .left))), rw (c .before .before .before .choices .ensures) at (c .before .loop-test .taken), c .before .before .loop .inv .grows .long ∙ at-entry .pre .2)
 
 pub enter-pair-spec : {M : Type 1} → statement M
 enter-pair-spec =

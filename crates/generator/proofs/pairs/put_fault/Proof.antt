@@ -25,7 +25,8 @@ returns-3 c =
 
 returns-4 : tie.Need-returns-4
 returns-4 c =
-    let at-if3 = c .before .before .before .before .before .before .before in
+    let at-struct-known3 = c .before .before .before .before .before in
+    let at-if3 = at-struct-known3 .before .before in
     let at-if2 = at-if3 .before in
     let at-if1 = at-if2 .before .before in
     let entry = at-if1 .before .before .before in

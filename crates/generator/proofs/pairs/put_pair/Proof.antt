@@ -32,17 +32,20 @@ draw-pair-requires c κs =
 
 mul-put : tie.Need-mul-put
 mul-put c =
-    let entry = c .before .before .before .before .before .before in
+    let at-slice-known = c .before .before .before .before .before in
+    let entry = at-slice-known .before in
     omega (arith, few-pairs (entry .args .size) (entry .pre .0 .size), entry .pre .1 .0)
 
 put-requires : tie.Need-put-requires
 put-requires c κs =
-    let entry = c .before .before .before .before .before .before in
+    let at-slice-known = c .before .before .before .before .before in
+    let entry = at-slice-known .before in
     omega (arith, few-pairs (entry .args .size) (entry .pre .0 .size), entry .pre .1 .0, entry .pre .0 .rules)
 
 put-fault-requires : tie.Need-put-fault-requires
 put-fault-requires c κs =
-    let at-draw-pair = c .before .before .before .before .before .before in
+    let at-rule = c .before .before .before .before .before in
+    let at-draw-pair = at-rule .before in
     let entry = at-draw-pair .before .before .before .before in
     let z = entry .args .size in
     let w = entry .pre .0 .size in
@@ -52,7 +55,8 @@ put-fault-requires c κs =
 
 returns : tie.Need-returns
 returns c =
-    let at-put = c .before .before .before .before .before .before in
+    let at-rules = c .before .before .before .before .before in
+    let at-put = at-rules .before in
     let at-draw-pair = at-put .before .before .before in
     let entry = at-draw-pair .before .before .before .before in
     pair-put (entry .args .size) (entry .args .i) (entry .args .place) (at-draw-pair .draw-pair .result) (c .before .before .put-fault .result) _ _ _ _ (at-draw-pair .draw-pair .ensures) (at-put .put .ensures) (c .before .before .put-fault .ensures)

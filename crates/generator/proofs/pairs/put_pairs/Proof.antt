@@ -32,14 +32,16 @@ put-pair-requires c κs =
 
 add-i : tie.Need-add-i Inv-loop μ-loop
 add-i c =
-    let at-loop-test = c .before .before .before .before .before .before .before in
+    let at-put-pair = c .before .before .before .before in
+    let at-loop-test = at-put-pair .before .before .before in
     let at-pairs-of = at-loop-test .before .before in
     let entry = at-pairs-of .before .before .before in
     omega (arith, at-loop-test .loop-test .taken, at-pairs-of .pairs-of .ensures, few-pairs (entry .args .size) (entry .pre .size))
 
 loop-less : tie.Need-loop-less Inv-loop μ-loop
 loop-less c =
-    let at-loop-test = c .before .before .before .before .before .before .before in
+    let at-put-pair = c .before .before .before .before in
+    let at-loop-test = at-put-pair .before .before .before in
     omega (arith, at-loop-test .loop-test .taken)
 
 loop-again : tie.Need-loop-again Inv-loop μ-loop

@@ -50,7 +50,8 @@ place-requires-2 c κs =
 
 add-i : tie.Need-add-i Inv-loop μ-loop
 add-i c =
-    let at-loop = c .before .before .before .before .before .before in
+    let at-loop-test = c .before .before .before .before .before in
+    let at-loop = at-loop-test .before in
     let entry = at-loop .before .before in
     omega (arith, at-loop .loop .inv .counts, entry .fits .d)
 

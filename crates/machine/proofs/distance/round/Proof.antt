@@ -29,22 +29,26 @@ cell-requires c κs =
 
 mul-if1 : tie.Need-mul-if1 Inv-loop μ-loop
 mul-if1 c =
-    let entry = c .before .before .before .before .before .before in
+    let at-loop = c .before .before .before in
+    let entry = at-loop .before .before .before in
     omega (arith, entry .pre .0 .formed .few-states)
 
 element-copy-out-if1 : tie.Need-element-copy-out-if1 Inv-loop μ-loop
 element-copy-out-if1 c =
-    let entry = c .before .before .before .before .before .before in
+    let at-loop = c .before .before .before in
+    let entry = at-loop .before .before .before in
     omega (arith, entry .pre .0 .formed .few-states)
 
 mul-dist : tie.Need-mul-dist Inv-loop μ-loop
 mul-dist c =
-    let entry = c .before .before .before .before .before .before .before .before in
+    let at-loop = c .before .before .before .before .before in
+    let entry = at-loop .before .before .before in
     omega (arith, entry .pre .0 .formed .few-states)
 
 element-write-dist : tie.Need-element-write-dist Inv-loop μ-loop
 element-write-dist c =
-    let entry = c .before .before .before .before .before .before .before .before in
+    let at-loop = c .before .before .before .before .before in
+    let entry = at-loop .before .before .before in
     omega (arith, entry .pre .0 .formed .few-states)
 
 following-requires : tie.Need-following-requires Inv-loop μ-loop

@@ -33,7 +33,8 @@ lay-requires c κs =
 
 returns-2 : tie.Need-returns-2
 returns-2 c =
-    let at-fits2 = c .before .before .before .before .before .before in
+    let at-match = c .before .before .before .before .before in
+    let at-fits2 = at-match .before in
     let at-initial = at-fits2 .before .before .before in
     let at-widened = at-initial .before .before in
     λ sh tb. machined tb (at-widened .widened .ensures) (at-fits2 .fits2 .ensures sh tb) (at-initial .initial .ensures) (λ is. c .lay .ensures)

@@ -7,18 +7,24 @@ use Rattle.mirror.proofs.reflection.reflect.Tie as tie
 
 element-copy-out-means : tie.Need-element-copy-out-means
 element-copy-out-means c =
-    let entry = c .before .before .before .before .before .before in
+    let at-if1 = c .before .before .before .before .before in
+    let entry = at-if1 .before in
     omega (arith, c .wide2 .ensures, c .before .site .ensures, entry .pre .0 .sites (entry .args .k) (entry .pre .2) (entry .pre .3))
 
 images-requires : tie.Need-images-requires
 images-requires c κs =
-    let entry = c .before .before .before .before .before .before .before .before .before .before .before .before in
-    (entry .pre .0, rw (c .before .before .before .before .before .before .before .before .before .before .wide .ensures .0) (entry .pre .1 .at (entry .args .a) (omega (arith, c .before .before .before .before .before .before .before .before .before .before .before .if1 .left))), omega (arith, c .before .before .before .before .before .before .before .before .before .before .before .if1 .left))
+    let at-if3 = c .before .before .before in
+    let at-if2 = at-if3 .before .before .before .before .before in
+    let at-if1 = at-if2 .before .before .before in
+    let entry = at-if1 .before in
+    (entry .pre .0, rw (at-if2 .before .before .wide .ensures .0) (entry .pre .1 .at (entry .args .a) (omega (arith, at-if1 .if1 .left))), omega (arith, at-if1 .if1 .left))
 
 returns-5 : tie.Need-returns-5
 returns-5 c =
-    let entry = c .before .before .before .before .before .before .before .before .before .before .before .before .before .before .before in
-    reflect-some (entry .pre .0) (entry .pre .2) (entry .pre .3) (c .before .before .before .before .before .before .before .before .before .before .site .ensures) (rw (c .before .before .before .before .before .before .before .before .before .wide2 .ensures .0) at (c .before .before .before .before .before .before .before .means .ensures (not-false _ (c .before .before .before .before .before .before .if3 .left)))) (c .before .before .before .before .before .silent .ensures (not-false _ (c .before .before .before .before .if4 .left))) (c .before .before .images .ensures) (λ e. omega (arith, e, c .before .literal .ensures .0)) (c .before .literal .ensures .1) (c .before .literal .ensures .2) (c .note .ensures)
+    let at-silent = c .before .before .before .before .before in
+    let at-site = at-silent .before .before .before .before .before in
+    let entry = at-site .before .before .before .before .before in
+    reflect-some (entry .pre .0) (entry .pre .2) (entry .pre .3) (at-site .site .ensures) (rw (at-silent .before .before .before .before .wide2 .ensures .0) at (at-silent .before .before .means .ensures (not-false _ (at-silent .before .if3 .left)))) (at-silent .silent .ensures (not-false _ (c .before .before .before .before .if4 .left))) (c .before .before .images .ensures) (λ e. omega (arith, e, c .before .literal .ensures .0)) (c .before .literal .ensures .1) (c .before .literal .ensures .2) (c .note .ensures)
 
 pub reflect-spec : {M : Type 1} → statement M
 reflect-spec =

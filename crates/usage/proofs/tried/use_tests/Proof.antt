@@ -38,7 +38,8 @@ mark-test-requires c κs =
 
 add-t : tie.Need-add-t Inv-loop μ-loop
 add-t c =
-    let entry = c .before .before .before .before .before .before .before .before .before in
+    let at-loop-test = c .before .before .before .before .before in
+    let entry = at-loop-test .before .before .before .before in
     omega (arith, entry .pre .few)
 
 loop-again : tie.Need-loop-again Inv-loop μ-loop

@@ -13,12 +13,14 @@ bytes-requires c κs =
 
 same-length : tie.Need-same-length
 same-length c =
-    let at-byte = c .before .before .before .before .before .before in
+    let at-sheet = c .before .before .before .before .before in
+    let at-byte = at-sheet .before in
     c .before .before .bytes .ensures .long ∙ at-byte .byte .ensures .long
 
 returns : tie.Need-returns
 returns c =
-    let at-byte = c .before .before .before .before .before .before in
+    let at-sheet = c .before .before .before .before .before in
+    let at-byte = at-sheet .before in
     spelled-both (at-byte .byte .ensures) (c .before .before .bytes .ensures)
 
 pub command-spec : {M : Type 1} → statement M

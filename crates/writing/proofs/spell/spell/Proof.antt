@@ -16,7 +16,8 @@ use Rattle.writing.proofs.spell.spell.Tie as tie
 command-requires : tie.Need-command-requires
 unfolding sheetOf
 command-requires c κs =
-    let entry = c .before .before .before .before .before .before .before .before in
+    let at-shared-slice-known3 = c .before .before .before .before .before in
+    let entry = at-shared-slice-known3 .before .before .before in
     let a = entry .args in
     let d = drawing (a .size) (a .quiet) (a .rules .now) (a .faults .now) (a .starts .now) (a .lengths .now) (a .inputs .now) in
     omega (arith, entry .pre .1, parts-length (sheetOf d))
@@ -25,7 +26,8 @@ quieted-requires : tie.Need-quieted-requires
 unfolding sheetOf
 quieted-requires c κs =
     let at-command = c .before .before .before in
-    let entry = at-command .before .before .before .before .before .before .before .before .before in
+    let at-shared-slice-known4 = at-command .before .before .before .before .before in
+    let entry = at-shared-slice-known4 .before .before .before .before in
     let a = entry .args in
     let d = drawing (a .size) (a .quiet) (a .rules .now) (a .faults .now) (a .starts .now) (a .lengths .now) (a .inputs .now) in
     omega (arith, entry .pre .1, parts-length (sheetOf d), at-command .command .ensures .long, at-command .command .ensures .many)
@@ -35,7 +37,8 @@ unfolding sheetOf
 rows-requires c κs =
     let at-quieted = c .before .before .before in
     let at-command = at-quieted .before .before .before .before in
-    let entry = at-command .before .before .before .before .before .before .before .before .before in
+    let at-shared-slice-known4 = at-command .before .before .before .before .before in
+    let entry = at-shared-slice-known4 .before .before .before .before in
     let a = entry .args in
     let d = drawing (a .size) (a .quiet) (a .rules .now) (a .faults .now) (a .starts .now) (a .lengths .now) (a .inputs .now) in
     omega (arith, entry .pre .1, parts-length (sheetOf d), at-command .command .ensures .long, at-command .command .ensures .many, at-quieted .quieted .ensures .long, at-quieted .quieted .ensures .many)
@@ -46,7 +49,8 @@ rows-requires-2 c κs =
     let at-rows = c .before .before .before in
     let at-quieted = at-rows .before .before .before .before in
     let at-command = at-quieted .before .before .before .before in
-    let entry = at-command .before .before .before .before .before .before .before .before .before in
+    let at-shared-slice-known4 = at-command .before .before .before .before .before in
+    let entry = at-shared-slice-known4 .before .before .before .before in
     let a = entry .args in
     let d = drawing (a .size) (a .quiet) (a .rules .now) (a .faults .now) (a .starts .now) (a .lengths .now) (a .inputs .now) in
     omega (arith, entry .pre .1, parts-length (sheetOf d), at-command .command .ensures .long, at-command .command .ensures .many, at-quieted .quieted .ensures .long, at-quieted .quieted .ensures .many, at-rows .rows .ensures .long, at-rows .rows .ensures .many)
@@ -58,7 +62,8 @@ operands-requires c κs =
     let at-rows = at-rows2 .before .before .before .before in
     let at-quieted = at-rows .before .before .before .before in
     let at-command = at-quieted .before .before .before .before in
-    let entry = at-command .before .before .before .before .before .before .before .before .before in
+    let at-shared-slice-known4 = at-command .before .before .before .before .before in
+    let entry = at-shared-slice-known4 .before .before .before .before in
     let a = entry .args in
     let d = drawing (a .size) (a .quiet) (a .rules .now) (a .faults .now) (a .starts .now) (a .lengths .now) (a .inputs .now) in
     omega (arith, entry .pre .1, parts-length (sheetOf d), at-command .command .ensures .long, at-command .command .ensures .many, at-quieted .quieted .ensures .long, at-quieted .quieted .ensures .many, at-rows .rows .ensures .long, at-rows .rows .ensures .many, at-rows2 .rows2 .ensures .long, at-rows2 .rows2 .ensures .many)
@@ -71,7 +76,8 @@ tests-requires c κs =
     let at-rows = at-rows2 .before .before .before .before in
     let at-quieted = at-rows .before .before .before .before in
     let at-command = at-quieted .before .before .before .before in
-    let entry = at-command .before .before .before .before .before .before .before .before .before in
+    let at-shared-slice-known4 = at-command .before .before .before .before .before in
+    let entry = at-shared-slice-known4 .before .before .before .before in
     let a = entry .args in
     let d = drawing (a .size) (a .quiet) (a .rules .now) (a .faults .now) (a .starts .now) (a .lengths .now) (a .inputs .now) in
     (entry .pre .0, omega (arith, entry .pre .1, parts-length (sheetOf d), at-command .command .ensures .long, at-command .command .ensures .many, at-quieted .quieted .ensures .long, at-quieted .quieted .ensures .many, at-rows .rows .ensures .long, at-rows .rows .ensures .many, at-rows2 .rows2 .ensures .long, at-rows2 .rows2 .ensures .many, at-operands .operands .ensures .long, at-operands .operands .ensures .many))
@@ -85,7 +91,8 @@ byte-requires c κs =
     let at-rows = at-rows2 .before .before .before .before in
     let at-quieted = at-rows .before .before .before .before in
     let at-command = at-quieted .before .before .before .before in
-    let entry = at-command .before .before .before .before .before .before .before .before .before in
+    let at-shared-slice-known4 = at-command .before .before .before .before .before in
+    let entry = at-shared-slice-known4 .before .before .before .before in
     let a = entry .args in
     let d = drawing (a .size) (a .quiet) (a .rules .now) (a .faults .now) (a .starts .now) (a .lengths .now) (a .inputs .now) in
     omega (arith, entry .pre .1, parts-length (sheetOf d), at-command .command .ensures .long, at-command .command .ensures .many, at-quieted .quieted .ensures .long, at-quieted .quieted .ensures .many, at-rows .rows .ensures .long, at-rows .rows .ensures .many, at-rows2 .rows2 .ensures .long, at-rows2 .rows2 .ensures .many, at-operands .operands .ensures .long, at-operands .operands .ensures .many, at-tests .tests .ensures .long, at-tests .tests .ensures .many)
@@ -93,13 +100,15 @@ byte-requires c κs =
 returns : tie.Need-returns
 unfolding sheetOf sizeBytes
 returns c =
-    let at-tests = c .before .before .before .before .before .before in
+    let at-sheet6 = c .before .before .before .before .before in
+    let at-tests = at-sheet6 .before in
     let at-operands = at-tests .before .before .before .before in
     let at-rows2 = at-operands .before .before .before .before in
     let at-rows = at-rows2 .before .before .before .before in
     let at-quieted = at-rows .before .before .before .before in
     let at-command = at-quieted .before .before .before .before in
-    let entry = at-command .before .before .before .before .before .before .before .before .before in
+    let at-shared-slice-known4 = at-command .before .before .before .before .before in
+    let entry = at-shared-slice-known4 .before .before .before .before in
     let a = entry .args in
     let d = drawing (a .size) (a .quiet) (a .rules .now) (a .faults .now) (a .starts .now) (a .lengths .now) (a .inputs .now) in
     subst (λ (l : List ℕ). Spelled (a .sheet .now) (c .before .before .byte .last .1 .0) 0 (c .before .before .byte .result) l) (sym (encode-parts (sheetOf d)))
