@@ -12,12 +12,14 @@ returns c =
 
 returns-2 : tie.Need-returns-2
 returns-2 c =
-    let at-compare = c .before .before .before .before .before .before in
+    let at-match = c .before .before .before in
+    let at-compare = at-match .before .before .before in
     (ap comparedNumbers (sym (c .before .before .d .given .1) ∙ at-compare .compare .ensures .0), at-compare .compare .ensures .1 .0)
 
 returns-3 : tie.Need-returns-3
 returns-3 c =
-    let at-compare = c .before .before .before .before .before .before in
+    let at-match = c .before .before .before in
+    let at-compare = at-match .before .before .before in
     (ap comparedNumbers (sym (c .before .before .number .given .1) ∙ at-compare .compare .ensures .0), at-compare .compare .ensures .1 .0)
 
 pub ranthelo-compare-spec : {M : Type 1} → statement M

@@ -7,7 +7,8 @@ use Rattle.ranthelo.proofs.ranthelo_judge.Tie as tie
 
 returns : tie.Need-returns
 returns c =
-    let e = c .before .before .before .before .before .before .judge .ensures in
+    let at-board = c .before .before .before .before .before in
+    let e = at-board .before .judge .ensures in
     (c .tell .ensures ∙ ap judgedNumbers (e .0), (e .1 .0, e .1 .1 .0))
 
 pub ranthelo-judge-spec : {M : Type 1} → statement M

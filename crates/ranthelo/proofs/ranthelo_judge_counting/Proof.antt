@@ -7,7 +7,8 @@ use Rattle.ranthelo.proofs.ranthelo_judge_counting.Tie as tie
 
 returns : tie.Need-returns
 returns c =
-    let e = c .before .before .before .before .before .before .judge-counting .ensures in
+    let at-board = c .before .before .before .before .before in
+    let e = at-board .before .judge-counting .ensures in
     (c .tell .ensures ∙ ap judgedNumbers (e .0), (e .1 .0, (e .1 .1 .0, rw (e .0) at (e .1 .1 .1 .1))))
 
 pub ranthelo-judge-counting-spec : {M : Type 1} → statement M

@@ -5,7 +5,8 @@ use Rattle.refutation.proofs.none_from.Tie as tie
 
 returns : tie.Need-returns
 returns c =
-    let entry = c .before .before .before .before .before .before in
+    let at-shared-slice-known = c .before .before .before .before .before in
+    let entry = at-shared-slice-known .before in
     ((λ e. void e), entry .pre .1)
 
 returns-2 : tie.Need-returns-2

@@ -7,18 +7,21 @@ use Rattle.refutation.proofs.told_from.Tie as tie
 
 returns : tie.Need-returns
 returns c =
-    let at-explore = c .before .before .before .before .before .before in
+    let at-store = c .before .before .before .before .before in
+    let at-explore = at-store .before in
     (record { told = told-none (c .unknown .ensures); kept = at-explore .explore .ensures .kept }, λ e. void (sym (c .unknown .ensures) ∙ e))
 
 returns-2 : tie.Need-returns-2
 returns-2 c =
-    let at-explore = c .before .before .before .before .before .before .before .before .before .before in
+    let at-if1 = c .before .before .before .before .before in
+    let at-explore = at-if1 .before .before .before .before .before in
     (record { told = told-none (c .unknown2 .ensures); kept = at-explore .explore .ensures .kept }, λ e. void (sym (c .unknown2 .ensures) ∙ e))
 
 returns-3 : tie.Need-returns-3
 returns-3 c =
     let at-has-prefix = c .before in
-    let at-explore = at-has-prefix .before .before .before .before .before .before .before .before in
+    let at-if1 = at-has-prefix .before .before .before in
+    let at-explore = at-if1 .before .before .before .before .before in
     (at-explore .explore .ensures, λ e. at-has-prefix .has-prefix .ensures (not-false _ (c .if2 .left)))
 
 pub told-from-spec : {M : Type 1} → statement M

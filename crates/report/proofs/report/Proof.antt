@@ -19,7 +19,8 @@ found c =
 put-survivor-requires : tie.Need-put-survivor-requires
 put-survivor-requires c κs =
     let place = c .before .before .before in
-    let at-judge = place .before .before .before .before .before .before in
+    let at-match = place .before .before .before in
+    let at-judge = at-match .before .before .before in
     let at-if1 = at-judge .before .before .before in
     lines-fit (found (place)) (at-judge .judge .kept .1 .0) (at-judge .judge .kept .1 .1 .0) (at-if1 .if1 .left)
 
@@ -32,8 +33,11 @@ returns-2 c =
 
 returns-3 : tie.Need-returns-3
 returns-3 c =
-    let place = c .before .before .before .before .before .before in
-    let at-if1 = place .before .before .before .before .before .before .before .before .before in
+    let at-mutant3 = c .before .before .before .before in
+    let place = at-mutant3 .before .before in
+    let at-match = place .before .before .before in
+    let at-mutant = at-match .before .before .before .before .before in
+    let at-if1 = at-mutant .before in
     printed _ _ (at-if1 .if1 .left) (found (place) .text) (c .before .before .put-survivor .ensures)
 
 returns-4 : tie.Need-returns-4

@@ -14,6 +14,6 @@ none-from-spec =
     (λ c e. never (cc))
     (λ c κs. search needs) (λ c. search needs)
     (λ c e. never (cc))
-    (λ c κs. let at-begins = c .before .before in let s = at-begins .before .before .before .before .before .before in (s .pre, stands-start (s .pre) (at-begins .begins .ensures (not-false _ (c .before .if2 .left)))))
+    (λ c κs. let at-begins = c .before .before in let at-shared-slice-known = at-begins .before .before .before .before .before in let s = at-shared-slice-known .before in (s .pre, stands-start (s .pre) (at-begins .begins .ensures (not-false _ (c .before .if2 .left)))))
     (λ c. search needs)
     (λ c e. none-extends (c .before .before .refute .ensures e)))

@@ -12,7 +12,8 @@ returns c = λ sh tb. compare-refused tb (c .before .before .before .machine-of 
 
 bound-requires : tie.Need-bound-requires
 bound-requires c κs =
-    let entry = c .before .before .before .before .before .before .before in
+    let at-match = c .before .before .before in
+    let entry = at-match .before .before .before .before in
     let w = well-formed (entry .pre .1) in
     (omega (arith, c .wide .ensures, c .before .states .ensures, w .some-states), omega (arith, c .wide .ensures, c .before .states .ensures, w .few-states))
 

@@ -53,7 +53,8 @@ first-failure-requires-2 c κs =
 returns-3 : tie.Need-returns-3
 returns-3 c =
     let at-first-failure2 = c .before in
-    let at-enum-told = at-first-failure2 .before .before .before .before .before .before in
+    let at-if1 = at-first-failure2 .before .before .before .before .before in
+    let at-enum-told = at-if1 .before in
     let at-machine-of = at-enum-told .before .before in
     λ sh rd.
     let tb = rd .loads .tabled in

@@ -11,7 +11,8 @@ use Rattle.mutation.proofs.verdict.judge_counting.Tie as tie
 returns : tie.Need-returns
 returns c =
     let at-load = c .before .before .before in
-    let entry = at-load .before .before .before .before .before .before .before .before in
+    let at-fresh = at-load .before .before .before .before in
+    let entry = at-fresh .before .before .before .before in
     let a = entry .args in
     let g = c .before .enum-told .given in
     let z = refusal-told _ _ _ _ (c .refusal-of .ensures) (g .1) in
@@ -20,18 +21,22 @@ returns c =
 
 judge-read-requires : tie.Need-judge-read-requires
 judge-read-requires c κs =
-    let at-reading = c .before .before .before .before .before .before .before in
+    let at-starts2 = c .before .before .before .before .before in
+    let at-reading = at-starts2 .before .before in
     let at-load = at-reading .before .before in
-    let entry = at-load .before .before .before .before .before .before .before .before in
+    let at-fresh = at-load .before .before .before .before in
+    let entry = at-fresh .before .before .before .before in
     let x = opened (entry .args .sheet .now) (at-load .load .ensures .0) (at-reading .reading .given .1) (at-load .load .ensures .1 .1) in
     (x .sheet, x .holds)
 
 returns-2 : tie.Need-returns-2
 returns-2 c =
     let at-judge-read = c .before .before .before .before in
-    let at-reading = at-judge-read .before .before .before .before .before .before .before .before in
+    let at-lengths2 = at-judge-read .before .before .before .before .before in
+    let at-reading = at-lengths2 .before .before .before in
     let at-load = at-reading .before .before in
-    let entry = at-load .before .before .before .before .before .before .before .before in
+    let at-fresh = at-load .before .before .before .before in
+    let entry = at-fresh .before .before .before .before in
     let a = entry .args in
     let x = opened (a .sheet .now) (at-load .load .ensures .0) (at-reading .reading .given .1) (at-load .load .ensures .1 .1) in
     let y = judge-accepted (a .sheet .now) (a .board .now) (a .sequence .now) (x .sheet) (x .is) _ _ _ (at-judge-read .judge-read .ensures .0 (x .sheet) (x .holds)) in

@@ -62,7 +62,8 @@ conclude-requires-2 c κs =
 returns-4 : tie.Need-returns-4
 returns-4 c =
     let at-conclude2 = c .before .before .before .before .before in
-    let at-if2 = at-conclude2 .before .before .before .before .before .before in
+    let at-if3 = at-conclude2 .before .before .before .before .before in
+    let at-if2 = at-if3 .before in
     let at-bound = at-if2 .before in
     let at-wide2 = at-bound .before in
     let at-states = at-wide2 .before in

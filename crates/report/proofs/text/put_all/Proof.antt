@@ -16,7 +16,8 @@ abbrev μ-loop : tie.MeasureT-loop
 
 loop-again : tie.Need-loop-again Inv-loop μ-loop
 loop-again c =
-    let at-loop = c .before .before .before .before .before .before in
+    let at-loop-test = c .before .before .before .before .before in
+    let at-loop = at-loop-test .before in
     let entry = at-loop .before .before .before in
     (omega arith, omega arith, appended-byte (entry .args .text .now) (at-loop .loop .i) (at-loop .loop .inv .2) (c .before .before .put .ensures) (omega arith))
 

@@ -8,7 +8,8 @@ use Rattle.report.proofs.text.put_line.Tie as tie
 returns : tie.Need-returns
 unfolding line
 returns c =
-    let at-put-fields = c .before .before .before .before .before .before in
+    let at-out2 = c .before .before .before .before .before in
+    let at-put-fields = at-out2 .before in
     let at-put-all = at-put-fields .before .before .before .before in
     (appended-more (at-put-all .put-all .ensures) (appended-more (at-put-fields .put-fields .ensures .0) (c .before .before .put .ensures)), search needs)
 

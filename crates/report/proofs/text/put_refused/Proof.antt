@@ -14,23 +14,33 @@ put-number-requires c κs =
 
 put-all-requires-2 : tie.Need-put-all-requires-2
 put-all-requires-2 c κs =
-    let at-fits = c .before .before .before .before .before .before .before .before .before .before .before .before in
+    let at-put-number = c .before .before .before .before in
+    let at-put-all = at-put-number .before .before .before .before in
+    let at-fits = at-put-all .before .before .before .before in
     omega (arith, byte-digits _ (at-fits .fits .number))
 
 put-number-requires-2 : tie.Need-put-number-requires-2
 put-number-requires-2 c κs =
-    let at-fits = c .before .before .before .before .before .before .before .before .before .before .before .before .before .before .before .before in
+    let at-put-all2 = c .before .before .before in
+    let at-put-number = at-put-all2 .before .before .before .before .before in
+    let at-put-all = at-put-number .before .before .before .before in
+    let at-fits = at-put-all .before .before .before .before in
     omega (arith, byte-digits _ (at-fits .fits .number), place-digits _ (at-fits .fits .place))
 
 put-requires : tie.Need-put-requires
 put-requires c κs =
-    let at-fits = c .before .before .before .before .before .before .before .before .before .before .before .before .before .before .before .before .before .before .before .before in
+    let at-put-number2 = c .before .before .before in
+    let at-put-all2 = at-put-number2 .before .before .before .before in
+    let at-put-number = at-put-all2 .before .before .before .before .before in
+    let at-put-all = at-put-number .before .before .before .before in
+    let at-fits = at-put-all .before .before .before .before in
     omega (arith, byte-digits _ (at-fits .fits .number), place-digits _ (at-fits .fits .place))
 
 returns : tie.Need-returns
 unfolding refusedLine
 returns c =
-    let at-put-number2 = c .before .before .before .before .before .before in
+    let at-out4 = c .before .before .before .before .before in
+    let at-put-number2 = at-out4 .before in
     let at-put-all2 = at-put-number2 .before .before .before .before in
     let at-put-number = at-put-all2 .before .before .before .before .before in
     let at-put-all = at-put-number .before .before .before .before in

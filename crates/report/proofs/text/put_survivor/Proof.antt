@@ -8,7 +8,8 @@ use Rattle.report.proofs.text.put_survivor.Tie as tie
 returns : tie.Need-returns
 unfolding survivorLines
 returns c =
-    let at-put-line = c .before .before .before .before .before .before .before in
+    let at-slice-known3 = c .before .before .before .before .before in
+    let at-put-line = at-slice-known3 .before .before in
     let at-put-all = at-put-line .before .before .before .before .before in
     appended-more (at-put-all .put-all .ensures) (appended-more (at-put-line .put-line .ensures .0) (c .before .before .put-line2 .ensures .0))
 

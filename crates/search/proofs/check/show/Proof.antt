@@ -18,9 +18,13 @@ slice-aggregate-machine-of c =
 
 distinguish-requires : tie.Need-distinguish-requires
 distinguish-requires c κs =
-    let h = c .before .before .before .before .before .before .before .before .before .before .before .before .before .before .pre .0 .1 in
-    let made = c .before .before .before .before .machine-of .ensures (c .before .before .before .before .before .before .before .before .before .before .before .before .before .before .pre .0 .0) (h .tabled) in
-    let a = distinguish-asks h (c .before .before .before .before .before .before .before .before .before .before .wide .ensures .0 ∙ c .before .before .before .before .before .before .before .before .before .before .before .slots .ensures) _ (c .before .before .before .before .before .before .before .before .write-choices .ensures) made in (a .0, (a .1, c .before .before .before .before .before .before .before .before .before .before .before .before .before .before .pre .1 .inputs))
+    let at-machine-of = c .before .before .before .before in
+    let at-write-choices = at-machine-of .before .before .before .before in
+    let at-slots = at-write-choices .before .before .before in
+    let at-entry = at-slots .before .before .before in
+    let h = at-entry .pre .0 .1 in
+    let made = at-machine-of .machine-of .ensures (at-entry .pre .0 .0) (h .tabled) in
+    let a = distinguish-asks h (at-write-choices .before .before .wide .ensures .0 ∙ at-slots .slots .ensures) _ (at-write-choices .write-choices .ensures) made in (a .0, (a .1, at-entry .pre .1 .inputs))
 
 returns : tie.Need-returns
 returns c =

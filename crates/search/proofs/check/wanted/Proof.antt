@@ -37,5 +37,5 @@ wanted-spec =
     tie.close
     (tie.spec
     (λ c κs. search needs) (λ c κs. search needs) lay-requires
-    (λ c κs. lay-asks (c .before .before .before .before .before .before .pre .1) .0)
+    (λ c κs. let at-blank = c .before .before .before .before in lay-asks (at-blank .before .before .pre .1) .0)
     (λ c κs. search needs) (λ c. search needs) meets-requires (λ c. search needs) returns returns-2)

@@ -56,98 +56,179 @@ search-μ-loop block facts log goal store₀ notes₀ i p k c₀ store notes c =
 
 search-refuted-requires : (t : ℕ) → search-lts.Need-refuted-requires (cs t) (search-at t) search′.Post search-Inv-loop search-μ-loop
 search-refuted-requires t c κs =
-    let given = c .before .before .before .before .before .before .pre .1 in
+    let at-shared-slice-known = c .before .before .before .before .before in
+    let given = at-shared-slice-known .before .pre .1 in
     (well-formed (given .0 .1 .sheet .tabled), given .1 .0, given .1 .1)
 
 search-returns : (t : ℕ) → search-lts.Need-returns (cs t) (search-at t) search′.Post search-Inv-loop search-μ-loop
 search-returns t c = (λ sh w. refuted w (c .before .before .before .before .before .refuted .ensures .0) (c .if1 .taken), (c .before .before .before .before .before .refuted .ensures .1, λ e. never (cc)))
 
 search-wanted-requires : (t : ℕ) → search-lts.Need-wanted-requires (cs t) (search-at t) search′.Post search-Inv-loop search-μ-loop
-search-wanted-requires t c κs = (c .before .before .before .before .before .before .before .before .before .before .before .before .before .before .before .before .pre .1 .0 .0, full (c .before .before .before .before .before .before .before .before .before .before .before .before .before .before .before .before .pre .1 .0 .1) (c .before .before .wide .ensures .0 ∙ c .before .before .before .slots .ensures) (c .before .if2 .taken))
+search-wanted-requires t c κs =
+    let at-slots = c .before .before .before in
+    let at-store = at-slots .before .before .before .before .before in
+    let at-slice-known2 = at-store .before .before .before .before .before in
+    let at-entry = at-slice-known2 .before .before .before in
+    (at-entry .pre .1 .0 .0, full (at-entry .pre .1 .0 .1) (c .before .before .wide .ensures .0 ∙ at-slots .slots .ensures) (c .before .if2 .taken))
 
 search-returns-2 : (t : ℕ) → search-lts.Need-returns-2 (cs t) (search-at t) search′.Post search-Inv-loop search-μ-loop
 search-returns-2 t c =
-    let en = (c .before .before .before .before .wide .ensures .0 ∙ c .before .before .before .before .before .slots .ensures) in
+    let at-slots = c .before .before .before .before .before in
+    let at-store = at-slots .before .before .before .before .before in
+    let en = (c .before .before .before .before .wide .ensures .0 ∙ at-slots .slots .ensures) in
     let told = c .settled .ensures in
-    (λ sh w. full-answer w en (c .before .before .before .if2 .taken) _ (c .before .wanted .ensures sh (full w en (c .before .before .before .if2 .taken))) _ _ (told .0) (told .1), (c .before .before .before .before .before .before .before .before .before .before .before .refuted .ensures .1, λ e. ended (c .before .wanted .result) (sym (told .0) ∙ e)))
+    (λ sh w. full-answer w en (c .before .before .before .if2 .taken) _ (c .before .wanted .ensures sh (full w en (c .before .before .before .if2 .taken))) _ _ (told .0) (told .1), (at-store .before .refuted .ensures .1, λ e. ended (c .before .wanted .result) (sym (told .0) ∙ e)))
 
 search-returns-3 : (t : ℕ) → search-lts.Need-returns-3 (cs t) (search-at t) search′.Post search-Inv-loop search-μ-loop
-search-returns-3 t c = (λ sh w. tt, (c .before .before .before .before .before .before .before .before .before .before .before .before .refuted .ensures .1, λ e. sym (c .before .before .before .before .before .before .before .before .before .before .before .before .refuted .kept .1 .1 .1 .1 .0) ∙ c .before .before .before .if3 .taken))
+search-returns-3 t c =
+    let at-if3 = c .before .before .before in
+    let at-if1 = at-if3 .before .before .before .before in
+    let at-refuted = at-if1 .before .before .before .before .before in
+    (λ sh w. tt, (at-refuted .refuted .ensures .1, λ e. sym (at-refuted .refuted .kept .1 .1 .1 .1 .0) ∙ at-if3 .if3 .taken))
 
 search-cast-choices : (t : ℕ) → search-lts.Need-cast-choices (cs t) (search-at t) search′.Post search-Inv-loop search-μ-loop
-search-cast-choices t c = omega (arith, next-low (c .before .before .before .before .before .before .before .before .before .before .before .before .before .before .before .before .pre .1 .0 .1) (c .before .before .wide .ensures .0 ∙ c .before .before .before .slots .ensures) (c .before .if2 .left) .0)
+search-cast-choices t c =
+    let at-slots = c .before .before .before in
+    let at-store = at-slots .before .before .before .before .before in
+    let at-slice-known2 = at-store .before .before .before .before .before in
+    omega (arith, next-low (at-slice-known2 .before .before .before .pre .1 .0 .1) (c .before .before .wide .ensures .0 ∙ at-slots .slots .ensures) (c .before .if2 .left) .0)
 
 search-choices-requires : (t : ℕ) → search-lts.Need-choices-requires (cs t) (search-at t) search′.Post search-Inv-loop search-μ-loop
-search-choices-requires t c κs = next-low (c .before .before .before .before .before .before .before .before .before .before .before .before .before .before .before .before .pre .1 .0 .1) (c .before .before .wide .ensures .0 ∙ c .before .before .before .slots .ensures) (c .before .if2 .left) .0
+search-choices-requires t c κs =
+    let at-slots = c .before .before .before in
+    let at-store = at-slots .before .before .before .before .before in
+    let at-slice-known2 = at-store .before .before .before .before .before in
+    next-low (at-slice-known2 .before .before .before .pre .1 .0 .1) (c .before .before .wide .ensures .0 ∙ at-slots .slots .ensures) (c .before .if2 .left) .0
 
 search-loop-holds : (t : ℕ) → search-lts.Need-loop-holds (cs t) (search-at t) search′.Post search-Inv-loop search-μ-loop
 search-loop-holds t c =
+    let at-if1 = c .before .before .before .before .before in
     record {
       tried = λ sh w. tried-none;
       low = omega arith;
-      ok = c .before .before .before .before .before .before .before .before .before .before .refuted .ensures .1;
+      ok = at-if1 .before .before .before .before .before .refuted .ensures .1;
       same-store = refl;
       same-notes = refl;
     }
 
 search-mul-q : (t : ℕ) → search-lts.Need-mul-q (cs t) (search-at t) search′.Post search-Inv-loop search-μ-loop
-search-mul-q t c = omega (arith, next-low (c .before .before .before .before .before .before .before .before .before .before .before .before .before .before .before .before .before .before .before .pre .1 .0 .1) (c .before .before .before .before .before .wide .ensures .0 ∙ c .before .before .before .before .before .before .slots .ensures) (c .before .before .before .before .if2 .left) .0)
+search-mul-q t c =
+    let at-wide = c .before .before .before .before .before in
+    let at-notes = at-wide .before .before .before .before in
+    let at-p = at-notes .before .before .before .before in
+    let at-shared-slice-known = at-p .before .before .before .before .before in
+    omega (arith, next-low (at-shared-slice-known .before .pre .1 .0 .1) (at-wide .wide .ensures .0 ∙ at-wide .before .slots .ensures) (c .before .before .before .before .if2 .left) .0)
 
 search-array-write-q : (t : ℕ) → search-lts.Need-array-write-q (cs t) (search-at t) search′.Post search-Inv-loop search-μ-loop
-search-array-write-q t c = omega (arith, next-low (c .before .before .before .before .before .before .before .before .before .before .before .before .before .before .before .before .before .before .before .pre .1 .0 .1) (c .before .before .before .before .before .wide .ensures .0 ∙ c .before .before .before .before .before .before .slots .ensures) (c .before .before .before .before .if2 .left) .0)
+search-array-write-q t c =
+    let at-wide = c .before .before .before .before .before in
+    let at-notes = at-wide .before .before .before .before in
+    let at-p = at-notes .before .before .before .before in
+    let at-shared-slice-known = at-p .before .before .before .before .before in
+    omega (arith, next-low (at-shared-slice-known .before .pre .1 .0 .1) (at-wide .wide .ensures .0 ∙ at-wide .before .slots .ensures) (c .before .before .before .before .if2 .left) .0)
 
 search-add-search : (t : ℕ) → search-lts.Need-add-search (cs t) (search-at t) search′.Post search-Inv-loop search-μ-loop
-search-add-search t c = omega (arith, next-low (c .before .before .before .before .before .before .before .before .before .before .before .before .before .before .before .before .before .before .before .before .before .pre .1 .0 .1) (c .before .before .before .before .before .before .before .wide .ensures .0 ∙ c .before .before .before .before .before .before .before .before .slots .ensures) (c .before .before .before .before .before .before .if2 .left) .0)
+search-add-search t c =
+    let at-loop = c .before .before .before in
+    let at-slots = at-loop .before .before .before .before .before in
+    let at-store = at-slots .before .before .before .before .before in
+    let at-slice-known2 = at-store .before .before .before .before .before in
+    omega (arith, next-low (at-slice-known2 .before .before .before .pre .1 .0 .1) (at-loop .before .before .before .before .wide .ensures .0 ∙ at-slots .slots .ensures) (at-loop .before .before .before .if2 .left) .0)
 
 search-search-requires : (t : ℕ) → search-lts.Need-search-requires (cs t) (search-at t) search′.Post search-Inv-loop search-μ-loop
 search-search-requires t c κs =
-    let w = c .before .before .before .before .before .before .before .before .before .before .before .before .before .before .before .before .before .before .before .before .before .pre .1 .0 .1 in
-    let en = (c .before .before .before .before .before .before .before .wide .ensures .0 ∙ c .before .before .before .before .before .before .before .before .slots .ensures) in
-    let set = searching-set w en (c .before .before .before .before .before .before .if2 .left) (c .before .before .before .before .choices .ensures) (c .before .before .loop-test .taken) in
-    (omega (arith, c .before .before .before .before .before .before .before .before .before .before .before .before .before .before .before .before .before .before .before .before .before .pre .0, next-low w en (c .before .before .before .before .before .before .if2 .left) .0), ((c .before .before .before .before .before .before .before .before .before .before .before .before .before .before .before .before .before .before .before .before .before .pre .1 .0 .0, set), (c .before .before .before .before .before .before .before .before .before .before .before .before .before .before .before .before .before .before .before .before .before .pre .1 .1 .0, c .before .before .before .loop .inv .ok)))
+    let at-choices = c .before .before .before .before in
+    let at-if2 = at-choices .before .before in
+    let at-slots = at-if2 .before .before in
+    let at-store = at-slots .before .before .before .before .before in
+    let at-slice-known2 = at-store .before .before .before .before .before in
+    let at-entry = at-slice-known2 .before .before .before in
+    let w = at-entry .pre .1 .0 .1 in
+    let en = (at-if2 .before .wide .ensures .0 ∙ at-slots .slots .ensures) in
+    let set = searching-set w en (at-if2 .if2 .left) (at-choices .choices .ensures) (c .before .before .loop-test .taken) in
+    (omega (arith, at-entry .pre .0, next-low w en (at-if2 .if2 .left) .0), ((at-entry .pre .1 .0 .0, set), (at-entry .pre .1 .1 .0, c .before .before .before .loop .inv .ok)))
 
 search-same-length-7 : (t : ℕ) → search-lts.Need-same-length-7 (cs t) (search-at t) search′.Post search-Inv-loop search-μ-loop
-search-same-length-7 t c = c .before .before .before .before .before .search .kept .1 .1 .1 .1 .0 ∙ c .before .before .before .before .before .before .before .before .before .loop .inv .same-store ∙ c .before .before .before .before .before .before .before .before .before .before .before .before .before .before .before .before .before .before .before .before .refuted .kept .1 .1 .1 .1 .0
+search-same-length-7 t c =
+    let at-search = c .before .before .before .before .before in
+    let at-loop = at-search .before .before .before .before in
+    let at-if2 = at-loop .before .before .before in
+    let at-if1 = at-if2 .before .before .before in
+    at-search .search .kept .1 .1 .1 .1 .0 ∙ at-loop .loop .inv .same-store ∙ at-if1 .before .before .before .before .before .refuted .kept .1 .1 .1 .1 .0
 
 search-same-length-8 : (t : ℕ) → search-lts.Need-same-length-8 (cs t) (search-at t) search′.Post search-Inv-loop search-μ-loop
-search-same-length-8 t c = c .before .before .before .before .before .search .kept .1 .1 .1 .1 .1 .0 ∙ c .before .before .before .before .before .before .before .before .before .loop .inv .same-notes ∙ c .before .before .before .before .before .before .before .before .before .before .before .before .before .before .before .before .before .before .before .before .refuted .kept .1 .1 .1 .1 .1 .0
+search-same-length-8 t c =
+    let at-search = c .before .before .before .before .before in
+    let at-loop = at-search .before .before .before .before in
+    let at-if2 = at-loop .before .before .before in
+    let at-if1 = at-if2 .before .before .before in
+    at-search .search .kept .1 .1 .1 .1 .1 .0 ∙ at-loop .loop .inv .same-notes ∙ at-if1 .before .before .before .before .before .refuted .kept .1 .1 .1 .1 .1 .0
 
 search-returns-4 : (t : ℕ) → search-lts.Need-returns-4 (cs t) (search-at t) search′.Post search-Inv-loop search-μ-loop
 search-returns-4 t c =
-    let en = (c .before .before .before .before .before .before .before .before .before .before .before .before .before .wide .ensures .0 ∙ c .before .before .before .before .before .before .before .before .before .before .before .before .before .before .slots .ensures) in (
+    let at-search = c .before .before .before .before .before in
+    let at-loop = at-search .before .before .before .before in
+    let at-choices = at-loop .before in
+    let at-if2 = at-choices .before .before in
+    let at-slots = at-if2 .before .before in
+    let at-store = at-slots .before .before .before .before .before in
+    let en = (at-if2 .before .wide .ensures .0 ∙ at-slots .slots .ensures) in (
       λ sh w.
-          let set = searching-set w en (c .before .before .before .before .before .before .before .before .before .before .before .before .if2 .left) (c .before .before .before .before .before .before .before .before .before .before .choices .ensures) (c .before .before .before .before .before .before .before .before .loop-test .taken) in
-          one-found w en (c .before .before .before .before .before .before .before .before .before .before .before .before .if2 .left) (c .before .before .before .before .before .before .before .before .before .before .choices .ensures) (c .before .before .before .before .before .before .before .before .before .loop .inv .tried sh w) (c .before .before .before .before .before .search .result .found) (c .before .before .before .before .before .search .result .choices) (other (c .before .before .before .before .before .search .result .found) Nothing (c .match .keys2) (λ z. omega arith) (λ z. omega arith)) (c .before .before .before .before .before .search .ensures .0 sh set),
-      (c .before .before .before .before .before .search .ensures .1 .0, λ e. sym (c .before .before .before .before .before .before .before .before .before .before .before .before .before .before .before .before .before .before .before .before .refuted .kept .1 .1 .1 .1 .0) ∙ sym (c .before .before .before .before .before .before .before .before .before .loop .inv .same-store) ∙ c .before .before .before .before .before .search .ensures .1 .1 e),
+          let set = searching-set w en (at-if2 .if2 .left) (at-choices .choices .ensures) (at-search .before .before .before .loop-test .taken) in
+          one-found w en (at-if2 .if2 .left) (at-choices .choices .ensures) (at-loop .loop .inv .tried sh w) (at-search .search .result .found) (at-search .search .result .choices) (other (at-search .search .result .found) Nothing (c .match .keys2) (λ z. omega arith) (λ z. omega arith)) (at-search .search .ensures .0 sh set),
+      (at-search .search .ensures .1 .0, λ e. sym (at-store .before .refuted .kept .1 .1 .1 .1 .0) ∙ sym (at-loop .loop .inv .same-store) ∙ at-search .search .ensures .1 .1 e),
     )
 
 search-add-c : (t : ℕ) → search-lts.Need-add-c (cs t) (search-at t) search′.Post search-Inv-loop search-μ-loop
-search-add-c t c = omega (arith, few-choices (c .before .before .before .before .before .before .before .before .before .before .before .before .before .before .before .before .before .before .before .before .before .before .before .before .before .before .before .before .pre .1 .0 .1) (c .before .before .before .before .before .before .before .before .before .before .before .before .before .before .wide .ensures .0 ∙ c .before .before .before .before .before .before .before .before .before .before .before .before .before .before .before .slots .ensures) (c .before .before .before .before .before .before .before .before .before .before .before .before .before .if2 .left) (c .before .before .before .before .before .before .before .before .before .before .before .choices .ensures), c .before .before .before .before .before .before .before .before .before .loop-test .taken)
+search-add-c t c =
+    let at-store2 = c .before .before .before .before .before in
+    let at-loop-test = at-store2 .before .before .before .before in
+    let at-wide = at-loop-test .before .before .before .before .before in
+    let at-notes = at-wide .before .before .before .before in
+    let at-p = at-notes .before .before .before .before in
+    let at-shared-slice-known = at-p .before .before .before .before .before in
+    omega (arith, few-choices (at-shared-slice-known .before .pre .1 .0 .1) (at-wide .wide .ensures .0 ∙ at-wide .before .slots .ensures) (at-loop-test .before .before .before .before .if2 .left) (at-loop-test .before .before .choices .ensures), at-loop-test .loop-test .taken)
 
 search-loop-less : (t : ℕ) → search-lts.Need-loop-less (cs t) (search-at t) search′.Post search-Inv-loop search-μ-loop
-search-loop-less t c = omega (arith, c .before .before .before .before .before .before .before .before .before .loop-test .taken)
+search-loop-less t c =
+    let at-store2 = c .before .before .before .before .before in
+    omega (arith, at-store2 .before .before .before .before .loop-test .taken)
 
 search-loop-again : (t : ℕ) → search-lts.Need-loop-again (cs t) (search-at t) search′.Post search-Inv-loop search-μ-loop
 search-loop-again t c =
-    let en = (c .before .before .before .before .before .before .before .before .before .before .before .before .before .before .wide .ensures .0 ∙ c .before .before .before .before .before .before .before .before .before .before .before .before .before .before .before .slots .ensures) in
+    let at-store2 = c .before .before .before .before .before in
+    let at-search = at-store2 .before in
+    let at-loop-test = at-search .before .before .before in
+    let at-loop = at-loop-test .before in
+    let at-choices = at-loop .before in
+    let at-if2 = at-choices .before .before in
+    let en = (at-if2 .before .wide .ensures .0 ∙ at-if2 .before .before .slots .ensures) in
     record {
       tried = λ sh w.
-          let set = searching-set w en (c .before .before .before .before .before .before .before .before .before .before .before .before .before .if2 .left) (c .before .before .before .before .before .before .before .before .before .before .before .choices .ensures) (c .before .before .before .before .before .before .before .before .before .loop-test .taken) in
-          one-tried w en (c .before .before .before .before .before .before .before .before .before .before .before .before .before .if2 .left) (c .before .before .before .before .before .before .before .before .before .before .before .choices .ensures) (c .before .before .before .before .before .before .before .before .before .before .loop .inv .tried sh w) (rw (c .enum-told .given .1) at (c .before .before .before .before .before .before .search .ensures .0 sh set));
-      low = omega (arith, c .before .before .before .before .before .before .before .before .before .loop-test .taken);
-      ok = c .before .before .before .before .before .before .search .ensures .1 .0;
-      same-store = c .before .before .before .before .before .before .search .kept .1 .1 .1 .1 .0 ∙ c .before .before .before .before .before .before .before .before .before .before .loop .inv .same-store;
-      same-notes = c .before .before .before .before .before .before .search .kept .1 .1 .1 .1 .1 .0 ∙ c .before .before .before .before .before .before .before .before .before .before .loop .inv .same-notes;
+          let set = searching-set w en (at-if2 .if2 .left) (at-choices .choices .ensures) (at-loop-test .loop-test .taken) in
+          one-tried w en (at-if2 .if2 .left) (at-choices .choices .ensures) (at-loop .loop .inv .tried sh w) (rw (c .enum-told .given .1) at (at-search .search .ensures .0 sh set));
+      low = omega (arith, at-loop-test .loop-test .taken);
+      ok = at-search .search .ensures .1 .0;
+      same-store = at-search .search .kept .1 .1 .1 .1 .0 ∙ at-loop .loop .inv .same-store;
+      same-notes = at-search .search .kept .1 .1 .1 .1 .1 .0 ∙ at-loop .loop .inv .same-notes;
     }
 
 search-same-length-9 : (t : ℕ) → search-lts.Need-same-length-9 (cs t) (search-at t) search′.Post search-Inv-loop search-μ-loop
-search-same-length-9 t c = c .before .loop .inv .same-store ∙ c .before .before .before .before .before .before .before .before .before .before .before .before .refuted .kept .1 .1 .1 .1 .0
+search-same-length-9 t c =
+    let at-if2 = c .before .before .before .before in
+    let at-if1 = at-if2 .before .before .before in
+    c .before .loop .inv .same-store ∙ at-if1 .before .before .before .before .before .refuted .kept .1 .1 .1 .1 .0
 
 search-same-length-10 : (t : ℕ) → search-lts.Need-same-length-10 (cs t) (search-at t) search′.Post search-Inv-loop search-μ-loop
-search-same-length-10 t c = c .before .loop .inv .same-notes ∙ c .before .before .before .before .before .before .before .before .before .before .before .before .refuted .kept .1 .1 .1 .1 .1 .0
+search-same-length-10 t c =
+    let at-if2 = c .before .before .before .before in
+    let at-if1 = at-if2 .before .before .before in
+    c .before .loop .inv .same-notes ∙ at-if1 .before .before .before .before .before .refuted .kept .1 .1 .1 .1 .1 .0
 
 search-returns-5 : (t : ℕ) → search-lts.Need-returns-5 (cs t) (search-at t) search′.Post search-Inv-loop search-μ-loop
-search-returns-5 t c = (λ sh w. all-tried w (c .before .before .before .before .before .wide .ensures .0 ∙ c .before .before .before .before .before .before .slots .ensures) (c .before .before .before .before .if2 .left) (c .before .before .choices .ensures) (c .before .loop .inv .tried sh w) (c .loop-test .left), (c .before .loop .inv .ok, λ e. never (cc)))
+search-returns-5 t c =
+    let at-wide = c .before .before .before .before .before in
+    (λ sh w. all-tried w (at-wide .wide .ensures .0 ∙ at-wide .before .slots .ensures) (c .before .before .before .before .if2 .left) (c .before .before .choices .ensures) (c .before .loop .inv .tried sh w) (c .loop-test .left), (c .before .loop .inv .ok, λ e. never (cc)))
 
 pub +search-spec : {M : Type 1} → statement M
 +search-spec = close μ-search λ t. search-lts.spec (cs t)

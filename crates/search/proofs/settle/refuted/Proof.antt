@@ -7,7 +7,8 @@ use Rattle.search.proofs.settle.refuted.Tie as tie
 returns : tie.Need-returns
 returns c =
     let at-none-from = c .before .before in
-    let at-entry = at-none-from .before .before .before .before .before .before in
+    let at-shared-slice-known = at-none-from .before .before .before .before .before in
+    let at-entry = at-shared-slice-known .before in
     (at-none-from .none-from .ensures, at-entry .pre .2)
 
 none-from-requires-2 : tie.Need-none-from-requires-2

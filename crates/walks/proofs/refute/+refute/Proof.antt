@@ -88,17 +88,24 @@ refute-refute-requires : (t : ℕ) → refute-lts.Need-refute-requires (cs t) (r
 refute-refute-requires t c κs =
     let at-wide = c .before .before in
     let at-loop = at-wide .before .before in
-    let s = at-loop .before .before .before .before .before .before .before .before .before .before .before .before .before in
+    let at-halt = at-loop .before .before .before .before .before in
+    let at-look = at-halt .before .before .before .before in
+    let s = at-look .before .before .before .before in
     let inv = at-loop .loop .inv in
     (omega (arith, s .pre .0, inv .split .some), (s .pre .1 .0, rw (at-wide .wide .ensures .0) (stands-as (inv .child _) (stands-child _ _ _ (inv .split .free) (inv .stands)))))
 
 refute-is-final-requires : (t : ℕ) → refute-lts.Need-is-final-requires (cs t) (refute-at t) refute.Post refute-Inv-loop refute-μ-loop
-refute-is-final-requires t c κs = c .before .before .before .before .before .before .before .loop .inv .split .low
+refute-is-final-requires t c κs =
+    let at-wide = c .before .before .before .before .before in
+    at-wide .before .before .loop .inv .split .low
 
 refute-same-length-3 : (t : ℕ) → refute-lts.Need-same-length-3 (cs t) (refute-at t) refute.Post refute-Inv-loop refute-μ-loop
 refute-same-length-3 t c =
-    let at-loop = c .before .before .before .before .before .before .before .before .before in
-    omega (arith, c .before .before .before .notes2 .given, at-loop .loop .inv .same, at-loop .before .before .before .before .before .before .before .before .notes .given)
+    let at-notes2 = c .before .before .before in
+    let at-loop-test = at-notes2 .before .before .before .before .before in
+    let at-loop = at-loop-test .before in
+    let at-halt = at-loop .before .before .before .before .before in
+    omega (arith, at-notes2 .notes2 .given, at-loop .loop .inv .same, at-halt .before .before .before .notes .given)
 
 refute-returns-3 : (t : ℕ) → refute-lts.Need-returns-3 (cs t) (refute-at t) refute.Post refute-Inv-loop refute-μ-loop
 refute-returns-3 t c =
@@ -108,10 +115,15 @@ refute-returns-3 t c =
     told-parent _ _ (at-loop .loop .c) (told-as (at-loop .loop .inv .child _) (rw (at-wide .wide .ensures .0) at (at-refute .refute .ensures))) (c .before .is-final .ensures .1 (c .if2 .taken))
 
 refute-add-c : (t : ℕ) → refute-lts.Need-add-c (cs t) (refute-at t) refute.Post refute-Inv-loop refute-μ-loop
-refute-add-c t c = let at-test = c .before .before .before .before .before .before .before .before .before in omega (arith, at-test .loop-test .taken, at-test .before .loop .inv .few)
+refute-add-c t c =
+    let at-refute = c .before .before .before .before .before in
+    let at-test = at-refute .before .before .before .before in
+    omega (arith, at-test .loop-test .taken, at-test .before .loop .inv .few)
 
 refute-loop-less : (t : ℕ) → refute-lts.Need-loop-less (cs t) (refute-at t) refute.Post refute-Inv-loop refute-μ-loop
-refute-loop-less t c = omega (arith, c .before .before .before .before .before .before .before .before .before .loop-test .taken)
+refute-loop-less t c =
+    let at-refute = c .before .before .before .before .before in
+    omega (arith, at-refute .before .before .before .before .loop-test .taken)
 
 refute-loop-again : (t : ℕ) → refute-lts.Need-loop-again (cs t) (refute-at t) refute.Post refute-Inv-loop refute-μ-loop
 refute-loop-again t c =
@@ -129,7 +141,10 @@ refute-loop-again t c =
     }
 
 refute-same-length-4 : (t : ℕ) → refute-lts.Need-same-length-4 (cs t) (refute-at t) refute.Post refute-Inv-loop refute-μ-loop
-refute-same-length-4 t c = omega (arith, c .before .loop .inv .same, c .before .before .before .before .before .before .before .before .before .notes .given)
+refute-same-length-4 t c =
+    let at-if1 = c .before .before .before in
+    let at-match = at-if1 .before .before .before .before in
+    omega (arith, c .before .loop .inv .same, at-match .before .before .notes .given)
 
 refute-returns-4 : (t : ℕ) → refute-lts.Need-returns-4 (cs t) (refute-at t) refute.Post refute-Inv-loop refute-μ-loop
 refute-returns-4 t c = λ e. tried-all (c .before .loop .inv .tried) (c .before .loop .inv .split) (c .loop-test .left)
