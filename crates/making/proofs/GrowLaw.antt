@@ -40,7 +40,7 @@ use Rattle.making.specs.declared.grow.Growth.{Growth}
 use Rattle.making.specs.declared.grow.Next.the-variants as next
 use Rattle.making.specs.declared.grow.State.{State}
 use Rattle.making.specs.declared.grow.State.the-variants as state
-use Rattle.making.specs.words.Growing.{Held, Fits, Growing, GrowingIn, Reached, fitting, nextOf, endedIn, longerBy}
+use Rattle.making.specs.words.Growing.{Held, Fits, GrowingIn, Reached, fitting, nextOf, endedIn, longerBy}
 use Rattle.making.proofs.AppendLaw.{suite-longer, encode-long, body-length}
 
 -- ---- whether a test fits

@@ -31,7 +31,7 @@ use Rattle.making.specs.declared.grow.Growth.{Growth}
 use Rattle.making.specs.declared.grow.State.{State}
 use Rattle.making.specs.declared.grow.State.the-variants as state
 use Rattle.making.proofs.grow.State.{the-type}
-use Rattle.making.specs.Answers.{madeAnswer, Makes, MadeSays, ToldMade}
+use Rattle.making.specs.Answers.{Makes, MadeSays, ToldMade}
 use Rattle.making.specs.words.Growing.{Growing, Complete, Reached, Finished}
 use Rattle.making.proofs.AppendLaw.{encode-long}
 

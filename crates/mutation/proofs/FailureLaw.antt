@@ -1,30 +1,24 @@
 -- The first failed test, along the log of an accepted sheet's suite.
-use Prim.Native.Nat.{ℕ, _≤_}
+use Prim.Native.Nat.{ℕ}
 use native.Mathlib.Omega.{arith}
 use mathlib.Core.Path.{_≡_, refl, _∙_, ap, ap₂}
 use mathlib.Core.Option.{Option, none, some}
 use mathlib.Core.List.{List, []}
-use lib.ListN.{length, getD, take}
+use lib.ListN.{getD, take}
 use Rattle.sheet.specs.Sheet.{Sheet}
 use Rattle.sheet.specs.Reading.{accepted}
-use Rattle.sheet.specs.Tables.{tablesOf}
-use Rattle.sheet.specs.WellFormed.{WellFormed}
 use Rattle.model.specs.Mutant.{rule, specified}
 use Rattle.model.specs.Used.{mark, markAll, counted}
 use Rattle.model.specs.Suite.{Place, firstFailedOf, triedOf, findingOf}
 use Rattle.model.specs.Verdict.{FirstFailed}
-use Rattle.model.specs.Log.{suiteLog, testsLog, failedIn}
-use Rattle.model.specs.laws.LogLaw.{log-below, log-most}
+use Rattle.model.specs.Log.{failedIn}
 use Rattle.model.specs.laws.SuiteLaw.{specified-length, failed-means}
-use Rattle.block.specs.Tabulated.{ruleOf}
 use Rattle.block.specs.Logged.{observations}
-use Rattle.block.specs.laws.TabledLaw.{rule-same}
 use Rattle.logs.specs.declared.walk.Wrong.{Wrong}
 use Rattle.logs.specs.declared.walk.Wrong.the-variants as wrong
-use Rattle.logs.specs.Tests.{testsAt, TestsAt}
-use Rattle.logs.specs.Recorded.{Recorded}
+use Rattle.logs.specs.Tests.{testsAt}
 use Rattle.logs.specs.Walked.{movesIn, wrongOf}
-use Rattle.logs.specs.laws.TestsLaw.{length-at, tests-are, tests-at, tests-log}
+use Rattle.logs.specs.laws.TestsLaw.{length-at}
 use Rattle.logs.specs.laws.WalkedLaw.{walked-failed}
 use Rattle.search.specs.laws.TabulatesLaw.{tabulates}
 use Rattle.mutation.specs.declared.Used.{Used}

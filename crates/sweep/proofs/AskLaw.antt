@@ -7,21 +7,17 @@ use native.Mathlib.Omega.{arith}
 use native.Mathlib.Decide.{ℕ-discrete, decLt}
 use borrow.Author.Count.{below-more}
 use lib.Pow.{pow-pos}
-use lib.ListN.{length, getD}
-use Rattle.sheet.specs.Sheet.{Sheet}
-use Rattle.model.specs.Mutant.{IsMutant}
+use lib.ListN.{getD}
 use Rattle.block.specs.Layout.{siteAt, choicesOf}
 use Rattle.block.specs.Tabulated.{Wf, Ranged, choicesAt, choiceOf, chosen, StepIs}
 use Rattle.block.specs.declared.layout.Step.{Step}
 use Rattle.block.specs.laws.ChoiceLaw.{chosen-some, choice-at}
-use Rattle.block.specs.laws.TabledLaw.{ranged, well-formed}
-use Rattle.cubes.specs.Sets.{Has, HasAll, Joined}
-use Rattle.cubes.specs.Cube.{Means, MeansStep, In, NoneIn}
+use Rattle.block.specs.laws.TabledLaw.{ranged}
+use Rattle.cubes.specs.Sets.{Has, Joined}
+use Rattle.cubes.specs.Cube.{Means, MeansStep, In}
 use Rattle.cubes.specs.laws.LiteralLaw.{any-means}
 use Rattle.cubes.specs.laws.SetLaw.{nothing, one-same}
-use Rattle.cubes.specs.declared.goal.Goal.the-variants.{Nonconforming}
-use Rattle.search.specs.Search.{ForSheet}
-use Rattle.sweep.specs.Sweep.{Cleared, Top, Full, Refutes}
+use Rattle.sweep.specs.Sweep.{Top, Full}
 use Rattle.sweep.specs.Asking.{SpeaksTo, Speaks, Passed, CubeRefutes}
 use Rattle.sweep.specs.laws.SlotLaw.{has-below, top-one}
 use Rattle.sweep.proofs.LookLaw.{unsought}

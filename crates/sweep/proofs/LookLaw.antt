@@ -1,13 +1,13 @@
 -- A mutant with all its choices, along the log and held against the specification.
 use mathlib.Core.Path.{_≡_, refl, sym, ap, _∙_, subst}
-use mathlib.Core.Logic.{_⊎_, inl, inr}
+use mathlib.Core.Logic.{inl, inr}
 use mathlib.Core.Option.{Option, none, some}
 use mathlib.Core.List.{List}
-use Prim.Native.Nat.{ℕ, suc, _+_, _-_, _*_, _/_, _%_, _<_, _≤_, _^_}
+use Prim.Native.Nat.{ℕ, suc, _+_, _-_, _*_, _<_, _≤_, _^_}
 use native.Mathlib.Nat.{pow-suc}
 use native.Mathlib.Omega.{arith}
 use lib.Pow.{pow-pos, high, ones-split}
-use lib.ListN.{length, getD, take, drop}
+use lib.ListN.{length, drop}
 use lib.Seq.{ext-getD, getD-take, length-take-le, take-at}
 use Rattle.lists.specs.Lists.{overlay}
 use Rattle.lists.specs.laws.TestLaw.{never}
@@ -18,14 +18,14 @@ use Rattle.model.specs.Log.{failedIn}
 use Rattle.model.specs.Suite.{Place, firstFailedOf, Passes, compareOf}
 use Rattle.model.specs.laws.JudgeLaw.{some-nonconforming}
 use Rattle.model.specs.laws.LogLaw.{passes-gives}
-use Rattle.model.specs.laws.OperationLaw.{mutant-length, in-range}
+use Rattle.model.specs.laws.OperationLaw.{mutant-length}
 use Rattle.model.specs.laws.StaysLaw.{start-below}
 use Rattle.model.specs.laws.SuspectLaw.{slot-count}
 use Rattle.block.specs.Layout.{statesOf, waking}
 use Rattle.block.specs.Tabulated.{Wf, choicesAt, chosen, stepOf, startOf}
 use Rattle.block.specs.Logged.{observations}
 use Rattle.block.specs.Tabled.{Tabled}
-use Rattle.block.specs.laws.TabledLaw.{getD-default, start-same, pair-same, ranged, gives-same, well-formed}
+use Rattle.block.specs.laws.TabledLaw.{start-same, pair-same, ranged, gives-same, well-formed}
 use Rattle.cubes.specs.Sets.{Has}
 use Rattle.cubes.specs.Cube.{Sought}
 use Rattle.cubes.specs.declared.goal.Goal.the-variants.{Nonconforming}

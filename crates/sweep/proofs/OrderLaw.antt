@@ -1,9 +1,8 @@
 -- From one mutant to a later one.
-use mathlib.Core.Path.{_≡_, refl, sym, ap, _∙_, subst}
-use mathlib.Core.Logic.{_⊎_, inl, inr, ⊎-elim, by-cases}
-use mathlib.Core.Bool.{Bool, true, false}
+use mathlib.Core.Path.{_≡_, refl, _∙_, subst}
+use mathlib.Core.Logic.{_⊎_, ⊎-elim, by-cases}
 use mathlib.Core.List.{List}
-use Prim.Native.Nat.{ℕ, zero, suc, _+_, _-_, _*_, _/_, _%_, _<_, _≤_, _^_}
+use Prim.Native.Nat.{ℕ, _+_, _-_, _%_, _<_, _≤_, _^_}
 use native.Mathlib.Nat.{mod-lt}
 use native.Mathlib.Omega.{arith}
 use native.Mathlib.Decide.{ℕ-discrete, decLt}
@@ -18,7 +17,7 @@ use Rattle.block.specs.laws.TabledLaw.{ranged, slot-some, well-formed}
 use Rattle.cubes.specs.Sets.{Has, Joined}
 use Rattle.cubes.specs.laws.SetLaw.{nothing}
 use Rattle.sweep.specs.laws.SlotLaw.{has-below, below-has, before-has}
-use Rattle.sweep.specs.Sweep.{Cleared, AllCleared, Shares, Top, Swept, Refutes, Reset, Later}
+use Rattle.sweep.specs.Sweep.{Cleared, Shares, Top, Swept, Refutes, Reset, Later}
 
 -- ---- one number set, and those after it to 0
 -- those before n are

@@ -1,7 +1,7 @@
 -- From turn to turn.
-use mathlib.Core.Path.{_≡_, refl, sym, ap, _∙_, subst}
+use mathlib.Core.Path.{_≡_, refl, sym, _∙_, subst}
 use mathlib.Core.Logic.{_⊎_, inl, inr}
-use mathlib.Core.Bool.{true, false}
+use mathlib.Core.Bool.{true}
 use mathlib.Core.List.{List, [], _∷_}
 use Prim.Native.Nat.{ℕ, zero, suc, _+_, _-_, _*_, _<_, _≤_, _^_}
 use native.Mathlib.Nat.{suc-mul, pow-succ', mul-le-mul-right}
@@ -20,7 +20,7 @@ use Rattle.sweep.specs.declared.Outcome.the-variants as outcome
 use Rattle.sweep.specs.declared.turn.Turned.{Turned}
 use Rattle.sweep.specs.declared.turn.Turned.the-variants as turned
 use Rattle.sweep.proofs.turn.Turned.{the-type}
-use Rattle.sweep.specs.Sweep.{AllCleared, Full, Swept, Refutes, Later, Advanced}
+use Rattle.sweep.specs.Sweep.{Full, Swept, Refutes, Later, Advanced}
 use Rattle.sweep.specs.Turning.{TurnedOk}
 use Rattle.sweep.specs.Outcomes.{outcomeOf, OutcomeOk}
 

@@ -16,9 +16,8 @@ use Rattle.cubes.specs.laws.SetLaw.{nothing}
 use Rattle.cubes.specs.Cube.{Extends, NoneIn}
 use Rattle.cubes.specs.declared.goal.Goal.the-variants.{Nonconforming}
 use Rattle.refutation.specs.Branching.{PrefixIn}
-use Rattle.search.specs.Search.{ForSheet}
 use Rattle.sweep.specs.declared.turn.Asked.{Asked}
-use Rattle.sweep.specs.Sweep.{Shares, Blames, Top, Full, Refutes}
+use Rattle.sweep.specs.Sweep.{Blames, Top, Full, Refutes}
 use Rattle.sweep.specs.Asking.{CubeRefutes}
 use Rattle.sweep.specs.Turning.{AskedOk}
 use Rattle.sweep.specs.laws.SlotLaw.{has-below}

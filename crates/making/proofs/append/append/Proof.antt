@@ -1,6 +1,5 @@
 -- `append`: the test in the bytes, then in the log.
 use borrow.Author.Needs.{needs}
-use native.Mathlib.Omega.{arith}
 use Rattle.making.proofs.AppendLaw.{spell-asks, test-at, log-room, appended}
 use Rattle.making.proofs.append.append.Statement.{statement}
 use Rattle.making.proofs.append.append.Tie as tie

@@ -1,6 +1,5 @@
 -- `follow`: by what was found.
 use borrow.Author.Needs.{needs}
-use borrow.Author.Tests.{not-true}
 use mathlib.Core.Path.{refl}
 use Rattle.making.proofs.GrowLaw.{next-appends, next-full}
 use Rattle.making.proofs.grow.follow.Statement.{statement}

@@ -1,7 +1,7 @@
 -- `grow`: from survivor to survivor, each test leaves less room.
 use borrow.Author.Needs.{needs}
 use native.Mathlib.Omega.{arith}
-use mathlib.Core.Path.{refl, sym, _∙_, ap}
+use mathlib.Core.Path.{sym, _∙_, ap}
 use lib.Seq.{length-take-le}
 use Rattle.making.specs.declared.grow.Growth.{Growth}
 use Rattle.making.specs.declared.grow.Next.the-variants.{Ends}

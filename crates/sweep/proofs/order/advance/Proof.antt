@@ -1,7 +1,6 @@
 -- `advance`: the slots above the highest of the set have no choice left.
 use borrow.Author.Needs.{needs}
 use native.Mathlib.Omega.{arith}
-use mathlib.Core.Path.{_∙_, sym}
 use Rattle.sweep.proofs.OrderLaw.{Advancing, advancing-none, advancing-more, advancing-ends, advancing-falls, few-choices, blame-long}
 use Rattle.sweep.proofs.order.advance.Statement.{statement}
 use Rattle.sweep.proofs.order.advance.Tie as tie

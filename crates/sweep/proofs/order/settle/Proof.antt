@@ -2,7 +2,7 @@
 use borrow.Author.Needs.{needs}
 use native.Mathlib.Omega.{arith}
 use denote.Ref.{now}
-use Prim.Native.Nat.{_-_, _≤_}
+use Prim.Native.Nat.{_-_}
 use Rattle.sweep.proofs.OrderLaw.{ResetTo, reset-none, reset-more, reset-all}
 use Rattle.sweep.proofs.order.settle.Statement.{statement}
 use Rattle.sweep.proofs.order.settle.Tie as tie
