@@ -1,6 +1,7 @@
 -- What the proofs of the functions share.
-mod RoundsLaw
-mod MarksLaw
-mod FollowLaw
+mod OrderLaw
+mod ProductLaw
+mod PathLaw
+mod TreeLaw
 mod LayLaw
 mod MisfitLaw

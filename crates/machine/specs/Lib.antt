@@ -1,5 +1,6 @@
 pub mod Laid
-pub mod Rounds
+pub mod Product
+pub mod Tree
 pub mod Differences
 pub mod Fits
 pub mod laws

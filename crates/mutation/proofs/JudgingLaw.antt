@@ -23,7 +23,7 @@ use Rattle.model.specs.laws.Demands.{judged-told, complete-told}
 use Rattle.block.specs.Layout.{slotsOf}
 use Rattle.block.specs.Tabled.{Tabled}
 use Rattle.cubes.specs.declared.goal.Goal.the-variants.{Nonconforming}
-use Rattle.machine.specs.declared.distance.Difference.{Difference}
+use Rattle.machine.specs.declared.product.Difference.{Difference}
 use Rattle.search.specs.Search.{NoneFrom, unsettled}
 use Rattle.search.specs.Shown.{Room, Untouched, Shown}
 use Rattle.search.specs.laws.JudgementLaw.{none-judged, first-judged}

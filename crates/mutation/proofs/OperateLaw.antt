@@ -23,8 +23,8 @@ use Rattle.block.specs.Layout.{statesOf, inputsOf}
 use Rattle.block.specs.Tabled.{Tabled}
 use Rattle.machine.specs.declared.fitting.Fit.the-variants as fit
 use Rattle.machine.specs.declared.laying.Machine.{Machine}
-use Rattle.machine.specs.declared.distance.Difference.{Difference}
-use Rattle.machine.specs.Rounds.{tables, movesIn, Valid}
+use Rattle.machine.specs.declared.product.Difference.{Difference}
+use Rattle.machine.specs.Product.{tables, movesIn, Valid}
 use Rattle.machine.specs.Differences.{differenceOf}
 use Rattle.machine.specs.Fits.{Machined}
 use Rattle.machine.specs.laws.LaidLaw.{moves-step, tables-against, tables-valid}

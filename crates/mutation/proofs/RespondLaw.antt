@@ -13,7 +13,7 @@ use Rattle.model.specs.laws.OperationLaw.{first-over, none-over}
 use Rattle.model.specs.laws.SuiteLaw.{outputs-length}
 use Rattle.lists.specs.Lists.{indexOr, overlay}
 use Rattle.block.specs.Layout.{pair, statesOf}
-use Rattle.machine.specs.Rounds.{movesIn}
+use Rattle.machine.specs.Product.{movesIn}
 use Rattle.machine.specs.laws.LaidLaw.{move-at}
 use Rattle.usage.specs.Marks.{startSlotOf, slotAt, actsIn}
 use Rattle.mutation.specs.Operate.{Runnable}

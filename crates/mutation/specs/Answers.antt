@@ -9,8 +9,8 @@ use Rattle.sheet.specs.Reading.{Result, accepted, refused}
 use Rattle.model.specs.Used.{Usage}
 use Rattle.model.specs.Suite.{Place, Finding}
 use Rattle.model.specs.Operations.{Response}
-use Rattle.machine.specs.declared.distance.Difference.{Difference}
-use Rattle.machine.specs.declared.distance.Difference.the-variants as difference
+use Rattle.machine.specs.declared.product.Difference.{Difference}
+use Rattle.machine.specs.declared.product.Difference.the-variants as difference
 use Rattle.model.specs.Compare.{found}
 use Rattle.mutation.specs.declared.Used.{Used}
 use Rattle.mutation.specs.declared.Ran.{Ran}

@@ -10,8 +10,8 @@ use Rattle.model.specs.Mutant.{slots}
 use Rattle.model.specs.Suite.{Judgement, complete, survivor}
 use Rattle.model.specs.Implementation.{Guaranteed}
 use Rattle.model.specs.Verdict.{Complete, FirstSurvivor, ShortestOf}
-use Rattle.machine.specs.declared.distance.Difference.{Difference}
-use Rattle.machine.specs.declared.distance.Difference.the-variants as difference
+use Rattle.machine.specs.declared.product.Difference.{Difference}
+use Rattle.machine.specs.declared.product.Difference.the-variants as difference
 use Rattle.mutation.specs.declared.verdict.Judged.{Judged}
 use Rattle.mutation.specs.declared.verdict.Judged.the-variants as judged
 

@@ -11,7 +11,7 @@ use Rattle.model.specs.Used.{Usage, Uses}
 use Rattle.model.specs.Suite.{Place, triedOf}
 use Rattle.model.specs.Verdict.{RanMeans, UsedMeans, FailedMeans, ComparedMeans}
 use Rattle.block.specs.Layout.{statesOf, inputsOf}
-use Rattle.machine.specs.Rounds.{Valid}
+use Rattle.machine.specs.Product.{Valid}
 use Rattle.mutation.specs.declared.Used.{Used}
 use Rattle.mutation.specs.declared.Ran.{Ran}
 use Rattle.mutation.specs.declared.Ran.the-variants as ran

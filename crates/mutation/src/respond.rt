@@ -8,7 +8,7 @@ ghost use Rattle.model.specs.Operations.{firstOver, runOn};
 ghost use Rattle.lists.specs.Lists.{indexOr, overlay};
 ghost use Rattle.sheet.specs.Sheet.{Sheet};
 ghost use Rattle.block.specs.Tabled.{Tabled};
-ghost use Rattle.machine.specs.Rounds.{movesIn};
+ghost use Rattle.machine.specs.Product.{movesIn};
 ghost use Rattle.usage.specs.Marks.{startSlotOf, actsIn};
 ghost use Rattle.mutation.specs.Answers.{Runs};
 ghost use Rattle.mutation.specs.Operate.{Runnable};

@@ -27,12 +27,12 @@ use Rattle.logs.specs.declared.walk.Wrong.{Wrong}
 use Rattle.logs.specs.declared.walk.Wrong.the-variants as wrong
 use Rattle.logs.specs.Walked.{movesIn, wrongOf}
 use Rattle.logs.specs.laws.WalkedLaw.{walked-failed}
-use Rattle.machine.specs.declared.distance.Difference.{Difference}
-use Rattle.machine.specs.declared.distance.Difference.the-variants as difference
+use Rattle.machine.specs.declared.product.Difference.{Difference}
+use Rattle.machine.specs.declared.product.Difference.the-variants as difference
 use Rattle.machine.specs.declared.laying.Machine.{Machine}
 use Rattle.machine.specs.Differences.{differenceOf}
 use Rattle.machine.specs.Laid.{Chosen, Settles, Moves}
-use Rattle.machine.specs.Rounds.{tables, Valid}
+use Rattle.machine.specs.Product.{tables, Valid}
 use Rattle.machine.specs.Fits.{Machined}
 use Rattle.machine.specs.laws.LaidLaw.{settled-chosen, settled-start, settled-moves, tables-against, tables-valid}
 use Rattle.cubes.specs.declared.goal.Goal.{Goal}

@@ -10,7 +10,7 @@ use Rattle.model.specs.Suite.{compareOf}
 use Rattle.block.specs.Layout.{statesOf, slotsOf}
 use Rattle.block.specs.Tabled.{Tabled}
 use Rattle.cubes.specs.declared.goal.Goal.{Goal}
-use Rattle.machine.specs.declared.distance.Difference.{Difference}
+use Rattle.machine.specs.declared.product.Difference.{Difference}
 use Rattle.model.specs.Compare.{found}
 use Rattle.machine.specs.Differences.{differenceOf}
 use Rattle.search.specs.declared.attempts.Searched.{Searched}

@@ -19,7 +19,7 @@ ghost use Rattle.sheet.specs.Sheet.{Sheet};
 ghost use Rattle.model.specs.Compare.{comparePair};
 ghost use Rattle.model.specs.Mutant.{slots as slotsOf};
 ghost use Rattle.block.specs.Layout.{statesOf};
-ghost use Rattle.machine.specs.Rounds.{tables, Valid};
+ghost use Rattle.machine.specs.Product.{tables, Valid};
 ghost use Rattle.search.specs.Search.{Meets, Wanted, Searching, mutantIn, Decides};
 ghost use Rattle.search.specs.Shown.{Room, Showing, Written};
 

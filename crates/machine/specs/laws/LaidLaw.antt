@@ -20,7 +20,7 @@ use Rattle.block.specs.Tabled.{Tabled}
 use Rattle.block.specs.laws.ChoiceLaw.{chosen-none, chosen-some, chosen-low, start-is}
 use Rattle.block.specs.laws.TabledLaw.{rule-same, step-same, start-same, ranged, slot-low, well-formed}
 use Rattle.machine.specs.Laid.{Chosen, Settles, Moves}
-use Rattle.machine.specs.Rounds.{movesIn, tables, Valid}
+use Rattle.machine.specs.Product.{movesIn, tables, Valid}
 
 -- the machine at a state and an input in range
 pub move-at : (m outputs targets : List ℕ) (s x : ℕ) → s < statesOf m → x < inputsOf m →

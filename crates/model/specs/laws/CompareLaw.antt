@@ -124,7 +124,7 @@ pub dist-cons : (m : Pair) (p q x : ℕ) (xs : List ℕ) (r : Move) → m .rule 
 unfolding DistinguishesFrom specifiedFrom outputsFrom
 dist-cons m p q x xs r e (os, eo, ne) = (r .output ∷ os, rw (e, eo) refl, λ h. ne (cc))
 
-dist-nil : (m : Pair) (p q : ℕ) → DistinguishesFrom m p q [] → ⊥
+pub dist-nil : (m : Pair) (p q : ℕ) → DistinguishesFrom m p q [] → ⊥
 unfolding DistinguishesFrom specifiedFrom outputsFrom
 dist-nil m p q (os, e, ne) = ne (cc)
 

@@ -11,8 +11,8 @@ use Rattle.lists.specs.laws.TestLaw.{never}
 use Rattle.model.specs.Suite.{Passes, compareOf, complete, survivor, judgeOf}
 use Rattle.model.specs.laws.JudgeLaw.{judge-none, judge-first}
 use Rattle.cubes.specs.declared.goal.Goal.the-variants.{Nonconforming}
-use Rattle.machine.specs.declared.distance.Difference.{Difference}
-use Rattle.machine.specs.declared.distance.Difference.the-variants as difference
+use Rattle.machine.specs.declared.product.Difference.{Difference}
+use Rattle.machine.specs.declared.product.Difference.the-variants as difference
 use Rattle.machine.specs.Differences.{differenceOf}
 use Rattle.search.specs.Search.{Wanted, Begins, NoneFrom}
 use Rattle.search.specs.Shown.{Shown}

@@ -1,8 +1,8 @@
 use borrow.Author.Needs.{needs}
 use native.Mathlib.Nat.{mul-le-mul}
 use native.Mathlib.Omega.{arith}
-use Rattle.machine.proofs.distance.bound.Statement.{statement}
-use Rattle.machine.proofs.distance.bound.Tie as tie
+use Rattle.machine.proofs.product.bound.Statement.{statement}
+use Rattle.machine.proofs.product.bound.Tie as tie
 
 pub bound-spec : {M : Type 1} → statement M
 bound-spec =
