@@ -6,8 +6,8 @@ use crate::grow::grow;
 use block::BLOCK;
 use cubes::tables::FACTS;
 use logs::log_suite;
-use refutation::fresh_store;
 use refutation::prepare;
+use refutation::short_store;
 use sweep::fresh_notes;
 use writing::spell::byte;
 use writing::spell::bytes;
@@ -47,7 +47,7 @@ fn grow_whole(block: &[u8; BLOCK], bytes: &mut [u8], log: &mut [u16], from: Grow
     let mut facts = no_facts();
     let mut notes = fresh_notes();
     if prepare(block, &log[..from.observed], &mut facts) {
-        let mut store = fresh_store();
+        let mut store = short_store();
         return grow(block, &mut facts, &mut store, &mut notes, bytes, log, from);
     }
     let mut small = [0u32; 1];

@@ -22,6 +22,7 @@ pub use store::Told;
 use store::admit_all;
 pub use store::fresh_store;
 pub use store::no_store;
+pub use store::short_store;
 use store::unknown;
 ghost use mathlib.Core.Path.{_≡_};
 ghost use mathlib.Core.Bool.{true};

@@ -1,5 +1,5 @@
-// What steers a sweep, in the notes that a search leaves free: how much may be spent on looks, and some survivors that were met on the
-// way (256 where any choice will do). No promise rests on it.
+// What steers a sweep, in the notes that a search leaves free: how much may be spent on looks, of how many first choices questions are
+// asked, and some survivors that were met on the way (256 where any choice will do). No promise rests on it.
 use block::BLOCK;
 use block::wide16;
 use leaves::KEPT;
@@ -14,10 +14,12 @@ ghost use lib.ListN.{set, replicate};
 ghost use Rattle.leaves.specs.Noted.{Changed};
 ghost use Rattle.block.specs.Tabulated.{Wf};
 
-// What may be spent, and which survivor is overwritten next.
+// What may be spent, which survivor is overwritten next, and how many first choices a question has at least.
 const EFFORT: usize = LONG;
 
 const NEXT: usize = LONG + 1;
+
+const FLOOR: usize = LONG + 2;
 
 // Whether a survivor is kept, for each of eight.
 const HELD: usize = LONG + 8;
@@ -54,14 +56,46 @@ pub(crate) fn spend(notes: &mut [u16], n: u16) {
     set_note(notes, EFFORT, left - n);
 }
 
-fn earn(notes: &mut [u16])
+fn earn(notes: &mut [u16], n: u16)
+    requires { ⌜ n < 32768 ⌝ }
     ensures { λ r. ⌜ Changed 9856 9872 (now (notes .entry)) (now (notes .exit)) ⌝ }
 {
     let left = note(notes, EFFORT);
     if left >= 32768 {
         return;
     }
-    set_note(notes, EFFORT, left + MORE);
+    set_note(notes, EFFORT, left + n);
+}
+
+// How many first choices of n a question has: not those of a survivor alone, and as many as were needed of late.
+pub(crate) fn depth(notes: &[u16], known: usize, n: usize) -> usize {
+    let floor = wide16(note(notes, FLOOR));
+    if known >= floor {
+        return known;
+    }
+    if floor > n {
+        return n;
+    }
+    floor
+}
+
+fn one_less(at: usize) -> u16 {
+    if at == 0 {
+        return 0;
+    }
+    ((at - 1) % 64) as u16
+}
+
+// After a question of so many first choices that was answered: the next has fewer, and comes soon.
+pub(crate) fn answered(notes: &mut [u16], at: usize) {
+    set_note(notes, FLOOR, one_less(at));
+    earn(notes, 1);
+}
+
+// After one that was not: the next has more, and looks come first.
+pub(crate) fn unanswered(notes: &mut [u16], at: usize) {
+    set_note(notes, FLOOR, (at % 64) as u16 + 2);
+    earn(notes, MORE);
 }
 
 // Where choice j of survivor w stands.
@@ -156,7 +190,7 @@ pub fn test_survivors(block: &[u8; BLOCK], log: &[u16], notes: &mut [u16], at: u
     requires { ⌜ Wf (now block) ⌝ }
     ensures { λ r. ⌜ Changed 9856 9872 (now (notes .entry)) (now (notes .exit)) ⌝ }
 {
-    earn(notes);
+    earn(notes, MORE);
     let mut w: usize = 0;
     while w < 8 {
         test_one(block, log, notes, w, at);

@@ -4,9 +4,12 @@ use crate::look::Looked;
 use crate::look::look;
 use crate::order::following;
 use crate::pool::affords;
+use crate::pool::answered;
+use crate::pool::depth;
 use crate::pool::keep;
 use crate::pool::most_agreed;
 use crate::pool::spend;
+use crate::pool::unanswered;
 use block::BLOCK;
 use block::slots;
 use block::wide;
@@ -85,17 +88,7 @@ fn ask(
     }
 }
 
-fn later(at: usize, other: usize) -> usize
-    requires { ⌜ at ≤ 32 ⌝ }
-    ensures { λ r. ⌜ at < r ⌝ }
-{
-    if other > at {
-        return other;
-    }
-    at + 1
-}
-
-// Asks of ever more of p's first choices, beyond those that a survivor has.
+// Asks of p's first choices, more of them than a survivor has.
 fn ask_on(
     block: &[u8; BLOCK],
     facts: &[u16; FACTS],
@@ -108,15 +101,18 @@ fn ask_on(
     ensures { λ r. ⌜ StoreOk Nonconforming (now (block .entry)) (now (log .entry)) (now (store .exit)) × AskedOk (now (block .entry)) (now (log .entry)) (now (p .entry)) r ⌝ }
 {
     let n = wide(slots(block) % 33);
-    let mut at = most_agreed(notes, p, n);
-    while at <= n {
-        let asked = ask(block, facts, log, store, notes, p, at);
-        if asked.ok {
-            return asked;
-        }
-        keep(notes);
-        at = later(at, most_agreed(notes, p, n));
+    let known = most_agreed(notes, p, n);
+    if known > n {
+        return nothing();
     }
+    let at = depth(notes, known, n);
+    let asked = ask(block, facts, log, store, notes, p, at);
+    if asked.ok {
+        answered(notes, at);
+        return asked;
+    }
+    keep(notes);
+    unanswered(notes, at);
     nothing()
 }
 
@@ -154,7 +150,7 @@ fn take_look(
     }
 }
 
-// While there is something to spend a look at p; else questions, if the store has room for an entry, and a look where they say nothing.
+// While there is something to spend a look at p; else a question, if the store has room for an entry, and a look where it says nothing.
 // With an empty store it gives up instead.
 pub(crate) fn turn(
     block: &[u8; BLOCK],

@@ -21,12 +21,12 @@ prepare-requires c κs =
 
 grow-requires : tie.Need-grow-requires
 grow-requires c κs =
-    let at-fresh-store = c .before .before .before .before .before in
-    let at-if1 = at-fresh-store .before in
+    let at-short-store = c .before .before .before .before .before in
+    let at-if1 = at-short-store .before in
     let at-prepare = at-if1 .before in
     let earlier = at-prepare .before .before .before .before .before in
     let entry = earlier .before .before in
-    ((entry .pre, at-prepare .prepare .ensures .0), (λ l. at-prepare .prepare .ensures .1 (at-if1 .if1 .taken), at-fresh-store .fresh-store .ensures _ _ _))
+    ((entry .pre, at-prepare .prepare .ensures .0), (λ l. at-prepare .prepare .ensures .1 (at-if1 .if1 .taken), at-short-store .short-store .ensures _ _ _))
 
 returns : tie.Need-returns
 returns c =
