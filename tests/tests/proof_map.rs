@@ -138,6 +138,8 @@ fn every_operation_promises() {
     let references = references();
     for file in [
         "sheet/src/lib.rt",
+        "commands/src/lib.rt",
+        "reading/src/lib.rt",
         "writing/src/lib.rt",
         "generator/src/lib.rt",
         "mutation/src/lib.rt",

@@ -181,7 +181,7 @@ pub fn load(
     let mut first = [0u16; 256];
     let mut mutated = [0u8; 256];
     let mut diverted = [0u8; 256];
-    let loaded = sheet::load(
+    let loaded = reading::load(
         sheet,
         &mut output,
         &mut target,

@@ -33,7 +33,7 @@ use writing::Written;
 pub extern "C" fn ranthelo_read(sheet: &[u8], answer: &mut [usize; 9])
     ensures { λ r. ⌜ now (answer .exit) ≡ readNumbers (readAnswer (reading (now (sheet .entry)))) ⌝ }
 {
-    match sheet::read(sheet) {
+    match reading::read(sheet) {
         Reading::Accepted(z) => {
             *answer = [
                 0,
@@ -58,7 +58,7 @@ pub extern "C" fn ranthelo_read(sheet: &[u8], answer: &mut [usize; 9])
 pub extern "C" fn ranthelo_test_span(sheet: &[u8], test: usize, answer: &mut [usize; 4])
     ensures { λ r. ⌜ now (answer .exit) ≡ partNumbers (partAnswer (parting (now (sheet .entry)) test)) ⌝ }
 {
-    match sheet::test_span(sheet, test) {
+    match reading::test_span(sheet, test) {
         Parting::At(span) => {
             *answer = [0, 0, span.start, span.length];
         }

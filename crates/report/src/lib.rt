@@ -20,7 +20,7 @@ use text::put_survivor;
 fn suspects(sheet: &[u8]) -> usize
     ensures { λ r. ⌜ r ≡ suspectsIn (readAnswer (reading (now (sheet .entry)))) ⌝ }
 {
-    match sheet::read(sheet) {
+    match reading::read(sheet) {
         Reading::Accepted(summary) => summary.suspects,
         Reading::Refused(_, _) => 0,
     }

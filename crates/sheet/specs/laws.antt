@@ -6,6 +6,7 @@ pub mod EncodedLaw
 pub mod InjectiveLaw
 pub mod PartLaw
 pub mod RowLaw
+pub mod RowTableLaw
 pub mod ReachedLaw
 pub mod CommandLaw
 pub mod AcceptedLaw

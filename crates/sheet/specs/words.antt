@@ -1,4 +1,2 @@
--- What the crate's own functions say to one another: no promise to a user rests on it.
-pub mod Fetch
-pub mod Held
-pub mod Places
+-- What the crates that read a sheet say to one another: no promise to a user rests on it.
+pub mod Tabled

@@ -100,7 +100,7 @@ fn put(sheet: &[u8], buffer: &mut [u8]) -> Written
     ensures { λ r. ⌜ r ≡ writtenAnswer (placed (reading (now (sheet .entry))) (now (sheet .entry)) (length (now (buffer .entry)))) ⌝ }
     ensures { λ r. ⌜ now (buffer .exit) ≡ overlay (sheetWrites (placed (reading (now (sheet .entry))) (now (sheet .entry)) (length (now (buffer .entry))))) (now (buffer .entry)) ⌝ }
 {
-    let reading = sheet::read(sheet);
+    let reading = reading::read(sheet);
     let Reading::Accepted(_) = reading else {
         let why = refusal_of(reading);
         return Written::Refused(why.number, 0);

@@ -9,7 +9,7 @@ use Rattle.lists.specs.Lists.{first, All, joined}
 use Rattle.lists.specs.laws.TestLaw.{never}
 
 module _ {A : Type 0} (P : A → Type 0) where
-  -- one element more; an element of the list; the empty list
+  -- one element more; an element of the list
   pub all-snoc : (l : List A) (a : A) → All P l → P a → All P (l ++ a ∷ [])
   all-snoc [] a h e = (e, tt)
   all-snoc (b ∷ l) a h e = (h .0, all-snoc l a (h .1) e)
@@ -17,9 +17,6 @@ module _ {A : Type 0} (P : A → Type 0) where
   pub all-at : (l : List A) (a : A) (rest : List A) → All P (l ++ a ∷ rest) → P a
   all-at [] a rest h = h .0
   all-at (b ∷ l) a rest h = all-at l a rest (h .1)
-
-  pub all-none : (l : List A) → l ≡ [] → All P l
-  all-none l e = rw e tt
 
   -- what holds of everything holds of each element
   pub all-every : ((x : A) → P x) → (xs : List A) → All P xs

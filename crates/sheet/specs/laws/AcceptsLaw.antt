@@ -12,13 +12,13 @@ use Rattle.sheet.specs.declared.Row.{Row}
 use Rattle.sheet.specs.declared.Size.{Size}
 use Rattle.lists.specs.Lists.{maybe, Before}
 use Rattle.sheet.specs.Sheet.{Sheet, pairOf, rowOf, ruleAt, after}
-use Rattle.sheet.specs.Reading.{accepted, size, quiet, rule, fault, start, test, press, sized, quieted, ruled, faulted, started, testing, rowAt, sizeAt, lastTest, addPress, refusal, advance, blank, reading}
+use Rattle.sheet.specs.Reading.{Command, Progress, accepted, size, quiet, rule, fault, start, test, press, unsized, sized, quieted, ruled, faulted, started, testing, width, rowAt, sizeAt, lastTest, addPress, refusal, advance, blank, reading}
 use Rattle.sheet.specs.Encode.{sizeBytes, quietBytes, rowBytes, operandBytes, startBytes, pressBytes, testBytes, encode}
-use Rattle.sheet.specs.WellFormed.{RowIn, Mutates, StartIn, TestIn, WellFormed}
+use Rattle.sheet.specs.WellFormed.{SizeIn, RowIn, Mutates, StartIn, TestIn, WellFormed}
 use Rattle.lists.specs.laws.TestLaw.{never}
 use Rattle.lists.specs.laws.AllLaw.{all-at}
-use Rattle.sheet.specs.laws.ReadingLaw.{by-size, by-quiet, by-rule, by-fault, by-start, by-test, by-press, refusal-quiet, refusal-end}
-use Rattle.sheet.specs.laws.InjectiveLaw.{testsOn, startsOn, faultsOn, rulesOn, encode-parts}
+use Rattle.sheet.specs.laws.ReadingLaw.{Stands, next, Moves, by-size, by-quiet, by-rule, by-fault, by-start, by-test, by-press, refusal-quiet, refusal-end}
+use Rattle.sheet.specs.laws.InjectiveLaw.{testsOn, startsOn, faultsOn, encode-parts}
 use Rattle.sheet.specs.laws.RowLaw.{last-snoc, ascending-last}
 use Rattle.sheet.specs.laws.ReachedLaw.{each-reached}
 use Rattle.sheet.specs.laws.CommandLaw.{Follows, FaultRight, StartRight, right-size, right-rule, right-fault, right-start, right-test, right-press}
@@ -62,103 +62,66 @@ record Read (s : List ℕ) (earliest latest : ℕ) (sh : Sheet) (l : List ℕ) :
 abbrev part : Size → Bool → List Row → List Row → List ℕ → List (List ℕ) → Sheet
 part z q rules faults starts tests = record { size = z; quiet = q; rules = rules; faults = faults; starts = starts; tests = tests }
 
-module _ {s : List ℕ} {sh : Sheet} {l : List ℕ} where
-  -- later phases may come
-  widen : (a b c d : ℕ) → c ≤ a → b ≤ d → Read s a b sh l → Read s c d sh l
-  widen a b c d h k r = record { phase = r .phase; at = r .at; early = omega (arith, r .early); late = omega (arith, r .late); going = r .going; left = r .left }
+-- other phases may come
+widen : {s : List ℕ} {sh : Sheet} {l : List ℕ} {a b : ℕ} (c d : ℕ) → Read s a b sh l → c ≤ a → b ≤ d → Read s c d sh l
+widen c d r h k = record { phase = r .phase; at = r .at; early = omega (arith, r .early); late = omega (arith, r .late); going = r .going; left = r .left }
 
-  read-rule : (r : Row) → Follows pairOf (sh .size) (sh .rules) r → Read s sized ruled sh (2 ∷ r .source ∷ r .input ∷ r .output ∷ r .target ∷ l) → Read s sized ruled (advance sh (rule r)) l
-  read-rule r f h =
-      let same = row-is {r = r} (h .left) in
+-- one command is read: its operands give what is wanted, and it breaks no rule
+module _ {s : List ℕ} {sh : Sheet} {earliest latest b : ℕ} {l : List ℕ} (h : Read s earliest latest sh (b ∷ l)) where
+  abbrev here : Progress
+  here = record { phase = h .phase; sheet = sh }
+
+  read-one : {A : Type 0} {e : ℕ} (c : A → Command) (got want : A) (phase : ℕ) → e ≤ phase → 1 ≤ width b → width b ≤ length (b ∷ l)
+      → got ≡ want → refusal sh (c want) ≡ 0 → (Stands here s (h .at) b earliest latest (c got) → Moves here s (h .at) (next here phase (c got)) (h .at + width b))
+      → Read s e phase (advance sh (c want)) (drop (width b) (b ∷ l))
+  read-one {A} c got want phase early wide room same right moves =
       record {
-        phase = ruled;
-        at = h .at + 5;
-        early = omega arith;
+        phase = phase;
+        at = h .at + width b;
+        early = early;
         late = omega arith;
-        left = left-after (h .left) 5;
-        going = subst (λ (q : Row). Going s (record { phase = ruled; sheet = advance sh (rule q) }) (h .at + 5)) same
-            (going-on (h .going) (by-rule (record {
+        left = left-after (h .left) (width b);
+        going = subst (λ (x : A). Going s (next here phase (c x)) (h .at + width b)) same
+            (going-on (h .going) (moves (record {
               byte = first-byte (h .left);
               early = h .early;
               late = h .late;
-              room = room-for (h .left) 5 (omega arith) (omega arith);
-              right = rw same (right-rule sh r f);
+              room = room-for (h .left) (width b) wide room;
+              right = rw same right;
             })));
       }
+
+module _ {s : List ℕ} {sh : Sheet} {l : List ℕ} where
+  read-rule : (r : Row) → Follows pairOf (sh .size) (sh .rules) r → Read s sized ruled sh (2 ∷ r .source ∷ r .input ∷ r .output ∷ r .target ∷ l) → Read s sized ruled (advance sh (rule r)) l
+  read-rule r f h = read-one h rule (rowAt s (h .at)) r ruled (omega arith) (omega arith) (omega arith) (row-is {r = r} (h .left)) (right-rule sh r f) by-rule
 
   read-fault : (r : Row) → FaultRight sh r → Read s sized faulted sh (3 ∷ r .source ∷ r .input ∷ r .output ∷ r .target ∷ l) → Read s sized faulted (advance sh (fault r)) l
-  read-fault r f h =
-      let same = row-is {r = r} (h .left) in
-      record {
-        phase = faulted;
-        at = h .at + 5;
-        early = omega arith;
-        late = omega arith;
-        left = left-after (h .left) 5;
-        going = subst (λ (q : Row). Going s (record { phase = faulted; sheet = advance sh (fault q) }) (h .at + 5)) same
-            (going-on (h .going) (by-fault (record {
-              byte = first-byte (h .left);
-              early = h .early;
-              late = h .late;
-              room = room-for (h .left) 5 (omega arith) (omega arith);
-              right = rw same (right-fault sh r f);
-            })));
-      }
+  read-fault r f h = read-one h fault (rowAt s (h .at)) r faulted (omega arith) (omega arith) (omega arith) (row-is {r = r} (h .left)) (right-fault sh r f) by-fault
 
   read-start : (t : ℕ) → StartRight sh t → Read s sized started sh (7 ∷ t ∷ l) → Read s sized started (advance sh (start t)) l
-  read-start t f h =
-      let same : getD s (h .at + 1) 0 ≡ t = byte-at (h .left) 1 in
-      record {
-        phase = started;
-        at = h .at + 2;
-        early = omega arith;
-        late = omega arith;
-        left = left-after (h .left) 2;
-        going = subst (λ (u : ℕ). Going s (record { phase = started; sheet = advance sh (start u) }) (h .at + 2)) same
-            (going-on (h .going) (by-start (record {
-              byte = first-byte (h .left);
-              early = h .early;
-              late = h .late;
-              room = room-for (h .left) 2 (omega arith) (omega arith);
-              right = rw same (right-start sh t f);
-            })));
-      }
+  read-start t f h = read-one h start (getD s (h .at + 1) 0) t started (omega arith) (omega arith) (omega arith) (byte-at (h .left) 1) (right-start sh t f) by-start
 
   read-test : length (sh .tests) < 256 → Read s sized testing sh (4 ∷ l) → Read s testing testing (advance sh test) l
-  read-test f h =
-      record {
-        phase = testing;
-        at = h .at + 1;
-        early = omega arith;
-        late = omega arith;
-        left = left-after (h .left) 1;
-        going = going-on (h .going) (by-test (record {
-          byte = first-byte (h .left);
-          early = h .early;
-          late = h .late;
-          room = room-for (h .left) 1 (omega arith) (omega arith);
-          right = right-test sh f;
-        }));
-      }
+  read-test f h = read-one h (λ (u : ℕ). test) 0 0 testing (omega arith) (omega arith) (omega arith) refl (right-test sh f) by-test
 
   read-press : (x : ℕ) → refusal sh (press x) ≡ 0 → Read s testing testing sh (5 ∷ x ∷ l) → Read s testing testing (advance sh (press x)) l
-  read-press x f h =
-      let same : getD s (h .at + 1) 0 ≡ x = byte-at (h .left) 1 in
-      record {
-        phase = testing;
-        at = h .at + 2;
-        early = omega arith;
-        late = omega arith;
-        left = left-after (h .left) 2;
-        going = subst (λ (y : ℕ). Going s (record { phase = testing; sheet = advance sh (press y) }) (h .at + 2)) same
-            (going-on (h .going) (by-press (record {
-              byte = first-byte (h .left);
-              early = h .early;
-              late = h .late;
-              room = room-for (h .left) 2 (omega arith) (omega arith);
-              right = rw same f;
-            })));
-      }
+  read-press x f h = read-one h press (getD s (h .at + 1) 0) x testing (omega arith) (omega arith) (omega arith) (byte-at (h .left) 1) f by-press
+
+module _ {s l : List ℕ} where
+  read-quiet : (z : Size) (q : Bool) → Read s sized sized (part z false [] [] [] []) (quietBytes q ++ l) → Read s sized ruled (part z q [] [] [] []) l
+  unfolding quietBytes advance
+  read-quiet z false h = widen sized ruled h (omega arith) (omega arith)
+  read-quiet z true h =
+      widen sized ruled
+      (read-one h {e = sized} (λ (u : ℕ). quiet) 0 0 quieted (omega arith) (omega arith) (omega arith) refl (refusal-quiet (part z false [] [] [] [])) by-quiet)
+      (omega arith) (omega arith)
+
+  read-size : (z : Size) → SizeIn z → length s ≤ 16384 → s ≡ sizeBytes z ++ l → Read s sized sized (part z false [] [] [] []) l
+  unfolding sizeBytes advance blank
+  read-size z k few e =
+      let begin : Read s unsized unsized (blank .sheet) (sizeBytes z ++ l) =
+      record { phase = unsized; at = 0; early = omega arith; late = omega arith; going = going-start s few; left = record { bytes = e } } in
+      read-one begin size (sizeAt s 0) z sized (omega arith) (omega arith) (omega arith) (size-is {z = z} (begin .left)) (right-size (blank .sheet) z k) by-size
 
 short-of : {A : Type 0} (l : List A) (a : A) (rest : List A) (n : ℕ) → length (l ++ a ∷ rest) ≤ n → length l < n
 short-of l a rest n h = let k = simp length-append at h in omega arith
@@ -191,25 +154,6 @@ press-last (y ∷ []) xs x = refl
 press-last (y ∷ z ∷ l) xs x = rw (press-last (z ∷ l) xs x)
 
 module _ (sh : Sheet) (w : WellFormed sh) (s : List ℕ) where
-  read-quiet : (q : Bool) (l : List ℕ) → Read s sized sized (part (sh .size) false [] [] [] []) (quietBytes q ++ l) → Read s sized ruled (part (sh .size) q [] [] [] []) l
-  unfolding quietBytes advance
-  read-quiet false l h = widen sized sized sized ruled (omega arith) (omega arith) h
-  read-quiet true l h =
-      record {
-        phase = quieted;
-        at = h .at + 1;
-        early = omega arith;
-        late = omega arith;
-        left = left-after (h .left) 1;
-        going = going-on (h .going) (by-quiet (record {
-          byte = first-byte (h .left);
-          early = h .early;
-          late = h .late;
-          room = room-for (h .left) 1 (omega arith) (omega arith);
-          right = refusal-quiet (part (sh .size) false [] [] [] []);
-        }));
-      }
-
   read-rules : (done rest : List Row) (l : List ℕ) → done ++ rest ≡ sh .rules
       → Read s sized ruled (part (sh .size) (sh .quiet) done [] [] []) (rowBytes 2 rest ++ l) → Read s sized ruled (part (sh .size) (sh .quiet) (sh .rules) [] [] []) l
   unfolding rowBytes advance
@@ -259,8 +203,9 @@ module _ (sh : Sheet) (w : WellFormed sh) (s : List ℕ) where
       let t' : TestIn (sh .rules) ((done ++ x ∷ []) ++ rest) = rw append-snoc t in
       let right : refusal (upto (before ++ done ∷ [])) (press x) ≡ 0 =
       right-press (upto (before ++ done ∷ [])) x (w .rules) (rw (last-test before done) (test-front (sh .rules) (done ++ x ∷ []) rest t')) in
-      let h' : Read s testing testing (upto (before ++ (done ++ x ∷ []) ∷ [])) (pressBytes rest ++ l) = rw (press-last before done x) at (read-press x right h) in
-      rw (append-snoc done x rest) at (read-presses before (done ++ x ∷ []) rest l t' h')
+      subst (λ (xs : List ℕ). Read s testing testing (upto (before ++ xs ∷ [])) l) (append-snoc done x rest)
+      (read-presses before (done ++ x ∷ []) rest l t'
+      (subst (λ (tests : List (List ℕ)). Read s testing testing (upto tests) (pressBytes rest ++ l)) (press-last before done x) (read-press x right h)))
 
   read-tests : (done rest : List (List ℕ)) (l : List ℕ) → done ++ rest ≡ sh .tests → Read s sized testing (upto done) (testBytes rest ++ l) → Read s sized testing sh l
   unfolding testBytes advance
@@ -269,41 +214,20 @@ module _ (sh : Sheet) (w : WellFormed sh) (s : List ℕ) where
       let begun : Read s testing testing (upto (done ++ [] ∷ [])) (pressBytes xs ++ (testBytes rest ++ l)) =
       read-test (short-of done xs rest 256 (rw e (w .few-tests))) (rw append-assoc at h) in
       read-tests (done ++ xs ∷ []) rest l (append-snoc done xs rest ∙ e)
-      (widen testing testing sized testing (omega arith) (omega arith) (read-presses done [] xs (testBytes rest ++ l) (all-at (TestIn (sh .rules)) done xs rest (rw e (w .tests))) begun))
+      (widen sized testing (read-presses done [] xs (testBytes rest ++ l) (all-at (TestIn (sh .rules)) done xs rest (rw e (w .tests))) begun) (omega arith) (omega arith))
 
   read-end : Read s sized testing sh (6 ∷ []) → reading s ≡ accepted sh
   read-end h =
       going-end (h .going) (record { byte = first-byte (h .left); early = h .early; late = h .late; room = room-for (h .left) 1 (omega arith) (omega arith); right = refusal-end sh })
       ∙ finishes sh s (h .at) (omega (arith, length-drop (h .at) s, left-length (h .left))) (each-reached sh (omega (arith, w .size .states .some)) (w .rules) (w .reached)) (w .few-open)
 
-  read-size : (l : List ℕ) → length s ≤ 16384 → s ≡ sizeBytes (sh .size) ++ l → Read s sized sized (part (sh .size) false [] [] [] []) l
-  unfolding sizeBytes advance blank
-  read-size l k e =
-      let whole : Left s 0 (sizeBytes (sh .size) ++ l) = record { bytes = e } in
-      let same = size-is {z = sh .size} whole in
-      record {
-        phase = sized;
-        at = 4;
-        early = omega arith;
-        late = omega arith;
-        left = left-after whole 4;
-        going = subst (λ (z : Size). Going s (record { phase = sized; sheet = part z false [] [] [] [] }) 4) same
-            (going-on (going-start s k) (by-size (record {
-              byte = first-byte whole;
-              early = omega arith;
-              late = omega arith;
-              room = room-for whole 4 (omega arith) (omega arith);
-              right = rw same (right-size (blank .sheet) (sh .size) (w .size));
-            })));
-      }
-
 -- a well-formed sheet of at most 16,384 bytes is accepted, from its encoding
 pub accepts : (sh : Sheet) → WellFormed sh → length (encode sh) ≤ 16384 → reading (encode sh) ≡ accepted sh
 accepts sh w k =
     let s = encode sh in
-    let z = read-size sh w s (quietBytes (sh .quiet) ++ rulesOn sh) k (encode-parts sh) in
-    let q = read-quiet sh w s (sh .quiet) (rulesOn sh) z in
+    let z = read-size (sh .size) (w .size) k (encode-parts sh) in
+    let q = read-quiet (sh .size) (sh .quiet) z in
     let r = read-rules sh w s [] (sh .rules) (faultsOn sh) refl q in
-    let f = read-faults sh w s [] (sh .faults) (startsOn sh) refl (widen sized ruled sized faulted (omega arith) (omega arith) r) in
-    let u = read-starts sh w s [] (sh .starts) (testsOn sh) refl (widen sized faulted sized started (omega arith) (omega arith) f) in
-    read-end sh w s (read-tests sh w s [] (sh .tests) (6 ∷ []) refl (widen sized started sized testing (omega arith) (omega arith) u))
+    let f = read-faults sh w s [] (sh .faults) (startsOn sh) refl (widen sized faulted r (omega arith) (omega arith)) in
+    let u = read-starts sh w s [] (sh .starts) (testsOn sh) refl (widen sized started f (omega arith) (omega arith)) in
+    read-end sh w s (read-tests sh w s [] (sh .tests) (6 ∷ []) refl (widen sized testing u (omega arith) (omega arith)))

@@ -1,15 +1,16 @@
 -- A reading on its way: from here on it ends as the whole reading does.
 use mathlib.Core.Path.{_≡_, refl, sym}
-use mathlib.Core.Bool.{true}
+use mathlib.Core.Bool.{true, false}
 use mathlib.Core.List.{List}
 use Prim.Native.Nat.{ℕ, zero, suc, _+_, _<_, _≤_}
 use native.Mathlib.Omega.{arith}
+use lib.Dec.{eqb}
 use lib.ListN.{length}
 use borrow.Author.Tests.{lt-leb, le-leb, le-ltb}
 use Rattle.sheet.specs.Sheet.{Sheet, allReached, openSlots}
-use Rattle.sheet.specs.Reading.{accepted, Progress, unsized, sized, ruled, faulted, started, testing, go, stop, finishing, doing, oneCommand, from, blank, reading}
+use Rattle.sheet.specs.Reading.{accepted, Command, Progress, sized, testing, phaseAfter, during, allowed, width, commandOf, go, stop, finishing, doing, oneCommand, from, blank, reading}
 use Rattle.sheet.specs.laws.BrokenLaw.{unbroken-all}
-use Rattle.sheet.specs.laws.ReadingLaw.{Moves, by-size, by-quiet, by-rule, by-fault, by-start, by-test, by-press, moves-on, Ends, checks}
+use Rattle.sheet.specs.laws.ReadingLaw.{Stands, next, Moves, by-size, by-quiet, by-rule, by-fault, by-start, by-test, by-press, moves-on, Ends, checks}
 
 -- enough fuel is left
 pub record Going (s : List ℕ) (p : Progress) (at : ℕ) : Type 0 where
@@ -24,22 +25,20 @@ going-start s k = record { fuel = length s + 1; enough = omega arith; rest = rw 
 
 module _ {p : Progress} {s : List ℕ} {at : ℕ} where
   -- a command that may stand here leads on
-  pub stepped : {q : Progress} {e : ℕ} → Moves p s at q e → oneCommand p s at ≡ go q e
+  steps : {b earliest latest : ℕ} {c : Command} → Stands p s at b earliest latest c → 1 ≤ width b → allowed (p .phase) b ≡ during earliest latest (p .phase)
+      → commandOf b s at ≡ c → eqb b 6 ≡ false → oneCommand p s at ≡ go (next p (phaseAfter b) c) (at + width b)
   unfolding oneCommand doing
-  stepped (by-size m) =
-      rw (lt-leb (length s) at (omega arith), m .byte, le-leb unsized (p .phase) (m .early), le-leb (p .phase) unsized (m .late), le-ltb (length s) (at + 4) (m .room), m .right)
-  stepped (by-quiet m) =
-      rw (lt-leb (length s) at (omega arith), m .byte, le-leb sized (p .phase) (m .early), le-leb (p .phase) sized (m .late), le-ltb (length s) (at + 1) (m .room), m .right)
-  stepped (by-rule m) =
-      rw (lt-leb (length s) at (omega arith), m .byte, le-leb sized (p .phase) (m .early), le-leb (p .phase) ruled (m .late), le-ltb (length s) (at + 5) (m .room), m .right)
-  stepped (by-fault m) =
-      rw (lt-leb (length s) at (omega arith), m .byte, le-leb sized (p .phase) (m .early), le-leb (p .phase) faulted (m .late), le-ltb (length s) (at + 5) (m .room), m .right)
-  stepped (by-start m) =
-      rw (lt-leb (length s) at (omega arith), m .byte, le-leb sized (p .phase) (m .early), le-leb (p .phase) started (m .late), le-ltb (length s) (at + 2) (m .room), m .right)
-  stepped (by-test m) =
-      rw (lt-leb (length s) at (omega arith), m .byte, le-leb sized (p .phase) (m .early), le-leb (p .phase) testing (m .late), le-ltb (length s) (at + 1) (m .room), m .right)
-  stepped (by-press m) =
-      rw (lt-leb (length s) at (omega arith), m .byte, le-leb testing (p .phase) (m .early), le-leb (p .phase) testing (m .late), le-ltb (length s) (at + 2) (m .room), m .right)
+  steps {b} {earliest} {latest} {c} m wide may says more =
+      rw (lt-leb (length s) at (omega arith), m .byte, may, le-leb earliest (p .phase) (m .early), le-leb (p .phase) latest (m .late), le-ltb (length s) (at + width b) (m .room), more, says, m .right)
+
+  pub stepped : {q : Progress} {e : ℕ} → Moves p s at q e → oneCommand p s at ≡ go q e
+  stepped (by-size m) = steps m (omega arith) refl refl refl
+  stepped (by-quiet m) = steps m (omega arith) refl refl refl
+  stepped (by-rule m) = steps m (omega arith) refl refl refl
+  stepped (by-fault m) = steps m (omega arith) refl refl refl
+  stepped (by-start m) = steps m (omega arith) refl refl refl
+  stepped (by-test m) = steps m (omega arith) refl refl refl
+  stepped (by-press m) = steps m (omega arith) refl refl refl
 
   -- END stops it
   pub stopped : Ends p s at → oneCommand p s at ≡ stop (finishing (p .sheet) s at)

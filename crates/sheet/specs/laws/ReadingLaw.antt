@@ -104,6 +104,20 @@ known phase (suc (suc (suc (suc (suc (suc (suc (suc (suc b))))))))) h =
     ) in
     never (cc)
 
+-- a command byte that may stand somewhere is one of the eight
+pub known-range : (phase b : ℕ) → allowed phase b ≡ true → (1 ≤ b) × (b ≤ 8)
+known-range phase b h = one (known phase b h)
+  where
+    one : {n : ℕ} → Known n → (1 ≤ n) × (n ≤ 8)
+    one k1 = (omega arith, omega arith)
+    one k2 = (omega arith, omega arith)
+    one k3 = (omega arith, omega arith)
+    one k4 = (omega arith, omega arith)
+    one k5 = (omega arith, omega arith)
+    one k6 = (omega arith, omega arith)
+    one k7 = (omega arith, omega arith)
+    one k8 = (omega arith, omega arith)
+
 module _ (p : Progress) (s : List ℕ) (at : ℕ) where
   stands : (b earliest latest : ℕ) (c : Command) → getD s at 0 ≡ b → during earliest latest (p .phase) ≡ true → at + width b ≤ length s
       → refusal (p .sheet) c ≡ 0 → Stands p s at b earliest latest c

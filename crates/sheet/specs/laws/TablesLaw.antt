@@ -1,5 +1,5 @@
 -- The tables of a sheet, entry by entry, and where the faults of a pair stand.
-use Prim.Native.Nat.{ℕ, zero, suc, _+_, _<_, _≤_}
+use Prim.Native.Nat.{ℕ, zero, suc, _+_, _*_, _<_, _≤_}
 use mathlib.Core.Path.{_≡_, refl, ap, sym, _∙_}
 use mathlib.Core.Bool.{Bool, true, false, _&&_, cond}
 use mathlib.Core.Logic.{_⊎_, inl, inr}
@@ -9,8 +9,9 @@ use lib.Dec.{eqb}
 use lib.ListN.{length, getD, length-map}
 use borrow.Author.Tests.{eqb-true, eq-eqb, ne-eqb}
 use Rattle.sheet.specs.declared.Row.{Row}
+use Rattle.sheet.specs.declared.Size.{Size}
 use Rattle.lists.specs.Lists.{isNone, first, upTo, All, Ascending, Before}
-use Rattle.sheet.specs.Sheet.{Sheet, rowOf, isAt, rowsAt}
+use Rattle.sheet.specs.Sheet.{Sheet, rowOf, isAt, rowsAt, unruledChoices}
 use Rattle.sheet.specs.WellFormed.{WellFormed}
 use Rattle.sheet.specs.Tables.{table, firstAt, firstFault, noRow}
 use Rattle.lists.specs.laws.ListLaw.{getD-map-below, length-upTo, getD-upTo}
@@ -132,3 +133,8 @@ module _ (s x : ℕ) where
 
     pub fault-below : firstFault (sh .faults) s x + c < length (sh .faults)
     fault-below = omega (arith, index-below (sh .faults) c h, first-some (sh .faults) (omega arith))
+
+-- the choices of a pair without a rule
+pub unruled-by : (sh : Sheet) (z : Size) (q : Bool) → z ≡ sh .size → q ≡ sh .quiet → cond q 1 (z .outputs * z .states) ≡ unruledChoices sh
+unfolding unruledChoices
+unruled-by sh z q e f = rw (e, f)

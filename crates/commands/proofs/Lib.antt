@@ -1,0 +1,6 @@
+mod RuleLaw
+mod FaultLaw
+mod PressLaw
+mod StateLaw
+mod ObeyLaw
+mod ScanLaw

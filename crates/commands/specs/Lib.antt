@@ -1,0 +1,2 @@
+pub mod words
+pub mod laws

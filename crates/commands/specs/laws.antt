@@ -1,0 +1,2 @@
+-- The laws of the words.
+pub mod FetchLaw

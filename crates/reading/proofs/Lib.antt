@@ -1,0 +1,4 @@
+mod PlaceLaw
+mod SpanLaw
+mod FillLaw
+mod LoadLaw
