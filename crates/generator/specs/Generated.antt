@@ -4,14 +4,15 @@ use mathlib.Core.Path.{_≡_}
 use mathlib.Core.Bool.{false}
 use mathlib.Core.Option.{some}
 use mathlib.Core.List.{List, []}
-use lib.ListN.{length, take}
+use lib.ListN.{length}
 use Rattle.sheet.specs.declared.Row.{Row}
 use Rattle.sheet.specs.declared.Size.{Size}
 use Rattle.lists.specs.Lists.{All}
 use Rattle.sheet.specs.Sheet.{Sheet, ruleAt}
 use Rattle.sheet.specs.Reading.{accepted, reading}
+use Rattle.sheet.specs.WellFormed.{SizeIn}
 use Rattle.writing.specs.declared.Written.{Written}
-use Rattle.writing.specs.declared.Written.the-variants as written
+use Rattle.writing.specs.Writing.{Refuses, Writes}
 use Rattle.generator.specs.Generating.{faultOf}
 
 -- there is a rule at s and x; that of input 0 leads to the next state
@@ -38,7 +39,11 @@ pub record Generated (z : Size) (s : List ℕ) : Type 0 where
   pub few : length (sheet .faults) ≤ 32
   pub faulty : All (Faulty z (sheet .rules)) (sheet .faults)
 
--- of the buffer after an answer
-abbrev pub ToldGenerated : Size → Written → List ℕ → Type 0
-ToldGenerated z (written.Done n) buffer = Generated z (take n buffer)
-ToldGenerated z (written.Refused number place) buffer = Unit {0}
+-- 02's sentences in their order, of the answer and of the buffer as lent and after it
+pub record ToldGenerated (z : Size) (r : Written) (old new : List ℕ) : Type 0 where
+  -- sizes out of range
+  pub range : (SizeIn z → ⊥) → Refuses 4 r old new
+  -- then a buffer below 16,384 bytes
+  pub short : SizeIn z → length old < 16384 → Refuses 16 r old new
+  -- everything else is written
+  pub sheet : SizeIn z → 16384 ≤ length old → (s : List ℕ) × Writes s r new × Generated z s

@@ -67,7 +67,7 @@ fn spell(seed: u32, size: Size, buffer: &mut [u8]) -> Written
 pub fn generate(seed: u32, size: Size, buffer: &mut [u8]) -> Written
     ensures answer { λ r. ⌜ r ≡ writtenAnswer (generating seed size (length (now (buffer .entry)))) ⌝ }
     ensures bytes { λ r. ⌜ now (buffer .exit) ≡ overlay (sheetWrites (generating seed size (length (now (buffer .entry))))) (now (buffer .entry)) ⌝ }
-    ensures told { λ r. ⌜ ToldGenerated size r (now (buffer .exit)) ⌝ }
+    ensures told { λ r. ⌜ ToldGenerated size r (now (buffer .entry)) (now (buffer .exit)) ⌝ }
 {
     if !in_range(size) {
         return Written::Refused(4, 0);

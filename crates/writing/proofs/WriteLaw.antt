@@ -5,7 +5,7 @@ use mathlib.Core.Path.{_≡_, refl, sym, _∙_, ap}
 use mathlib.Core.Bool.{Bool, true, false, cond}
 use mathlib.Core.List.{List}
 use lib.Dec.{ltb}
-use lib.ListN.{length, drop, replicate, length-replicate}
+use lib.ListN.{length, take, drop, replicate, length-replicate}
 use lib.Seq.{take-append-seam}
 use borrow.Author.Tests.{lt-ltb, le-ltb, ltb-false}
 use Rattle.sheet.specs.declared.Reading.{Reading as ReadAnswer}
@@ -20,12 +20,12 @@ use Rattle.lists.specs.laws.TestLaw.{never}
 use Rattle.writing.specs.declared.Written.{Written}
 use Rattle.writing.specs.declared.Written.the-variants as written
 use Rattle.writing.specs.Drawing.{Drawing, isCut, sheetOf}
-use Rattle.writing.specs.Writing.{placed, writing, writtenAnswer, sheetWrites, ToldWritten}
+use Rattle.writing.specs.Writing.{placed, writing, writtenAnswer, sheetWrites, Spells, ToldWritten}
 use Rattle.writing.specs.words.Spelled.{Spelled, lengthOf}
 use Rattle.writing.specs.laws.SpelledLaw.{spelled-front}
 use Rattle.writing.specs.laws.DrawingLaw.{whole}
 use Rattle.writing.specs.laws.LengthLaw.{sheet-length}
-use Rattle.writing.specs.laws.WritingLaw.{spells}
+use Rattle.writing.specs.laws.WritingLaw.{refuses, writes, spells, cut-refused, unread-refused, short-refused, written-again}
 
 -- the answer and the buffer are those of an outcome
 abbrev Puts : Result (List ℕ) → Written → List ℕ → List ℕ → Type 0
@@ -62,29 +62,50 @@ module _ (s : List ℕ) (room : ℕ) (a : ReadAnswer) (e : a ≡ readAnswer (rea
 
 -- ---- write
 
-abbrev Promised : Drawing → ℕ → Written → List ℕ → List ℕ → Type 0
-Promised d room r old new = (r ≡ writtenAnswer (writing d room)) × ((new ≡ overlay (sheetWrites (writing d room)) old) × ToldWritten d r new)
+abbrev Promised : Drawing → Written → List ℕ → List ℕ → Type 0
+Promised d r old new =
+    (r ≡ writtenAnswer (writing d (length old))) × ((new ≡ overlay (sheetWrites (writing d (length old))) old) × ToldWritten d r old new)
 
-module _ (d : Drawing) (room : ℕ) where
+module _ (d : Drawing) (old : List ℕ) where
   -- what the answer tells
-  promised : (r : Written) (old new : List ℕ) → Puts (writing d room) r old new → Promised d room r old new
-  promised r old new p = (p .0, (p .1, one (writing d room) refl p))
-    where
-      one : (x : Result (List ℕ)) → writing d room ≡ x → Puts x r old new → ToldWritten d r new
-      one (accepted s) e q = rw (q .0, q .1, take-append-seam s (drop (length s) old)) (spells d room s e)
-      one (refused number place) e q = rw (q .0) tt
+  module _ (r : Written) (new : List ℕ) (p : Puts (writing d (length old)) r old new) where
+    spelt : (n : ℕ) → r ≡ written.Done n → Spells d (take n new)
+    spelt n h = one (writing d (length old)) refl p
+      where
+        one : (x : Result (List ℕ)) → writing d (length old) ≡ x → Puts x r old new → Spells d (take n new)
+        one (accepted s) e q =
+            let m : n ≡ length s = cc (q .0) in
+            rw (m, q .1, take-append-seam s (drop (length s) old)) (spells d (length old) s e)
+        one (refused number place) e q = never (cc (q .0))
 
-  pub write-cut : (l : List ℕ) → isCut d ≡ true → Promised d room (written.Refused 2 0) l l
+    promised : Promised d r old new
+    promised =
+        let room = length old in
+        let refuse = refuses (writing d room) r old new (p .0) (p .1) in (
+          p .0,
+          (
+            p .1,
+            record {
+              cut = λ h. refuse 2 (cut-refused room d h);
+              unread = λ sh number place t e. refuse number (rw (← t) (unread-refused room sh number place e));
+              short = λ s sh t e h. refuse 16 (rw (← t) (short-refused room s sh e h));
+              spells = spelt;
+              again = λ s sh t e h. writes (writing d room) r old new (p .0) (p .1) (rw (← t) (written-again room s sh e h));
+            },
+          ),
+        )
+
+  pub write-cut : isCut d ≡ true → Promised d (written.Refused 2 0) old old
   unfolding writing
-  write-cut l e = promised _ l l (puts-refused (writing d room) 2 l (rw e refl))
+  write-cut e = promised _ old (puts-refused (writing d (length old)) 2 old (rw e refl))
 
   module _ (is-whole : isCut d ≡ false) (long : Bool) (is : long ≡ ltb 16384 (lengthOf (d .quiet) (length (d .rules)) (length (d .faults)) (length (d .starts)) (length (d .lengths)) (length (d .presses)))) where
     measured : long ≡ ltb 16384 (length (encode (sheetOf d)))
     measured = is ∙ ap (ltb 16384) (sym (sheet-length d (whole d is-whole)))
 
-    pub write-long : (l : List ℕ) → long ≡ true → Promised d room (written.Refused 1 0) l l
+    pub write-long : long ≡ true → Promised d (written.Refused 1 0) old old
     unfolding writing reading
-    write-long l h = promised _ l l (puts-refused (writing d room) 1 l (rw (is-whole, ← measured, h) refl))
+    write-long h = promised _ old (puts-refused (writing d (length old)) 1 old (rw (is-whole, ← measured, h) refl))
 
     -- there is room in the array that the sheet is spelled in
     module _ (fits : long ≡ false) where
@@ -94,6 +115,6 @@ module _ (d : Drawing) (room : ℕ) where
       pub spelled-inside : {new : List ℕ} {to : ℕ} → Spelled (replicate 16384 0) new 0 to (encode (sheetOf d)) → to ≤ length new
       spelled-inside p = omega (arith, spell-room, p .many, p .long)
 
-    pub write-spelled : (r : Written) (old new s : List ℕ) → s ≡ encode (sheetOf d) → Puts (placed (reading s) s room) r old new → Promised d room r old new
+    pub write-spelled : (r : Written) (new s : List ℕ) → s ≡ encode (sheetOf d) → Puts (placed (reading s) s (length old)) r old new → Promised d r old new
     unfolding writing
-    write-spelled r old new s e p = promised r old new (rw (is-whole, ← e) p)
+    write-spelled r new s e p = promised r new (rw (is-whole, ← e) p)

@@ -1,5 +1,6 @@
 -- A sheet as the tables of a drawing program, and back.
 use Prim.Native.Nat.{ℕ, _+_, _%_}
+use mathlib.Core.Path.{_≡_}
 use mathlib.Core.Bool.{Bool, not, _&&_}
 use mathlib.Core.List.{List, [], _∷_, map}
 use lib.Dec.{eqb}
@@ -38,6 +39,12 @@ testsOf (n ∷ lengths) presses = take n presses ∷ testsOf lengths (drop n pre
 unfoldable pub total : List ℕ → ℕ
 total [] = 0
 total (n ∷ lengths) = n + total lengths
+
+-- no row is cut, and the lengths add up to the presses
+pub record Whole (d : Drawing) : Type 0 where
+  pub rules : length (d .rules) % 4 ≡ 0
+  pub faults : length (d .faults) % 4 ≡ 0
+  pub tests : total (d .lengths) ≡ length (d .presses)
 
 -- a row is cut, or the lengths do not add up to the presses
 unfoldable pub isCut : Drawing → Bool

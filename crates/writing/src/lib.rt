@@ -125,7 +125,7 @@ pub fn write(
 ) -> Written
     ensures answer { λ r. ⌜ r ≡ writtenAnswer (writing (drawing size quiet (now (rules .entry)) (now (faults .entry)) (now (starts .entry)) (now (lengths .entry)) (now (presses .entry))) (length (now (buffer .entry)))) ⌝ }
     ensures bytes { λ r. ⌜ now (buffer .exit) ≡ overlay (sheetWrites (writing (drawing size quiet (now (rules .entry)) (now (faults .entry)) (now (starts .entry)) (now (lengths .entry)) (now (presses .entry))) (length (now (buffer .entry))))) (now (buffer .entry)) ⌝ }
-    ensures told { λ r. ⌜ ToldWritten (drawing size quiet (now (rules .entry)) (now (faults .entry)) (now (starts .entry)) (now (lengths .entry)) (now (presses .entry))) r (now (buffer .exit)) ⌝ }
+    ensures told { λ r. ⌜ ToldWritten (drawing size quiet (now (rules .entry)) (now (faults .entry)) (now (starts .entry)) (now (lengths .entry)) (now (presses .entry))) r (now (buffer .entry)) (now (buffer .exit)) ⌝ }
 {
     if is_cut(rules, faults, lengths, presses) {
         return Written::Refused(2, 0);

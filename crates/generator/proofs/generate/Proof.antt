@@ -2,9 +2,8 @@
 use borrow.Author.Needs.{needs}
 use borrow.Author.Tests.{not-true, not-false}
 use mathlib.Core.Path.{_∙_, sym}
-use lib.ListN.{length}
 use Rattle.sheet.specs.laws.CommandLaw.{size-in}
-use Rattle.generator.proofs.GenerateLaw.{out-of-range, no-room, told}
+use Rattle.generator.proofs.GenerateLaw.{out-of-range, no-room, promised}
 use Rattle.generator.proofs.generate.Statement.{statement}
 use Rattle.generator.proofs.generate.Tie as tie
 
@@ -12,13 +11,13 @@ returns : tie.Need-returns
 returns c =
     let entry = c .before .before .before in
     let a = entry .args in
-    out-of-range (a .seed) (a .size) (length (a .buffer .now)) (a .buffer .now) (sym (c .before .in-range .ensures) ∙ not-true _ (c .if1 .taken))
+    out-of-range (a .seed) (a .size) (a .buffer .now) (sym (c .before .in-range .ensures) ∙ not-true _ (c .if1 .taken))
 
 returns-2 : tie.Need-returns-2
 returns-2 c =
     let entry = c .before .before .before .before in
     let a = entry .args in
-    no-room (a .seed) (a .size) (length (a .buffer .now)) (sym (c .before .before .in-range .ensures) ∙ not-false _ (c .before .if1 .left)) (a .buffer .now) (c .if2 .taken)
+    no-room (a .seed) (a .size) (a .buffer .now) (sym (c .before .before .in-range .ensures) ∙ not-false _ (c .before .if1 .left)) (c .if2 .taken)
 
 spell-requires : tie.Need-spell-requires
 spell-requires c κs =
@@ -29,11 +28,9 @@ spell-requires c κs =
 returns-3 : tie.Need-returns-3
 returns-3 c =
     let at-if2 = c .before .before .before .before in
-    let at-if1 = at-if2 .before in
-    let at-in-range = at-if1 .before in
-    let entry = at-in-range .before .before in
+    let entry = at-if2 .before .before .before .before in
     let a = entry .args in
-    told (a .seed) (a .size) (length (a .buffer .now)) (sym (at-in-range .in-range .ensures) ∙ not-false _ (at-if1 .if1 .left)) _ (a .buffer .now) _ (at-if2 .if2 .left) (c .before .before .spell .ensures .0) (c .before .before .spell .ensures .1)
+    promised (a .seed) (a .size) (a .buffer .now) _ _ (c .before .before .spell .ensures .0) (c .before .before .spell .ensures .1)
 
 pub generate-spec : {M : Type 1} → statement M
 generate-spec =

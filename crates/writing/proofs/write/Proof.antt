@@ -2,7 +2,6 @@
 use borrow.Author.Needs.{needs}
 use native.Mathlib.Omega.{arith}
 use mathlib.Core.Path.{sym, _∙_}
-use lib.ListN.{length}
 use lib.Seq.{length-take-le}
 use Rattle.writing.specs.Drawing.{drawing}
 use Rattle.writing.specs.laws.DrawingLaw.{whole}
@@ -16,7 +15,7 @@ returns c =
     let entry = at-shared-slice-known3 .before .before .before in
     let a = entry .args in
     let d = drawing (a .size) (a .quiet) (a .rules .now) (a .faults .now) (a .starts .now) (a .lengths .now) (a .presses .now) in
-    write-cut d (length (a .buffer .now)) (a .buffer .now) (sym (c .before .is-cut .ensures (a .size) (a .quiet) (a .starts .now)) ∙ c .if1 .taken)
+    write-cut d (a .buffer .now) (sym (c .before .is-cut .ensures (a .size) (a .quiet) (a .starts .now)) ∙ c .if1 .taken)
 
 returns-2 : tie.Need-returns-2
 returns-2 c =
@@ -25,7 +24,7 @@ returns-2 c =
     let entry = at-shared-slice-known2 .before .before in
     let a = entry .args in
     let d = drawing (a .size) (a .quiet) (a .rules .now) (a .faults .now) (a .starts .now) (a .lengths .now) (a .presses .now) in
-    write-long d (length (a .buffer .now)) (sym (at-is-cut .is-cut .ensures (a .size) (a .quiet) (a .starts .now)) ∙ c .before .before .if1 .left) (c .before .is-long .result) (c .before .is-long .ensures) (a .buffer .now) (c .if2 .taken)
+    write-long d (a .buffer .now) (sym (at-is-cut .is-cut .ensures (a .size) (a .quiet) (a .starts .now)) ∙ c .before .before .if1 .left) (c .before .is-long .result) (c .before .is-long .ensures) (c .if2 .taken)
 
 spell-requires : tie.Need-spell-requires
 spell-requires c κs =
@@ -35,7 +34,7 @@ spell-requires c κs =
     let entry = at-shared-slice-known2 .before .before in
     let a = entry .args in
     let d = drawing (a .size) (a .quiet) (a .rules .now) (a .faults .now) (a .starts .now) (a .lengths .now) (a .presses .now) in
-    (omega (arith, whole d (sym (at-is-cut .is-cut .ensures (a .size) (a .quiet) (a .starts .now)) ∙ at-if1 .if1 .left) .tests), spell-room d (length (a .buffer .now)) (sym (at-is-cut .is-cut .ensures (a .size) (a .quiet) (a .starts .now)) ∙ at-if1 .if1 .left) (c .before .before .is-long .result) (c .before .before .is-long .ensures) (c .before .if2 .left))
+    (omega (arith, whole d (sym (at-is-cut .is-cut .ensures (a .size) (a .quiet) (a .starts .now)) ∙ at-if1 .if1 .left) .tests), spell-room d (a .buffer .now) (sym (at-is-cut .is-cut .ensures (a .size) (a .quiet) (a .starts .now)) ∙ at-if1 .if1 .left) (c .before .before .is-long .result) (c .before .before .is-long .ensures) (c .before .if2 .left))
 
 array-share-prefix-sheet : tie.Need-array-share-prefix-sheet
 array-share-prefix-sheet c =
@@ -47,7 +46,7 @@ array-share-prefix-sheet c =
     let entry = at-shared-slice-known2 .before .before in
     let a = entry .args in
     let d = drawing (a .size) (a .quiet) (a .rules .now) (a .faults .now) (a .starts .now) (a .lengths .now) (a .presses .now) in
-    spelled-inside d (length (a .buffer .now)) (sym (at-is-cut .is-cut .ensures (a .size) (a .quiet) (a .starts .now)) ∙ at-if1 .if1 .left) (at-is-long .is-long .result) (at-is-long .is-long .ensures) (at-if2 .if2 .left) (c .before .spell .ensures)
+    spelled-inside d (a .buffer .now) (sym (at-is-cut .is-cut .ensures (a .size) (a .quiet) (a .starts .now)) ∙ at-if1 .if1 .left) (at-is-long .is-long .result) (at-is-long .is-long .ensures) (at-if2 .if2 .left) (c .before .spell .ensures)
 
 slice-aggregate-put : tie.Need-slice-aggregate-put
 slice-aggregate-put c =
@@ -59,7 +58,7 @@ slice-aggregate-put c =
     let entry = at-shared-slice-known2 .before .before in
     let a = entry .args in
     let d = drawing (a .size) (a .quiet) (a .rules .now) (a .faults .now) (a .starts .now) (a .lengths .now) (a .presses .now) in
-    sym (length-take-le _ _ (spelled-inside d (length (a .buffer .now)) (sym (at-is-cut .is-cut .ensures (a .size) (a .quiet) (a .starts .now)) ∙ at-if1 .if1 .left) (at-is-long .is-long .result) (at-is-long .is-long .ensures) (at-if2 .if2 .left) (c .before .before .spell .ensures)))
+    sym (length-take-le _ _ (spelled-inside d (a .buffer .now) (sym (at-is-cut .is-cut .ensures (a .size) (a .quiet) (a .starts .now)) ∙ at-if1 .if1 .left) (at-is-long .is-long .result) (at-is-long .is-long .ensures) (at-if2 .if2 .left) (c .before .before .spell .ensures)))
 
 returns-3 : tie.Need-returns-3
 returns-3 c =
@@ -72,8 +71,8 @@ returns-3 c =
     let entry = at-shared-slice-known2 .before .before in
     let a = entry .args in
     let d = drawing (a .size) (a .quiet) (a .rules .now) (a .faults .now) (a .starts .now) (a .lengths .now) (a .presses .now) in
-    write-spelled d (length (a .buffer .now)) (sym (at-is-cut .is-cut .ensures (a .size) (a .quiet) (a .starts .now)) ∙ at-if1 .if1 .left) (at-is-long .is-long .result) (at-is-long .is-long .ensures)
-    (c .before .before .put .result) (a .buffer .now) _ _ (at-spell .spell .ensures .front) (c .before .before .put .ensures)
+    write-spelled d (a .buffer .now) (sym (at-is-cut .is-cut .ensures (a .size) (a .quiet) (a .starts .now)) ∙ at-if1 .if1 .left) (at-is-long .is-long .result) (at-is-long .is-long .ensures)
+    (c .before .before .put .result) _ _ (at-spell .spell .ensures .front) (c .before .before .put .ensures)
 
 pub write-spec : {M : Type 1} → statement M
 write-spec =

@@ -2,7 +2,7 @@
 use Prim.Native.Nat.{ℕ, _%_, _≤_}
 use native.Mathlib.Omega.{arith}
 use mathlib.Core.Path.{_≡_, refl, sym, ap, ap₂}
-use mathlib.Core.Bool.{false}
+use mathlib.Core.Bool.{Bool, true, false}
 use mathlib.Core.List.{List, [], _∷_, map}
 use lib.ListN.{length, drop, length-append, take-append-drop, length-drop}
 use lib.Seq.{take-append-seam, drop-append-seam, length-take-le}
@@ -11,7 +11,7 @@ use Rattle.sheet.specs.declared.Row.{Row}
 use Rattle.lists.specs.Lists.{joined}
 use Rattle.sheet.specs.Sheet.{Sheet, rowOf}
 use Rattle.lists.specs.laws.TestLaw.{both}
-use Rattle.writing.specs.Drawing.{Drawing, rowsOf, testsOf, total, isCut, sheetOf, drawingOf}
+use Rattle.writing.specs.Drawing.{Drawing, rowsOf, testsOf, total, Whole, isCut, sheetOf, drawingOf}
 
 -- ---- a sheet's tables
 
@@ -45,17 +45,19 @@ never-cut sh = rw (rows-even (sh .rules), rows-even (sh .faults), eq-eqb _ _ (te
 
 -- ---- tables that are not cut
 
-pub record Whole (d : Drawing) : Type 0 where
-  pub rules : length (d .rules) % 4 ≡ 0
-  pub faults : length (d .faults) % 4 ≡ 0
-  pub tests : total (d .lengths) ≡ length (d .presses)
-
 pub whole : (d : Drawing) → isCut d ≡ false → Whole d
 unfolding isCut
 whole d e =
     let h = both _ _ (not-false _ e) in
     let k = both _ _ (h .1) in
     record { rules = eqb-true _ _ (h .0); faults = eqb-true _ _ (k .0); tests = eqb-true _ _ (k .1) }
+
+pub cut : (d : Drawing) → (Whole d → ⊥) → isCut d ≡ true
+cut d h = one (isCut d) refl
+  where
+    one : (b : Bool) → isCut d ≡ b → b ≡ true
+    one true e = refl
+    one false e = absurd (h (whole d e))
 
 table-again : (l : List ℕ) → length l % 4 ≡ 0 → joined rowOf (rowsOf l) ≡ l
 unfolding rowsOf joined

@@ -9,9 +9,8 @@ use Rattle.sheet.specs.Sheet.{Sheet}
 use Rattle.sheet.specs.Encode.{sizeBytes, quietBytes, rowBytes, startBytes, pressBytes, testBytes, encode}
 use Rattle.sheet.specs.laws.InjectiveLaw.{encode-parts}
 use Rattle.sheet.specs.laws.PartLaw.{operands-length, presses-length}
-use Rattle.writing.specs.Drawing.{Drawing, rowsOf, testsOf, total, sheetOf}
+use Rattle.writing.specs.Drawing.{Drawing, rowsOf, testsOf, total, Whole, sheetOf}
 use Rattle.writing.specs.words.Spelled.{lengthOf}
-use Rattle.writing.specs.laws.DrawingLaw.{Whole}
 
 pub parts-length : (sh : Sheet)
     → length (encode sh) ≡ 5 + length (quietBytes (sh .quiet)) + length (rowBytes 2 (sh .rules)) + length (rowBytes 3 (sh .faults)) + length (startBytes (sh .starts)) + length (testBytes (sh .tests))

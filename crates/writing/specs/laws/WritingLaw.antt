@@ -1,20 +1,31 @@
 -- What writing means.
-use Prim.Native.Nat.{ℕ, _≤_}
+use Prim.Native.Nat.{ℕ, _≤_, _<_}
 use mathlib.Core.Path.{_≡_, refl, sym, _∙_, ap}
 use mathlib.Core.Bool.{Bool, true, false, cond}
 use mathlib.Core.List.{List}
 use lib.Dec.{ltb}
-use lib.ListN.{length}
-use borrow.Author.Tests.{le-ltb}
+use lib.ListN.{length, drop}
+use lib.Seq.{take-append-seam}
+use borrow.Author.Tests.{lt-ltb, le-ltb}
 use Rattle.sheet.specs.Sheet.{Sheet}
-use Rattle.sheet.specs.Reading.{accepted, refused, Reading, reading}
+use Rattle.lists.specs.Lists.{overlay}
+use Rattle.sheet.specs.Reading.{Result, accepted, refused, Reading, reading}
 use Rattle.sheet.specs.Encode.{encode}
 use Rattle.lists.specs.laws.TestLaw.{never}
 use Rattle.sheet.specs.laws.EncodedLaw.{encoded}
 use Rattle.sheet.specs.laws.InjectiveLaw.{encode-injective}
-use Rattle.writing.specs.Drawing.{Drawing, isCut, sheetOf, drawingOf}
-use Rattle.writing.specs.Writing.{placed, writing, Spells}
-use Rattle.writing.specs.laws.DrawingLaw.{sheet-again, never-cut, whole, drawing-again}
+use Rattle.writing.specs.declared.Written.{Written}
+use Rattle.writing.specs.Drawing.{Drawing, Whole, isCut, sheetOf, drawingOf}
+use Rattle.writing.specs.Writing.{placed, writing, writtenAnswer, sheetWrites, Spells, Refuses, Writes}
+use Rattle.writing.specs.laws.DrawingLaw.{sheet-again, never-cut, whole, cut, drawing-again}
+
+-- what an outcome makes of the answer and the buffer
+module _ (x : Result (List ℕ)) (r : Written) (old new : List ℕ) (a : r ≡ writtenAnswer x) (b : new ≡ overlay (sheetWrites x) old) where
+  pub refuses : (number : ℕ) → x ≡ refused number 0 → Refuses number r old new
+  refuses number e = record { answer = rw e at a; untouched = rw e at b }
+
+  pub writes : {s : List ℕ} → x ≡ accepted s → Writes s r new
+  writes {s} e = let f : new ≡ overlay s old = rw e at b in record { answer = rw e at a; front = rw (f, take-append-seam s (drop (length s) old)) refl }
 
 -- bytes that were placed read to a sheet
 pub record Taken (s t : List ℕ) : Type 0 where
@@ -45,8 +56,22 @@ spells d room s = one (isCut d) refl
           tables = ap drawingOf (encode-injective (t .sheet) (sheetOf d) (encoded (encode (sheetOf d)) (t .sheet) (t .reads))) ∙ drawing-again d (whole d k);
         }
 
--- writing the tables of an accepted sheet gives its very bytes
-pub written-again : (s : List ℕ) (sh : Sheet) (room : ℕ) → reading s ≡ accepted sh → length s ≤ room → writing (drawingOf sh) room ≡ accepted s
-unfolding writing
-written-again s sh room e h =
-    rw (never-cut sh, sheet-again sh, encoded s sh e, e, le-ltb room (length s) h)
+module _ (room : ℕ) where
+  pub cut-refused : (d : Drawing) → (Whole d → ⊥) → writing d room ≡ refused 2 0
+  unfolding writing
+  cut-refused d h = rw (cut d h)
+
+  -- the tables of a sheet: what reading refuses in it
+  pub unread-refused : (sh : Sheet) (number place : ℕ) → reading (encode sh) ≡ refused number place → writing (drawingOf sh) room ≡ refused number 0
+  unfolding writing
+  unread-refused sh number place e = rw (never-cut sh, sheet-again sh, e)
+
+  -- of an accepted one: no room for its bytes, or its very bytes
+  module _ (s : List ℕ) (sh : Sheet) (e : reading s ≡ accepted sh) where
+    pub short-refused : room < length s → writing (drawingOf sh) room ≡ refused 16 0
+    unfolding writing
+    short-refused h = rw (never-cut sh, sheet-again sh, encoded s sh e, e, lt-ltb room (length s) h)
+
+    pub written-again : length s ≤ room → writing (drawingOf sh) room ≡ accepted s
+    unfolding writing
+    written-again h = rw (never-cut sh, sheet-again sh, encoded s sh e, e, le-ltb room (length s) h)
