@@ -99,22 +99,27 @@ module _ (d : Drawing) (old : List ℕ) where
   unfolding writing
   write-cut e = promised _ old (puts-refused (writing d (length old)) 2 old (rw e refl))
 
-  module _ (is-whole : isCut d ≡ false) (long : Bool) (is : long ≡ ltb 16384 (lengthOf (d .quiet) (length (d .rules)) (length (d .faults)) (length (d .starts)) (length (d .lengths)) (length (d .presses)))) where
-    measured : long ≡ ltb 16384 (length (encode (sheetOf d)))
-    measured = is ∙ ap (ltb 16384) (sym (sheet-length d (whole d is-whole)))
+-- tables that are not cut, and whether their sheet is too long
+pub record Sized (d : Drawing) (long : Bool) : Type 0 where
+  pub uncut : isCut d ≡ false
+  pub is : long ≡ ltb 16384 (lengthOf (d .quiet) (length (d .rules)) (length (d .faults)) (length (d .starts)) (length (d .lengths)) (length (d .presses)))
 
-    pub write-long : long ≡ true → Promised d (written.Refused 1 0) old old
-    unfolding writing reading
-    write-long h = promised _ old (puts-refused (writing d (length old)) 1 old (rw (is-whole, ← measured, h) refl))
+module _ {d : Drawing} {long : Bool} (z : Sized d long) where
+  measured : long ≡ ltb 16384 (length (encode (sheetOf d)))
+  measured = z .is ∙ ap (ltb 16384) (sym (sheet-length d (whole d (z .uncut))))
 
-    -- there is room in the array that the sheet is spelled in
-    module _ (fits : long ≡ false) where
-      pub spell-room : length (encode (sheetOf d)) ≤ length {A = ℕ} (replicate 16384 0)
-      spell-room = omega (arith, ltb-false 16384 (length (encode (sheetOf d))) (sym measured ∙ fits), length-replicate {A = ℕ} 16384 0)
+  pub write-long : (old : List ℕ) → long ≡ true → Promised d (written.Refused 1 0) old old
+  unfolding writing reading
+  write-long old h = promised d old _ old (puts-refused (writing d (length old)) 1 old (rw (z .uncut, ← measured, h) refl))
 
-      pub spelled-inside : {new : List ℕ} {to : ℕ} → Spelled (replicate 16384 0) new 0 to (encode (sheetOf d)) → to ≤ length new
-      spelled-inside p = omega (arith, spell-room, p .many, p .long)
+  -- there is room in the array that the sheet is spelled in
+  module _ (fits : long ≡ false) where
+    pub spell-room : length (encode (sheetOf d)) ≤ length {A = ℕ} (replicate 16384 0)
+    spell-room = omega (arith, ltb-false 16384 (length (encode (sheetOf d))) (sym measured ∙ fits), length-replicate {A = ℕ} 16384 0)
 
-    pub write-spelled : (r : Written) (new s : List ℕ) → s ≡ encode (sheetOf d) → Puts (placed (reading s) s (length old)) r old new → Promised d r old new
-    unfolding writing
-    write-spelled r new s e p = promised r new (rw (is-whole, ← e) p)
+    pub spelled-inside : {new : List ℕ} {to : ℕ} → Spelled (replicate 16384 0) new 0 to (encode (sheetOf d)) → to ≤ length new
+    spelled-inside p = omega (arith, spell-room, p .many, p .long)
+
+  pub write-spelled : (r : Written) (old new s : List ℕ) → s ≡ encode (sheetOf d) → Puts (placed (reading s) s (length old)) r old new → Promised d r old new
+  unfolding writing
+  write-spelled r old new s e p = promised d old r new (rw (z .uncut, ← e) p)
