@@ -21,10 +21,11 @@ use Rattle.model.specs.Verdict.{Complete, JudgedMeans}
 use Rattle.model.specs.laws.OperationLaw.{mutant-length}
 use Rattle.model.specs.laws.Demands.{judged-told, complete-told}
 use Rattle.block.specs.Layout.{slotsOf}
-use Rattle.block.specs.Tabled.{Tabled}
+use Rattle.block.specs.Tabled.{Tabled, ReadFrom}
+use Rattle.logs.specs.Suites.{Logged}
 use Rattle.cubes.specs.declared.goal.Goal.the-variants.{Nonconforming}
 use Rattle.machine.specs.declared.product.Difference.{Difference}
-use Rattle.search.specs.Search.{NoneFrom, unsettled}
+use Rattle.search.specs.Search.{ForSheet, NoneFrom, unsettled}
 use Rattle.search.specs.Shown.{Room, Untouched, Shown}
 use Rattle.search.specs.laws.JudgementLaw.{none-judged, first-judged}
 use Rattle.mutation.specs.declared.verdict.Judged.{Judged}
@@ -63,6 +64,10 @@ module _ {sh : Sheet} {m : List ℕ} (tb : Tabled sh m) (board sequence : List �
           let h = le-ltb (length board) (length (slots sh)) (omega (arith, tb .count)) in
           let g = le-ltb (length sequence) (sh .size .states * sh .size .states) ls in
           rw (h, g) js
+
+-- the log of its suite is what the search goes by
+pub by-log : {sh : Sheet} {s starts lengths m log : List ℕ} {tests n : ℕ} → ReadFrom sh s starts lengths tests m → Logged sh log n → ForSheet sh m (take n log)
+by-log rd lg = record { tabled = rd .loads .tabled; suite = lg .is }
 
 -- ---- what the search found
 

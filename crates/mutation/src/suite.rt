@@ -1,16 +1,14 @@
 // A mutant on the tests of a sheet, along the log of its suite.
 ghost use mathlib.Core.Path.{_≡_};
-ghost use mathlib.Core.List.{List};
-ghost use lib.ListN.{length};
-ghost use Prim.Native.Nat.{ℕ};
 ghost use Rattle.sheet.specs.Sheet.{Sheet};
 ghost use Rattle.sheet.specs.Reading.{accepted};
+ghost use Rattle.model.specs.Log.{failedIn, suiteLog};
 ghost use Rattle.model.specs.Suite.{findingOf};
 ghost use Rattle.model.specs.Operations.{withMutant};
 ghost use Rattle.mutation.specs.Answers.{failedAnswer};
 ghost use Rattle.block.specs.Tabled.{ReadFrom};
-ghost use Rattle.logs.specs.Suites.{SuiteIn};
-ghost use Rattle.mutation.specs.words.Suites.{Plays, failedBy};
+ghost use Rattle.logs.specs.Walked.{movesIn, wrongOf};
+ghost use Rattle.mutation.specs.words.Suites.{failedBy};
 use crate::Failed;
 use crate::Used;
 use crate::counted;
@@ -31,8 +29,9 @@ fn failure(found: Wrong, used: Used) -> Failed
     }
 }
 
-// The first test that the mutant in the tables fails, and the slots used until then, with room for the suite's log.
-fn first_failure<'a, 'b>(
+// The first output of the suite that the mutant in the tables does not give: a short array for the log of a short sheet, a long one
+// for any other.
+fn wrong_in_suite<'a, 'b>(
     sheet: &[u8],
     starts: &'a [u16; 256],
     lengths: &'a [u16; 256],
@@ -41,15 +40,18 @@ fn first_failure<'a, 'b>(
     outputs: &'b [u8; 256],
     targets: &'b [u8; 256],
     start: u8,
-    log: &mut [u16],
-) -> Failed
-    requires { ⌜ ((sh : Sheet) × (b : List ℕ) × SuiteIn sh (now sheet) (now starts) (now lengths) tests (now block) (length (now log)) × Plays sh b (now outputs) (now targets) start) ⌝ }
-    ensures { λ r. ⌜ ((sh : Sheet) (b : List ℕ) → SuiteIn sh (now (sheet .entry)) (now (starts .entry)) (now (lengths .entry)) tests (now (block .entry)) (length (now (log .entry))) → Plays sh b (now (outputs .entry)) (now (targets .entry)) start → r ≡ failedAnswer (accepted (findingOf sh b))) ⌝ }
+) -> Wrong
+    requires { ⌜ ((sh : Sheet) × ReadFrom sh (now sheet) (now starts) (now lengths) tests (now block)) ⌝ }
+    ensures { λ r. ⌜ ((sh : Sheet) → ReadFrom sh (now (sheet .entry)) (now (starts .entry)) (now (lengths .entry)) tests (now (block .entry)) → r ≡ wrongOf (failedIn (movesIn (now (outputs .entry)) (now (targets .entry))) start start 0 0 (suiteLog sh))) ⌝ }
 {
-    let n = log_suite(sheet, starts, lengths, tests, block, log);
-    let found = first_wrong(&log[..n], outputs, targets, start);
-    let set = use_tried(sheet, starts, lengths, tests, found, block, targets, start);
-    failure(found, counted(set))
+    if sheet.len() <= 1024 {
+        let mut short = [0u16; 1024];
+        let n = log_suite(sheet, starts, lengths, tests, block, &mut short);
+        return first_wrong(&short[..n], outputs, targets, start);
+    }
+    let mut long = [0u16; 8448];
+    let n = log_suite(sheet, starts, lengths, tests, block, &mut long);
+    first_wrong(&long[..n], outputs, targets, start)
 }
 
 // First failed test, on an accepted sheet.
@@ -69,22 +71,7 @@ pub(crate) fn first_failed_accepted<'a>(
     if let Fit::Refused(number, place) = fit {
         return Failed::Refused(number, place);
     }
-    if sheet.len() <= 1024 {
-        let mut short = [0u16; 1024];
-        return first_failure(
-            sheet,
-            starts,
-            lengths,
-            tests,
-            block,
-            &machine.output,
-            &machine.target,
-            machine.start,
-            &mut short,
-        );
-    }
-    let mut long = [0u16; 8448];
-    first_failure(
+    let found = wrong_in_suite(
         sheet,
         starts,
         lengths,
@@ -93,6 +80,16 @@ pub(crate) fn first_failed_accepted<'a>(
         &machine.output,
         &machine.target,
         machine.start,
-        &mut long,
-    )
+    );
+    let set = use_tried(
+        sheet,
+        starts,
+        lengths,
+        tests,
+        found,
+        block,
+        &machine.target,
+        machine.start,
+    );
+    failure(found, counted(set))
 }

@@ -21,9 +21,9 @@ ghost use Rattle.sheet.specs.Sheet.{Sheet};
 ghost use Rattle.sheet.specs.Reading.{accepted};
 ghost use Rattle.model.specs.Suite.{judgeOf};
 ghost use Rattle.model.specs.Operations.{judging, judgeOn};
+ghost use Rattle.search.specs.Search.{ForSheet};
 ghost use Rattle.search.specs.Shown.{Room};
 ghost use Rattle.block.specs.Tabled.{ReadFrom};
-ghost use Rattle.logs.specs.Suites.{SuiteIn};
 ghost use Rattle.mutation.specs.Judging.{judgedAnswer, judgedBy, boardWrites, sequenceWrites, Judges, Measured, ToldJudged};
 
 // What Judge answers: complete, or the length of the first survivor's shortest distinguishing sequence.
@@ -44,34 +44,48 @@ fn told_by(found: Difference) -> Judged
     }
 }
 
-// The judgement of a tabulated sheet with room in both buffers and for its suite's log, and how many nodes the search looked at.
-fn conclude<'a>(
+// The judgement of a tabulated sheet by its suite's log, with room in both buffers; and how many nodes the search looked at.
+fn conclude(
+    block: &[u8; BLOCK],
+    log: &[u16],
+    board: &mut [u8],
+    sequence: &mut [u8],
+    nodes: &mut u32,
+) -> Judged
+    requires { ⌜ ((sh : Sheet) × ForSheet sh (now block) (now log)) × Room (now block) (now board) (now sequence) ⌝ }
+    ensures { λ r. ⌜ ((sh : Sheet) → ForSheet sh (now (block .entry)) (now (log .entry)) → Judges (accepted (judgeOf sh)) r (now (board .entry)) (now (board .exit)) (now (sequence .entry)) (now (sequence .exit))) ⌝ }
+    ensures { λ r. ⌜ Measured r (now (nodes .entry)) (now (nodes .exit)) ⌝ }
+{
+    match first(block, log, Goal::Nonconforming, board, sequence, nodes) {
+        Searched::Nothing => Judged::Complete,
+        Searched::First(found) => told_by(found),
+    }
+}
+
+// The judgement of a sheet that was read, with room in both buffers: a short array for the log of a short sheet, a long one for any
+// other.
+fn judge_suite<'a>(
     sheet: &[u8],
     starts: &'a [u16; 256],
     lengths: &'a [u16; 256],
     tests: usize,
     block: &[u8; BLOCK],
-    log: &mut [u16],
     board: &mut [u8],
     sequence: &mut [u8],
     nodes: &mut u32,
 ) -> Judged
-    requires { ⌜ ((sh : Sheet) × SuiteIn sh (now sheet) (now starts) (now lengths) tests (now block) (length (now log))) × Room (now block) (now board) (now sequence) ⌝ }
-    ensures { λ r. ⌜ ((sh : Sheet) → SuiteIn sh (now (sheet .entry)) (now (starts .entry)) (now (lengths .entry)) tests (now (block .entry)) (length (now (log .entry))) → Judges (accepted (judgeOf sh)) r (now (board .entry)) (now (board .exit)) (now (sequence .entry)) (now (sequence .exit))) ⌝ }
+    requires { ⌜ ((sh : Sheet) × ReadFrom sh (now sheet) (now starts) (now lengths) tests (now block)) × Room (now block) (now board) (now sequence) ⌝ }
+    ensures { λ r. ⌜ ((sh : Sheet) → ReadFrom sh (now (sheet .entry)) (now (starts .entry)) (now (lengths .entry)) tests (now (block .entry)) → Judges (accepted (judgeOf sh)) r (now (board .entry)) (now (board .exit)) (now (sequence .entry)) (now (sequence .exit))) ⌝ }
     ensures { λ r. ⌜ Measured r (now (nodes .entry)) (now (nodes .exit)) ⌝ }
 {
-    let n = log_suite(sheet, starts, lengths, tests, block, log);
-    match first(
-        block,
-        &log[..n],
-        Goal::Nonconforming,
-        board,
-        sequence,
-        nodes,
-    ) {
-        Searched::Nothing => Judged::Complete,
-        Searched::First(found) => told_by(found),
+    if sheet.len() <= 1024 {
+        let mut short = [0u16; 1024];
+        let n = log_suite(sheet, starts, lengths, tests, block, &mut short);
+        return conclude(block, &short[..n], board, sequence, nodes);
     }
+    let mut long = [0u16; 8448];
+    let n = log_suite(sheet, starts, lengths, tests, block, &mut long);
+    conclude(block, &long[..n], board, sequence, nodes)
 }
 
 // The judgement of a sheet that was read.
@@ -95,32 +109,7 @@ fn judge_read<'a>(
     if sequence.len() < bound(wide(states(block))) as usize {
         return Judged::Refused(16, 1);
     }
-    if sheet.len() <= 1024 {
-        let mut short = [0u16; 1024];
-        return conclude(
-            sheet,
-            starts,
-            lengths,
-            tests,
-            block,
-            &mut short,
-            board,
-            sequence,
-            nodes,
-        );
-    }
-    let mut long = [0u16; 8448];
-    conclude(
-        sheet,
-        starts,
-        lengths,
-        tests,
-        block,
-        &mut long,
-        board,
-        sequence,
-        nodes,
-    )
+    judge_suite(sheet, starts, lengths, tests, block, board, sequence, nodes)
 }
 
 // Judge, with the number of nodes that the engine looked at: a measurement. It is as it was on a refusal; which number it is
