@@ -22,19 +22,20 @@ use Rattle.model.specs.laws.SuspectLaw.{slot-count}
 use Rattle.mutation.specs.declared.verdict.Judged.the-variants as judged
 use Rattle.lists.specs.Lists.{overlay}
 use Rattle.mutation.specs.Judging.{judgedAnswer, boardWrites, sequenceWrites}
-use Rattle.report.specs.Text.{Appended, completeText, survivorLines, refusedLine, textOf, textIn, suspectsIn}
-use Rattle.report.specs.laws.TextLaw.{appended-none}
+use Rattle.writing.specs.words.Spelled.{Spelled}
+use Rattle.writing.specs.laws.SpelledLaw.{spelled-front}
+use Rattle.report.specs.Text.{Prints, completeText, survivorLines, refusedLine, textOf, textIn, suspectsIn}
 
 -- a buffer that is too small is left as it was
-pub no-room : (old : List ℕ) (result : Result Judgement) → length old < 2048 → Appended old old 0 0 (textIn (length old) result)
+pub no-room : (old : List ℕ) (result : Result Judgement) → length old < 2048 → Prints old old 0 (textIn (length old) result)
 unfolding textIn
-no-room old result h = rw (lt-ltb (length old) 2048 h) (appended-none old 0)
+no-room old result h = rw (lt-ltb (length old) 2048 h) (record { answer = refl; bytes = refl })
 
 -- any other gets the text
-pub printed : {old new text : List ℕ} {r : ℕ} (room : ℕ) (result : Result Judgement) → 2048 ≤ room → textOf result ≡ text → Appended old new 0 r text →
-    Appended old new 0 r (textIn room result)
+pub printed : {old new text : List ℕ} {r : ℕ} (room : ℕ) (result : Result Judgement) → 2048 ≤ room → textOf result ≡ text → Spelled old new 0 r text →
+    Prints old new r (textIn room result)
 unfolding textIn
-printed room result h e a = rw (le-ltb room 2048 h, e) a
+printed room result h e a = rw (le-ltb room 2048 h, e) (record { answer = omega (arith, a .many); bytes = spelled-front a })
 
 pub complete-text : (result : Result Judgement) → judged.Complete ≡ judgedAnswer result → textOf result ≡ completeText
 unfolding textOf

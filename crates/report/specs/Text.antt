@@ -4,7 +4,8 @@ use mathlib.Core.Path.{_≡_}
 use mathlib.Core.Bool.{cond}
 use mathlib.Core.List.{List, [], _∷_, _++_}
 use lib.Dec.{ltb}
-use lib.ListN.{length, take, drop}
+use lib.ListN.{length}
+use Rattle.lists.specs.Lists.{overlay}
 use Rattle.sheet.specs.declared.Reading.{Reading as ReadAnswer}
 use Rattle.sheet.specs.declared.Reading.the-variants as read
 use Rattle.sheet.specs.Reading.{Result, accepted, refused}
@@ -77,9 +78,7 @@ abbrev pub suspectsIn : ReadAnswer → ℕ
 suspectsIn (read.Accepted summary) = summary .suspects
 suspectsIn (read.Refused number place) = 0
 
--- new is old with the text from at to r; all before and after is as it was
-pub record Appended (old new : List ℕ) (at r : ℕ) (text : List ℕ) : Type 0 where
-  pub long : length new ≡ length old
-  pub end : r ≡ at + length text
-  pub front : take r new ≡ take at old ++ text
-  pub rest : drop r new ≡ drop r old
+-- the text stands at the buffer's front, r is its length, and the bytes after it are as they were
+pub record Prints (old new : List ℕ) (r : ℕ) (text : List ℕ) : Type 0 where
+  pub answer : r ≡ length text
+  pub bytes : new ≡ overlay text old

@@ -6,15 +6,15 @@ ghost use lib.ListN.{length};
 ghost use Rattle.sheet.specs.Reading.{reading};
 ghost use Rattle.sheet.specs.Tables.{readAnswer};
 ghost use Rattle.model.specs.Operations.{judging};
-ghost use Rattle.report.specs.Text.{Appended, textIn, suspectsIn};
+ghost use Rattle.report.specs.Text.{Prints, textIn, suspectsIn};
 
 mod text;
 
 use mutation::Judged;
 use sheet::Reading;
-use text::put_all;
 use text::put_refused;
 use text::put_survivor;
+use writing::spell::bytes;
 
 // How many choices a mutant of the sheet has: judge answers only the length of the sequence.
 fn suspects(sheet: &[u8]) -> usize
@@ -29,7 +29,7 @@ fn suspects(sheet: &[u8]) -> usize
 // What the program prints for a sheet, at the buffer's front, and its length. 2,048 bytes hold it for every sheet; a smaller
 // buffer is left as it was.
 pub fn report(sheet: &[u8], out: &mut [u8]) -> usize
-    ensures { λ r. ⌜ Appended (now (out .entry)) (now (out .exit)) 0 r (textIn (length (now (out .entry))) (judging (now (sheet .entry)) 32 256)) ⌝ }
+    ensures { λ r. ⌜ Prints (now (out .entry)) (now (out .exit)) r (textIn (length (now (out .entry))) (judging (now (sheet .entry)) 32 256)) ⌝ }
 {
     if out.len() < 2048 {
         return 0;
@@ -37,7 +37,7 @@ pub fn report(sheet: &[u8], out: &mut [u8]) -> usize
     let mut mutant = [0u8; 32];
     let mut sequence = [0u8; 256];
     match mutation::judge(sheet, &mut mutant, &mut sequence) {
-        Judged::Complete => put_all(out, 0, b"complete\n"),
+        Judged::Complete => bytes(b"complete\n", out, 0),
         Judged::Survivor(length) => {
             let choices = suspects(sheet);
             put_survivor(out, &mutant[..choices], &sequence[..length])

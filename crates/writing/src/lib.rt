@@ -1,6 +1,6 @@
 // Sheets written from tables (02's Point 1).
 // Promises the sheet's bytes and length, or the refusal, and that a written sheet reads as the very tables it was made from.
-// Called by users, by `generator` and by `ranthelo`; `making` spells with it, and shows what that requires.
+// Called by users, by `generator` and by `ranthelo`; `making` and `report` spell with it, and show what that requires.
 ghost use mathlib.Core.Path.{_≡_};
 ghost use Prim.Native.Nat.{ℕ, _+_, _≤_};
 ghost use mathlib.Core.Bool.{Bool};

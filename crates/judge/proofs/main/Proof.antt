@@ -1,6 +1,6 @@
 -- The bytes that were read, and those to print, lie in their buffers.
 use borrow.Author.Needs.{needs}
-use Rattle.report.specs.laws.TextLaw.{appended-front}
+use Rattle.report.specs.laws.TextLaw.{prints-inside}
 use Rattle.judge.proofs.main.Statement.{statement}
 use Rattle.judge.proofs.main.Tie as tie
 
@@ -13,6 +13,6 @@ main-spec =
     (λ c. (rw (c .before .n .given .1) at (c .before .before .before .before .read-input .ensures)) .0)
     (λ c. (rw (c .before .before .n .given .1) at (c .before .before .before .before .before .read-input .ensures)) .1)
     (λ c. search needs) (λ c κs. search needs)
-    (λ c. appended-front (c .before .report .ensures) .0)
-    (λ c. appended-front (c .before .before .report .ensures) .1)
+    (λ c. prints-inside (c .before .report .ensures) .0)
+    (λ c. prints-inside (c .before .before .report .ensures) .1)
     (λ c κs. search needs) (λ c. search needs) (λ c κs. search needs) (λ c. search needs) (λ c. search needs))

@@ -15,12 +15,18 @@ Inv-loop buffer₀ done₀ buffer done = (done ≤ length buffer) × (length buf
 abbrev μ-loop : tie.MeasureT-loop
 μ-loop buffer₀ done₀ buffer done = length buffer₀ - done
 
+abbrev at-read-some : tie.After-known-told Inv-loop μ-loop → tie.After-read-some Inv-loop μ-loop
+at-read-some c = c .before .before .before .before .before
+
+abbrev at-loop : tie.After-read-some Inv-loop μ-loop → tie.At-loop Inv-loop μ-loop
+at-loop c = c .before .before .before
+
 -- what one read brought
 came : (c : tie.After-known-told Inv-loop μ-loop) →
-    More (c .before .before .before .before .before .before .before .before .loop .buffer) (c .before .before .before .before .before .before .before .before .loop .done) (c .before .before .before .before .before .read-some .last .0) (c .before .n .given .0 .0)
+    More (at-loop (at-read-some c) .loop .buffer) (at-loop (at-read-some c) .loop .done) (at-read-some c .read-some .last .0) (c .before .n .given .0 .0)
 came c =
-    let at-read-some = c .before .before .before .before .before in
-    more _ _ _ _ (omega arith) (at-read-some .read-some .kept .0) (rw (c .before .n .given .1) at (at-read-some .read-some .ensures) .0)
+    let read = c .before .before .before .before .before .read-some in
+    more _ _ _ _ (omega arith) (read .kept .0) (rw (c .before .n .given .1) at (read .ensures) .0)
 
 pub read-input-spec : {M : Type 1} → statement M
 read-input-spec =

@@ -7,45 +7,43 @@ use Rattle.report.proofs.ReportLaw.{no-room, printed, complete-text, re
 use Rattle.report.proofs.report.Statement.{statement}
 use Rattle.report.proofs.report.Tie as tie
 
+abbrev at-judge : tie.After-suspects → tie.After-judge
+at-judge c = let at-match = c .before .before .before in at-match .before .before .before
+
+abbrev entry : tie.After-judge → tie.Start
+entry c = let at-if1 = c .before .before .before in at-if1 .before .before .before
+
 -- the survivor that judge leaves in the buffers
 found : (c : tie.After-suspects) →
-    Shown (judging (c .before .before .before .before .before .before .before .before .before .before .before .before .args .sheet .now) 32 256) (c .before .before .before .before .before .before .judge .last .1 .0) (c .before .before .before .before .before .before .judge .last .1 .1 .0) (c .suspects .result) (c .before .before .length .given .0 .0)
+    let at = at-judge c in Shown (judging (entry at .args .sheet .now) 32 256) (at .judge .last .1 .0) (at .judge .last .1 .1 .0) (c .suspects .result) (c .before .before .length .given .0 .0)
 found c =
-    let at-judge = c .before .before .before .before .before .before in
-    let entry = at-judge .before .before .before .before .before .before in
-    shown (entry .args .sheet .now) _ _ _ _ 32 256 _ _ (c .suspects .ensures) (sym (c .before .before .length .given .1) ∙ at-judge .judge .ensures .0)
-    (at-judge .judge .ensures .1 .0) (at-judge .judge .ensures .1 .1 .0)
+    let at = at-judge c in
+    shown (entry at .args .sheet .now) _ _ _ _ 32 256 _ _ (c .suspects .ensures) (sym (c .before .before .length .given .1) ∙ at .judge .ensures .0)
+    (at .judge .ensures .1 .0) (at .judge .ensures .1 .1 .0)
 
 put-survivor-requires : tie.Need-put-survivor-requires
 put-survivor-requires c κs =
     let place = c .before .before .before in
-    let at-match = place .before .before .before in
-    let at-judge = at-match .before .before .before in
-    let at-if1 = at-judge .before .before .before in
-    lines-fit (found (place)) (at-judge .judge .kept .1 .0) (at-judge .judge .kept .1 .1 .0) (at-if1 .if1 .left)
+    let at = at-judge place in
+    lines-fit (found place) (at .judge .kept .1 .0) (at .judge .kept .1 .1 .0) (at .before .before .before .if1 .left)
 
 returns-2 : tie.Need-returns-2
 returns-2 c =
     let at-enum-told = c .before .before .before .before .before in
-    let at-judge = at-enum-told .before .before .before .before in
-    let at-if1 = at-judge .before .before .before in
-    printed _ _ (at-if1 .if1 .left) (complete-text _ (sym (at-enum-told .enum-told .given .1) ∙ at-judge .judge .ensures .0)) (c .before .before .put-all .ensures)
+    let at = at-enum-told .before .before .before .before in
+    printed _ _ (at .before .before .before .if1 .left) (complete-text _ (sym (at-enum-told .enum-told .given .1) ∙ at .judge .ensures .0)) (c .before .before .bytes .ensures)
 
 returns-3 : tie.Need-returns-3
 returns-3 c =
     let at-mutant3 = c .before .before .before .before in
     let place = at-mutant3 .before .before in
-    let at-match = place .before .before .before in
-    let at-mutant = at-match .before .before .before .before .before in
-    let at-if1 = at-mutant .before in
-    printed _ _ (at-if1 .if1 .left) (found (place) .text) (c .before .before .put-survivor .ensures)
+    printed _ _ (at-judge place .before .before .before .if1 .left) (found place .text) (c .before .before .put-survivor .ensures)
 
 returns-4 : tie.Need-returns-4
 returns-4 c =
     let at-number = c .before .before .before .before .before in
-    let at-judge = at-number .before .before .before .before in
-    let at-if1 = at-judge .before .before .before in
-    printed _ _ (at-if1 .if1 .left) (refused-text _ _ _ (sym (at-number .number .given .1) ∙ at-judge .judge .ensures .0)) (c .before .before .put-refused .ensures)
+    let at = at-number .before .before .before .before in
+    printed _ _ (at .before .before .before .if1 .left) (refused-text _ _ _ (sym (at-number .number .given .1) ∙ at .judge .ensures .0)) (c .before .before .put-refused .ensures)
 
 pub report-spec : {M : Type 1} → statement M
 report-spec =

@@ -1,4 +1,4 @@
--- Appending text piece by piece, and the digits of a number.
+-- The digits of a number, and numbers piece by piece.
 use Prim.Native.Nat.{ℕ, zero, suc, _+_, _/_, _%_, _^_, _<_, _≤_}
 use native.Mathlib.Nat.{pow-suc}
 use native.Mathlib.Omega.{arith}
@@ -9,43 +9,12 @@ use mathlib.Core.Path.{_≡_, refl, sym, _∙_, ap}
 use mathlib.Core.Bool.{Bool, true, false, cond}
 use mathlib.Core.List.{List, [], _∷_, _++_, append-assoc, append-nil}
 use lib.Dec.{ltb}
-use lib.ListN.{length, getD, take, drop, set, length-append, length-set, length-take}
-use lib.Seq.{take-suc-set, drop-set-lt, drop-drop, take-suc, take-all}
+use lib.ListN.{length, getD, take, drop, length-append, length-take}
+use lib.Seq.{take-suc, take-all}
 use borrow.Author.Tests.{lt-ltb, le-ltb, ltb-true, ltb-false}
-use Rattle.report.specs.Text.{Appended, decimalFrom, decimal, fields}
-
-pub appended-none : (l : List ℕ) (at : ℕ) → Appended l l at at []
-appended-none l at = record { long = refl; end = omega arith; front = sym (append-nil (take at l)); rest = refl }
-
-pub appended-one : (l : List ℕ) (at b : ℕ) → at < length l → Appended l (set l at b) at (at + 1) (b ∷ [])
-appended-one l at b h =
-    record {
-      long = length-set l at b;
-      end = refl;
-      front = rw add-one (take-suc-set l at b h);
-      rest = drop-set-lt (at + 1) l at b (omega arith);
-    }
-
-pub appended-more : {a b c : List ℕ} {i j k : ℕ} {t u : List ℕ} → Appended a b i j t → Appended b c j k u → Appended a c i k (t ++ u)
-appended-more {a} {b} {c} {i} {j} {k} {t} {u} p q =
-    record {
-      long = q .long ∙ p .long;
-      end = omega (arith, p .end, q .end, length-append t u);
-      front = q .front ∙ rw (p .front) (append-assoc (take i a) t u);
-      rest = q .rest ∙ later;
-    }
-  where
-    later : drop k b ≡ drop k a
-    later =
-        let e : k ≡ j + length u = q .end in
-        rw e (sym (drop-drop (length u) j b) ∙ (ap (λ (l : List ℕ). drop (length u) l) (p .rest) ∙ drop-drop (length u) j a))
-
--- one byte of a text more; all of it
-pub appended-byte : {a b c : List ℕ} {i j k : ℕ} (text : List ℕ) (n : ℕ) → Appended a b i j (take n text) → Appended b c j k (getD text n 0 ∷ []) → n < length text → Appended a c i k (take (n + 1) text)
-appended-byte text n p q h = rw (add-one, take-suc text n 0 h) (appended-more p q)
-
-pub appended-whole : {a b : List ℕ} {i j : ℕ} (text : List ℕ) (n : ℕ) → Appended a b i j (take n text) → length text ≤ n → Appended a b i j text
-appended-whole text n p h = rw (take-all n text h) at p
+use Rattle.writing.specs.words.Spelled.{Spelled}
+use Rattle.writing.specs.laws.SpelledLaw.{spelled-none, spelled-both}
+use Rattle.report.specs.Text.{decimalFrom, decimal, fields, Prints}
 
 -- more fuel changes nothing
 fuelled : (f g n : ℕ) → n < f → n < g → decimalFrom f n ≡ decimalFrom g n
@@ -77,11 +46,11 @@ decimal-some n = go (ltb n 10) refl
     go true e = rw (decimal-one n (ltb-true n 10 e)) (omega arith)
     go false e = rw (decimal-longer n (ltb-false n 10 e)) (omega arith)
 
-pub number-one : {a b : List ℕ} {i j : ℕ} (n : ℕ) → n < 10 → Appended a b i j ((48 + n % 10) ∷ []) → Appended a b i j (decimal n)
+pub number-one : {a b : List ℕ} {i j : ℕ} (n : ℕ) → n < 10 → Spelled a b i j ((48 + n % 10) ∷ []) → Spelled a b i j (decimal n)
 number-one n h p = rw (decimal-one n h) p
 
-pub number-more : {a b c : List ℕ} {i j k : ℕ} (n : ℕ) → 10 ≤ n → Appended a b i j (decimal (n / 10)) → Appended b c j k ((48 + n % 10) ∷ []) → Appended a c i k (decimal n)
-number-more n h p q = rw (decimal-more n h) (appended-more p q)
+pub number-more : {a b c : List ℕ} {i j k : ℕ} (n : ℕ) → 10 ≤ n → Spelled a b i j (decimal (n / 10)) → Spelled b c j k ((48 + n % 10) ∷ []) → Spelled a c i k (decimal n)
+number-more n h p q = rw (decimal-more n h) (spelled-both p q)
 
 -- a number below 10 to the k has at most k digits
 pub few-digits : (k n : ℕ) → n < 10 ^ suc k → length (decimal n) ≤ suc k
@@ -112,18 +81,18 @@ fields-take xs n h =
     rw (add-one, take-suc xs n 0 h, fields-append (take n xs) (getD xs n 0 ∷ []))
     (ap (λ (l : List ℕ). fields (take n xs) ++ 32 ∷ l) (append-nil (decimal (getD xs n 0))))
 
-pub field-more : {a b c d : List ℕ} {i j k l : ℕ} (xs : List ℕ) (n : ℕ) → Appended a b i j (fields (take n xs)) → Appended b c j k (32 ∷ []) → Appended c d k l (decimal (getD xs n 0)) → n < length xs → Appended a d i l (fields (take (n + 1) xs))
-field-more xs n p q r h = rw (fields-take xs n h) (appended-more p (appended-more q r))
+pub field-more : {a b c d : List ℕ} {i j k l : ℕ} (xs : List ℕ) (n : ℕ) → Spelled a b i j (fields (take n xs)) → Spelled b c j k (32 ∷ []) → Spelled c d k l (decimal (getD xs n 0)) → n < length xs → Spelled a d i l (fields (take (n + 1) xs))
+field-more xs n p q r h = rw (fields-take xs n h) (spelled-both p (spelled-both q r))
 
-pub fields-none : (l : List ℕ) (at : ℕ) → Appended l l at at (fields [])
+pub fields-none : (l : List ℕ) (at : ℕ) → Spelled l l at at (fields [])
 unfolding fields
-fields-none l at = appended-none l at
+fields-none l at = spelled-none
 
-pub fields-all : {a b : List ℕ} {i j : ℕ} (xs : List ℕ) (n : ℕ) → Appended a b i j (fields (take n xs)) → length xs ≤ n → Appended a b i j (fields xs)
+pub fields-all : {a b : List ℕ} {i j : ℕ} (xs : List ℕ) (n : ℕ) → Spelled a b i j (fields (take n xs)) → length xs ≤ n → Spelled a b i j (fields xs)
 fields-all xs n p h = rw (take-all n xs h) at p
 
 -- text at a buffer's front ends within it
-pub appended-front : {old new text : List ℕ} {r : ℕ} → Appended old new 0 r text → (r ≤ length new) × (r ≡ length (take r new))
-appended-front {old} {new} {text} {r} a =
-    let long : length (take r new) ≡ length text = ap length (a .front) in
-    (omega (arith, length-take r new, a .end), omega (arith, a .end))
+pub prints-inside : {old new text : List ℕ} {r : ℕ} → Prints old new r text → (r ≤ length new) × (r ≡ length (take r new))
+prints-inside {old} {new} {text} {r} p =
+    let long : length new ≡ length text + length (drop (length text) old) = ap length (p .bytes) ∙ length-append text (drop (length text) old) in
+    (omega (arith, p .answer), omega (arith, p .answer, length-take r new))

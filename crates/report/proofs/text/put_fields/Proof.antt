@@ -2,13 +2,14 @@
 use Prim.Native.Nat.{_+_, _*_, _≤_, _-_}
 use native.Mathlib.Omega.{arith}
 use lib.ListN.{length, take}
+use Rattle.writing.specs.words.Spelled.{Spelled}
 use Rattle.report.specs.laws.TextLaw.{byte-digits, field-more, fields-none, fields-all}
-use Rattle.report.specs.Text.{Appended, fields}
+use Rattle.report.specs.Text.{fields}
 use Rattle.report.proofs.text.put_fields.Statement.{statement}
 use Rattle.report.proofs.text.put_fields.Tie as tie
 
 abbrev Inv-loop : tie.InvT-loop
-Inv-loop out₀ at numbers i₀ end₀ out i end = (i ≤ length numbers) × (end ≤ at + 4 * i) × Appended out₀ out at end (fields (take i numbers))
+Inv-loop out₀ at numbers i₀ end₀ out i end = (i ≤ length numbers) × (end ≤ at + 4 * i) × Spelled out₀ out at end (fields (take i numbers))
 
 abbrev μ-loop : tie.MeasureT-loop
 μ-loop out₀ at numbers i₀ end₀ out i end = length numbers - i
@@ -21,19 +22,19 @@ cast-put-number c =
 
 put-number-requires : tie.Need-put-number-requires Inv-loop μ-loop
 put-number-requires c κs =
-    let at-put = c .before .before .before .before in
-    let at-loop = at-put .before .before .before in
-    omega (arith, at-loop .loop .inv .2 .long, at-put .put .ensures .end, at-put .put .ensures .long, byte-digits _ (c .shared-slice-known2 .given (at-loop .loop .i)))
+    let at-byte = c .before .before .before .before in
+    let at-loop = at-byte .before .before .before in
+    omega (arith, at-loop .loop .inv .2 .long, at-byte .byte .ensures .many, at-byte .byte .ensures .long, byte-digits _ (c .shared-slice-known2 .given (at-loop .loop .i)))
 
 loop-again : tie.Need-loop-again Inv-loop μ-loop
 loop-again c =
     let at-shared-slice-known2 = c .before .before .before in
-    let at-put = at-shared-slice-known2 .before .before .before .before in
-    let at-loop = at-put .before .before .before in
+    let at-byte = at-shared-slice-known2 .before .before .before .before in
+    let at-loop = at-byte .before .before .before in
     let entry = at-loop .before .before .before in (
       omega arith,
-      omega (arith, at-put .put .ensures .end, c .before .before .put-number .ensures .end, byte-digits _ (at-shared-slice-known2 .shared-slice-known2 .given (at-loop .loop .i))),
-      field-more (entry .args .numbers .now) (at-loop .loop .i) (at-loop .loop .inv .2) (at-put .put .ensures) (c .before .before .put-number .ensures) (omega arith),
+      omega (arith, at-byte .byte .ensures .many, c .before .before .put-number .ensures .many, byte-digits _ (at-shared-slice-known2 .shared-slice-known2 .given (at-loop .loop .i))),
+      field-more (entry .args .numbers .now) (at-loop .loop .i) (at-loop .loop .inv .2) (at-byte .byte .ensures) (c .before .before .put-number .ensures) (omega arith),
     )
 
 pub put-fields-spec : {M : Type 1} → statement M

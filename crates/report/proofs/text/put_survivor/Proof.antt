@@ -1,7 +1,7 @@
 -- The lines of a survivor, one after the other.
 use borrow.Author.Needs.{needs}
+use Rattle.writing.specs.laws.SpelledLaw.{spelled-both}
 use Rattle.report.specs.Text.{survivorLines}
-use Rattle.report.specs.laws.TextLaw.{appended-more}
 use Rattle.report.proofs.text.put_survivor.Statement.{statement}
 use Rattle.report.proofs.text.put_survivor.Tie as tie
 
@@ -10,8 +10,8 @@ unfolding survivorLines
 returns c =
     let at-slice-known3 = c .before .before .before .before .before in
     let at-put-line = at-slice-known3 .before .before in
-    let at-put-all = at-put-line .before .before .before .before .before in
-    appended-more (at-put-all .put-all .ensures) (appended-more (at-put-line .put-line .ensures .0) (c .before .before .put-line2 .ensures .0))
+    let at-bytes = at-put-line .before .before .before .before .before in
+    spelled-both (at-bytes .bytes .ensures) (spelled-both (at-put-line .put-line .ensures .0) (c .before .before .put-line2 .ensures .0))
 
 pub put-survivor-spec : {M : Type 1} → statement M
 put-survivor-spec =
