@@ -27,13 +27,7 @@ same-place : {t u i j : ℕ} → t ≡ u → i ≡ j → place t i ≡ place u j
 same-place e f = rw (e, f) refl
 
 module _ (move : ℕ → ℕ → Move) (start : ℕ) where
-  -- a machine gives a log exactly if it gives every output of it
-  pub gives-none : (l : List Observation) (s begun i : ℕ) → GivesFrom move start s l → failedIn move start s begun i l ≡ none
-  unfolding GivesFrom failedIn
-  gives-none [] s begun i g = refl
-  gives-none (reset ∷ l) s begun i g = gives-none l start (suc begun) 0 g
-  gives-none (seen x o ∷ l) s begun i g = rw (eq-eqb (move s x .output) o (g .0)) (gives-none l (move s x .target) begun (suc i) (g .1))
-
+  -- where no output of a log is wrong, the machine gives it
   pub none-gives : (l : List Observation) (s begun i : ℕ) → failedIn move start s begun i l ≡ none → GivesFrom move start s l
   unfolding GivesFrom failedIn
   none-gives [] s begun i e = tt
@@ -109,12 +103,9 @@ module _ (sh : Sheet) (b : List ℕ) where
       go none = refl
       go (some f) = same-place (omega arith) refl
 
-  -- a mutant passes the suite exactly if it gives that log
+  -- a mutant that passes the suite gives that log
   pub passes-gives : Passes sh b → GivesLog sh b (suiteLog sh)
   passes-gives e = none-gives (step sh b) (initial sh b) (suiteLog sh) (initial sh b) 0 0 (failed-log ∙ e)
-
-  pub gives-passes : GivesLog sh b (suiteLog sh) → Passes sh b
-  gives-passes g = sym failed-log ∙ gives-none (step sh b) (initial sh b) (suiteLog sh) (initial sh b) 0 0 g
 
 -- ---- how long it is
 

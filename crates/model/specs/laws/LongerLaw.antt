@@ -1,9 +1,9 @@
 -- A longer suite: what passes it passes the shorter one, its first survivor is the shorter one's or a later one, and it is
 -- complete if the shorter one is. With the sequence of a survivor as one test more the sheet is still well-formed.
-use Prim.Native.Nat.{ℕ, zero, suc, _+_, _*_, _≤_, _<_}
+use Prim.Native.Nat.{ℕ, zero, suc, _+_, _*_, _<_}
 use native.Mathlib.Nat.{mul-le-mul}
 use native.Mathlib.Omega.{arith}
-use mathlib.Core.Path.{_≡_, refl, sym, _∙_, ap, subst}
+use mathlib.Core.Path.{_≡_, refl, sym, _∙_, ap}
 use mathlib.Core.Logic.{_⊎_, ⊎-elim}
 use mathlib.Core.Option.{Option, none, some}
 use mathlib.Core.List.{List, [], _∷_, _++_, append-assoc, List·Memᴰ, List·Memᴰ·head, List·Memᴰ·tail, List·Memᴰ·not-nil, List·Memᴰ·cases-cons}
@@ -18,10 +18,10 @@ use Rattle.lists.specs.laws.AllLaw.{all-snoc}
 use Rattle.lists.specs.laws.TestLaw.{never}
 use Rattle.model.specs.Machine.{Move, specifiedFrom, DistinguishesFrom}
 use Rattle.model.specs.laws.SuiteLaw.{specified-uncons}
-use Rattle.model.specs.Mutant.{moveOf, rule, unruled, transitions, suspects, slots, IsMutant, acts, step, initial, against, Conforming, Distinguishes, startSlot}
+use Rattle.model.specs.Mutant.{moveOf, rule, unruled, transitions, suspects, slots, IsMutant, acts, step, initial, against, Conforming, startSlot}
 use Rattle.model.specs.Compare.{comparePair}
 use Rattle.model.specs.Suite.{Place, laterTest, wrongIn, firstFailedIn, firstFailedOf, Passes, compareOf}
-use Rattle.model.specs.Verdict.{ShortestOf, Survives, FirstSurvivor, Complete}
+use Rattle.model.specs.Verdict.{ShortestOf, Survives, FirstSurvivor}
 use Rattle.model.specs.Longer.{withTest, Among}
 use Rattle.sheet.specs.Reading.{withTests}
 
@@ -105,13 +105,6 @@ module _ (sh : Sheet) (ts us : List (List ℕ)) (among : Among ts us) where
   -- the first survivor of the longer suite is that of the shorter one or a later one
   pub later-survivor : (b c : List ℕ) → FirstSurvivor (withTests sh ts) b → FirstSurvivor (withTests sh us) c → (c ≡ b) ⊎ Before b c
   later-survivor b c first second = first .least c (survives-fewer c (second .survives))
-
-  -- a longer suite of a complete one is complete
-  pub complete-longer : Complete (withTests sh ts) → Complete (withTests sh us)
-  unfolding Complete
-  complete-longer h b is departs passes =
-      let s = survives-fewer b (record { is = is; passes = passes; nonconforming = departs }) in
-      h b (s .is) (s .nonconforming) (s .passes)
 
 -- ---- one test more
 -- its bytes stand before the END

@@ -10,7 +10,7 @@ use borrow.Author.Tests.{eqb-true, eq-eqb, ltb-true, lt-ltb}
 use lib.Dec.{eqb, ltb}
 use lib.Seq.{getD-append-add}
 use lib.ListN.{length, getD, replicate, length-append, length-map, length-replicate}
-use Rattle.lists.specs.Lists.{maybe, All, count, upTo, joined}
+use Rattle.lists.specs.Lists.{All, count, upTo, joined}
 use Rattle.sheet.specs.Sheet.{Sheet, choicesAt, isOpen, openBelow, openPairs, wakings, wakingChoices, wakingSlots, openSlots}
 use Rattle.lists.specs.laws.TestLaw.{never}
 use Rattle.model.specs.Mutant.{Suspect, keepOpen, suspects, slots, later, siteIn, slotOf, siteOf, startSlot}

@@ -1,5 +1,5 @@
 -- The slots that a mutant uses: its set has exactly those, and its number is how many they are.
-use Prim.Native.Nat.{ℕ, _+_, _^_, _<_}
+use Prim.Native.Nat.{ℕ, _^_, _<_}
 use mathlib.Core.Path.{_≡_, refl}
 use mathlib.Core.Bool.{true}
 use mathlib.Core.Logic.{_⊎_, inl, inr, ⊎-elim}
@@ -8,7 +8,6 @@ use mathlib.Core.List.{List, [], _∷_, _++_}
 use lib.ListN.{length}
 use lib.Pow.{pow-pos}
 use Rattle.sheet.specs.Sheet.{Sheet}
-use Rattle.lists.specs.laws.TestLaw.{never}
 use Rattle.model.specs.Machine.{Action}
 use Rattle.model.specs.Mutant.{slots, siteOf, acts, initial, startSlot}
 use Rattle.model.specs.Used.{has, mark, markFrom, markAll, usedOn, UsesFrom, UsesIn, Uses}

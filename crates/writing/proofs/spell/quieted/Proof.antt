@@ -1,10 +1,7 @@
 -- `quieted`: the byte of QUIET, or nothing.
 use native.Mathlib.Omega.{arith}
-use mathlib.Core.Path.{ap}
-use lib.ListN.{length}
 use Rattle.sheet.specs.Encode.{quietBytes}
 use Rattle.writing.specs.laws.SpelledLaw.{spelled-none}
-use borrow.Author.Needs.{needs}
 use Rattle.writing.proofs.spell.quieted.Statement.{statement}
 use Rattle.writing.proofs.spell.quieted.Tie as tie
 
