@@ -1,7 +1,7 @@
 -- The bytes of the sheets that 01 lists, and of a few more: a command to a line.
 use Prim.Native.Nat.{ℕ, suc}
 use mathlib.Core.List.{List, [], _∷_, _++_}
-use lib.ListN.{replicate}
+use lib.ListN.{replicate, take, drop}
 use Rattle.lists.specs.Lists.{upTo, joined}
 
 -- P1's machine: two states, two inputs, two outputs
@@ -29,12 +29,7 @@ emptyTest = p1machine ++ 0x04 ∷ 0x06 ∷ []
 
 -- P1 without the RULE for (0, 1)
 unfoldable pub p4machine : List ℕ
-p4machine =
-    0x01 ∷ 2 ∷ 2 ∷ 2 ∷
-    0x02 ∷ 0 ∷ 0 ∷ 1 ∷ 1 ∷
-    0x02 ∷ 1 ∷ 0 ∷ 0 ∷ 1 ∷
-    0x02 ∷ 1 ∷ 1 ∷ 1 ∷ 0 ∷
-    0x03 ∷ 1 ∷ 1 ∷ 1 ∷ 1 ∷ []
+p4machine = take 9 p1machine ++ drop 14 p1machine
 
 unfoldable pub p4 : List ℕ
 p4 = p4machine ++ 0x04 ∷ 0x05 ∷ 0 ∷ 0x05 ∷ 1 ∷ 0x06 ∷ []
@@ -86,24 +81,7 @@ stuck =
 
 -- sixteen states in a row, sixteen outputs, no rule at the last state: a suspect of 256 choices
 unfoldable pub chain : List ℕ
-chain =
-    0x01 ∷ 16 ∷ 1 ∷ 16 ∷
-    0x02 ∷ 0 ∷ 0 ∷ 0 ∷ 1 ∷
-    0x02 ∷ 1 ∷ 0 ∷ 0 ∷ 2 ∷
-    0x02 ∷ 2 ∷ 0 ∷ 0 ∷ 3 ∷
-    0x02 ∷ 3 ∷ 0 ∷ 0 ∷ 4 ∷
-    0x02 ∷ 4 ∷ 0 ∷ 0 ∷ 5 ∷
-    0x02 ∷ 5 ∷ 0 ∷ 0 ∷ 6 ∷
-    0x02 ∷ 6 ∷ 0 ∷ 0 ∷ 7 ∷
-    0x02 ∷ 7 ∷ 0 ∷ 0 ∷ 8 ∷
-    0x02 ∷ 8 ∷ 0 ∷ 0 ∷ 9 ∷
-    0x02 ∷ 9 ∷ 0 ∷ 0 ∷ 10 ∷
-    0x02 ∷ 10 ∷ 0 ∷ 0 ∷ 11 ∷
-    0x02 ∷ 11 ∷ 0 ∷ 0 ∷ 12 ∷
-    0x02 ∷ 12 ∷ 0 ∷ 0 ∷ 13 ∷
-    0x02 ∷ 13 ∷ 0 ∷ 0 ∷ 14 ∷
-    0x02 ∷ 14 ∷ 0 ∷ 0 ∷ 15 ∷
-    0x06 ∷ []
+chain = 0x01 ∷ 16 ∷ 1 ∷ 16 ∷ (joined (λ s. 0x02 ∷ s ∷ 0 ∷ 0 ∷ suc s ∷ []) (upTo 15) ++ 0x06 ∷ [])
 
 -- 32 open pairs, and 33
 unfoldable pub open32 : List ℕ
@@ -132,12 +110,7 @@ p1start = p1machine ++ 0x07 ∷ 1 ∷ 0x04 ∷ 0x05 ∷ 0 ∷ 0x05 ∷ 1 ∷ 0x0
 
 -- P1's RULEs alone: complete, as there is one mutant; and with START 1
 unfoldable pub onlyRules : List ℕ
-onlyRules =
-    0x01 ∷ 2 ∷ 2 ∷ 2 ∷
-    0x02 ∷ 0 ∷ 0 ∷ 1 ∷ 1 ∷
-    0x02 ∷ 0 ∷ 1 ∷ 0 ∷ 0 ∷
-    0x02 ∷ 1 ∷ 0 ∷ 0 ∷ 1 ∷
-    0x02 ∷ 1 ∷ 1 ∷ 1 ∷ 0 ∷ []
+onlyRules = take 24 p1machine
 
 unfoldable pub onlyStart : List ℕ
 onlyStart = onlyRules ++ 0x07 ∷ 1 ∷ 0x06 ∷ []
@@ -155,13 +128,7 @@ start32 = 0x01 ∷ 2 ∷ 16 ∷ 1 ∷ 0x02 ∷ 0 ∷ 0 ∷ 0 ∷ 1 ∷ 0x03 ∷ 
 
 -- P4 with QUIET (02, Point 7)
 unfoldable pub p4silent : List ℕ
-p4silent =
-    0x01 ∷ 2 ∷ 2 ∷ 2 ∷
-    0x08 ∷
-    0x02 ∷ 0 ∷ 0 ∷ 1 ∷ 1 ∷
-    0x02 ∷ 1 ∷ 0 ∷ 0 ∷ 1 ∷
-    0x02 ∷ 1 ∷ 1 ∷ 1 ∷ 0 ∷
-    0x03 ∷ 1 ∷ 1 ∷ 1 ∷ 1 ∷ []
+p4silent = take 4 p4machine ++ 0x08 ∷ drop 4 p4machine
 
 unfoldable pub p4quiet : List ℕ
 p4quiet = p4silent ++ 0x04 ∷ 0x05 ∷ 0 ∷ 0x05 ∷ 1 ∷ 0x06 ∷ []
