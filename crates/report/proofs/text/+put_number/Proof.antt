@@ -3,7 +3,6 @@ use Prim.Native.Nat.{ℕ, _<_}
 use borrow.Fn.Kinds.{In}
 use borrow.Fn.PlainCycle.{Measures, is, falls, and}
 use native.Mathlib.Omega.{arith}
-use mathlib.Core.Path.{_∙_}
 use Rattle.report.specs.laws.TextLaw.{decimal-some, decimal-longer, number-one, number-more}
 use Rattle.report.proofs.text.put_number.Reads as put-number
 use Rattle.report.proofs.text.put_number.Kinds as put-number-kinds
