@@ -4,16 +4,16 @@ use native.Mathlib.Omega.{arith}
 use mathlib.Core.Path.{_≡_, refl, _∙_, ap, ap₂}
 use mathlib.Core.Option.{Option, none, some}
 use mathlib.Core.List.{List, []}
-use lib.ListN.{getD}
+use lib.ListN.{getD, take}
 use Rattle.sheet.specs.Sheet.{Sheet}
 use Rattle.sheet.specs.Reading.{accepted}
 use Rattle.model.specs.Mutant.{rule, specified}
 use Rattle.model.specs.Used.{mark, markAll, counted}
 use Rattle.model.specs.Suite.{Place, firstFailedOf, triedOf, findingOf}
 use Rattle.model.specs.Verdict.{FirstFailed}
-use Rattle.model.specs.Log.{failedIn, suiteLog}
+use Rattle.model.specs.Log.{failedIn}
 use Rattle.model.specs.laws.SuiteLaw.{specified-length, failed-means}
-use Rattle.block.specs.Tabled.{ReadFrom}
+use Rattle.block.specs.Logged.{observations}
 use Rattle.logs.specs.declared.walk.Wrong.{Wrong}
 use Rattle.logs.specs.declared.walk.Wrong.the-variants as wrong
 use Rattle.logs.specs.Tests.{testsAt}
@@ -27,9 +27,13 @@ use Rattle.usage.specs.Tried.{Inside, placeOf, Reached}
 use Rattle.usage.specs.laws.MarksLaw.{used-tried}
 use Rattle.mutation.specs.declared.Failed.{Failed}
 use Rattle.mutation.specs.Answers.{usedOf, failedOf, failedAnswer}
-use Rattle.logs.specs.Suites.{SuiteIn}
-use Rattle.logs.specs.laws.SuitesLaw.{wf, suite, located, suite-long}
+use Rattle.logs.specs.Suites.{SuiteIn, Logged}
+use Rattle.logs.specs.laws.SuitesLaw.{wf, suite, located}
 use Rattle.mutation.specs.words.Suites.{Plays, failedBy}
+
+-- its tests are inside the sheet
+pub inside : {sh : Sheet} {s starts lengths m : List ℕ} {tests room : ℕ} → SuiteIn sh s starts lengths tests m room → Inside s starts lengths tests
+inside su = record { few = located su .few; each = λ t l. located su .each t l .inside }
 
 place-wrong : (o : Option Place) → placeOf (wrongOf o) ≡ o
 place-wrong none = refl
@@ -39,19 +43,14 @@ by-place : (w : Wrong) (u : Used) → failedBy w u ≡ failedOf (placeOf w) u
 by-place wrong.Nothing u = refl
 by-place (wrong.At test position) u = refl
 
-module _ {sh : Sheet} {b s starts lengths m outputs targets : List ℕ} {tests start : ℕ} (rd : ReadFrom sh s starts lengths tests m)
-    (pl : Plays sh b outputs targets start) {w : Wrong} (ew : w ≡ wrongOf (failedIn (movesIn outputs targets) start start 0 0 (suiteLog sh))) where
-  su : SuiteIn sh s starts lengths tests m 8448
-  su = suite-long rd (omega arith)
-
-  -- its tests are inside the sheet
-  pub inside : Inside s starts lengths tests
-  inside = record { few = located su .few; each = λ t l. located su .each t l .inside }
-
+module _ {sh : Sheet} {b s starts lengths m outputs targets log : List ℕ} {tests room start n : ℕ} (su : SuiteIn sh s starts lengths tests m room)
+    (pl : Plays sh b outputs targets start) (lg : Logged sh log n) {w : Wrong}
+    (ew : w ≡ wrongOf (failedIn (movesIn outputs targets) start start 0 0 (observations (take n log)))) where
   -- what the walk finds is the first failed test
   found-place : placeOf w ≡ firstFailedOf sh b
   found-place =
-      ap placeOf ew ∙ place-wrong (failedIn (movesIn outputs targets) start start 0 0 (suiteLog sh))
+      ap placeOf ew ∙ place-wrong (failedIn (movesIn outputs targets) start start 0 0 (observations (take n log)))
+      ∙ ap (failedIn (movesIn outputs targets) start start 0 0) (lg .is)
       ∙ walked-failed sh (wf su) b (tabulates (wf su) b (pl .moves)) start (pl .starts)
 
   -- it is an output of a test

@@ -1,48 +1,25 @@
--- `first_failed_accepted`: 13 and 14, then the first wrong output and the slots of the tests that were tried.
+-- `first_failed_accepted`: a short array for the log of a short sheet, a long one for any other.
 use borrow.Author.Needs.{needs}
-use mathlib.Core.Path.{sym, _∙_, ap}
-use Rattle.sheet.specs.Reading.{accepted}
-use Rattle.model.specs.Suite.{findingOf}
-use Rattle.mutation.specs.Answers.{failedAnswer}
-use Rattle.mutation.proofs.OperateLaw.{mutant-refused, plays, failed-on}
-use Rattle.mutation.proofs.FailureLaw.{inside, found-reached, first-found}
+use native.Mathlib.Omega.{arith}
+use Rattle.logs.specs.laws.SuitesLaw.{suite-short, suite-long}
 use Rattle.mutation.proofs.suite.first_failed_accepted.Statement.{statement}
 use Rattle.mutation.proofs.suite.first_failed_accepted.Tie as tie
 
+first-failed-logged-requires : tie.Need-first-failed-logged-requires
+first-failed-logged-requires c κs = let (sh, rd) = c .before .before .before .before .pre in (sh, suite-short rd (omega (arith, c .before .if1 .taken)))
+
 returns : tie.Need-returns
 returns c =
-    let at-machine-of = c .before .before .before in
-    let entry = at-machine-of .before .before .before in
-    λ sh rd.
-    let tb = rd .loads .tabled in
-    sym (ap failedAnswer (mutant-refused tb (at-machine-of .machine-of .ensures sh tb) (c .before .fit .given .1) (accepted (findingOf sh (entry .args .mutant .now)))))
+    let at-logged = c .before in
+    λ sh rd. at-logged .first-failed-logged .ensures sh (suite-short rd (omega (arith, at-logged .before .before .if1 .taken)))
 
-use-tried-requires : tie.Need-use-tried-requires
-use-tried-requires c κs =
-    let at-wrong = c .before .before in
-    let at-enum-told = at-wrong .before .before .before .before in
-    let at-machine-of = at-enum-told .before .before in
-    let (sh, rd) = at-machine-of .before .before .before .pre in
-    let tb = rd .loads .tabled in
-    let pl = plays tb (at-machine-of .machine-of .ensures sh tb) (at-enum-told .enum-told .given .1) in
-    let ew = at-wrong .wrong-in-suite .ensures sh rd in
-    (inside rd pl ew, found-reached rd pl ew)
-
-returns-2 : tie.Need-returns-2
-returns-2 c =
-    let at-use-tried = c .before .before in
-    let at-wrong = at-use-tried .before .before .before in
-    let at-enum-told = at-wrong .before .before .before .before in
-    let at-machine-of = at-enum-told .before .before in
-    λ sh rd.
-    let tb = rd .loads .tabled in
-    let is = at-machine-of .machine-of .ensures sh tb in
-    let e = at-enum-told .enum-told .given .1 in
-    first-found rd (plays tb is e) (at-wrong .wrong-in-suite .ensures sh rd) (at-use-tried .use-tried .ensures) (c .before .counted .ensures) (c .failure .ensures) ∙ sym (ap failedAnswer (failed-on tb is e))
+first-failed-logged-requires-2 : tie.Need-first-failed-logged-requires-2
+first-failed-logged-requires-2 c κs = let (sh, rd) = c .before .before .before .before .pre in (sh, suite-long rd (omega arith))
 
 pub first-failed-accepted-spec : {M : Type 1} → statement M
 first-failed-accepted-spec =
     tie.close
     (tie.spec
-    (λ c κs. search needs) (λ c. search needs) returns (λ c. search needs) (λ c κs. search needs) use-tried-requires (λ c κs. search needs)
-    (λ c κs. search needs) returns-2)
+    (λ c. search needs) first-failed-logged-requires returns
+    (λ c. search needs) first-failed-logged-requires-2
+    (λ c sh rd. c .before .first-failed-logged2 .ensures sh (suite-long rd (omega arith))))
