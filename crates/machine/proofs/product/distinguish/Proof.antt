@@ -51,7 +51,8 @@ write-path-requires c κs =
 same-length : tie.Need-same-length Inv-loop μ-loop
 same-length c =
     let at-write-path = c .before .before in
-    let at-expand = at-write-path .before .before .before .before .before .before in
+    let at-x = at-write-path .before .before .before .before in
+    let at-expand = at-x .before .before in
     let at-loop = at-expand .before .before .before .before in
     at-write-path .write-path .kept .1 .1 .1 .0 ∙ ap length (at-loop .loop .inv .0)
 
@@ -95,8 +96,8 @@ distinguish-spec =
     Inv-loop μ-loop
     (λ c κs. search needs) (λ c κs. search needs) enter-requires loop-holds expand-requires (λ c. search needs) write-path-requires
     same-length returns (λ c. search needs)
-    (λ c. omega (arith, c .before .before .before .before .before .before .before .loop .inv .2 .sized .room))
-    (λ c. omega (arith, c .before .before .before .before .before .before .before .loop .inv .2 .sized .room))
+    (λ c. let at-expand = c .before .before .before in omega (arith, at-expand .before .before .before .before .loop .inv .2 .sized .room))
+    (λ c. let at-expand = c .before .before .before in omega (arith, at-expand .before .before .before .before .loop .inv .2 .sized .room))
     loop-again
     (λ c. ap length (c .before .loop .inv .0))
     returns-2)
