@@ -1,8 +1,5 @@
 -- What reading hands over of an accepted sheet, for the block.
-use Prim.Native.Nat.{ℕ}
-use mathlib.Core.Path.{_≡_, refl, sym, _∙_, ap}
-use mathlib.Core.List.{List}
-use Rattle.lists.specs.laws.TestLaw.{never}
+use Rattle.lists.specs.Proving.{ℕ, _≡_, refl, sym, _∙_, ap, List, never}
 use Rattle.sheet.specs.declared.Reading.{Reading as ReadAnswer}
 use Rattle.sheet.specs.declared.Reading.the-variants as answer
 use Rattle.sheet.specs.declared.Summary.{Summary}

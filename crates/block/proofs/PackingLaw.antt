@@ -1,12 +1,5 @@
 -- Filling the block, cell by cell.
-use mathlib.Core.Path.{_≡_, refl, sym, _∙_, subst}
-use mathlib.Core.List.{List}
-use mathlib.Core.Logic.{_⊎_, inl, inr}
-use Prim.Native.Nat.{ℕ, _+_, _<_, _≤_}
-use native.Mathlib.Omega.{arith}
-use borrow.Author.Count.{below-more}
-use lib.ListN.{length, set, length-set}
-use lib.Seq.{getD-set-same, getD-set-other}
+use Rattle.lists.specs.Proving.{arith, ℕ, _+_, _<_, _≤_, _≡_, refl, sym, _∙_, subst, _⊎_, inl, inr, List, length, set, length-set, getD-set-same, getD-set-other, below-more}
 use Rattle.block.specs.Packing.{Filled, Located}
 
 pub fill-none : {m : List ℕ} (base size : ℕ) (Right : ℕ → ℕ → Type 0) → length m ≡ 1620 → Filled m m base size 0 Right

@@ -1,16 +1,7 @@
 -- Numbering the slots: what holds after the pairs before an index.
-use Prim.Native.Nat.{ℕ, zero, suc, _+_, _-_, _*_, _/_, _%_, _≤_, _<_}
-use native.Mathlib.Numerals.{add-one}
-use native.Mathlib.Decide.{ℕ-discrete, decLt}
-use native.Mathlib.Omega.{arith}
-use mathlib.Core.Path.{_≡_, refl, sym, _∙_, ap}
-use mathlib.Core.Logic.{by-cases}
-use mathlib.Core.Bool.{Bool, true, false, cond, _&&_}
-use mathlib.Core.List.{List, [], _∷_, _++_, append-nil}
-use borrow.Author.Tests.{lt-ltb, le-ltb}
-use lib.Dec.{ltb}
-use lib.ListN.{length, getD, set, drop, replicate, length-append, length-set, length-replicate, getD-replicate}
-use lib.Seq.{getD-set-same, getD-set-other, set-at, drop-cons, append-snoc}
+use Rattle.lists.specs.Proving.{arith, ℕ, zero, suc, _+_, _-_, _*_, _/_, _%_, _<_, _≤_, _≡_, refl, sym, _∙_, ap, Bool, true, false, cond, _&&_, by-cases, List, [], _∷_, _++_, length, getD, set, drop, replicate, length-set, length-replicate, length-append, getD-replicate, getD-set-same, getD-set-other, drop-cons, append-snoc, ltb, ℕ-discrete, decLt, add-one, lt-ltb, le-ltb}
+use mathlib.Core.List.{append-nil}
+use lib.Seq.{set-at}
 use Rattle.lists.specs.Lists.{overlay}
 use Rattle.block.specs.Sites.{openAt, openChoices, Numbered}
 

@@ -1,16 +1,11 @@
 -- The numbers that the code gives to the suspects of a sheet are those of its mutants' slots.
-use Prim.Native.Nat.{ℕ, zero, suc, _+_, _*_, _/_, _%_, _≤_, _<_}
+use Rattle.lists.specs.Proving.{arith, ℕ, zero, suc, _+_, _*_, _/_, _%_, _<_, _≤_, _≡_, refl, sym, _∙_, ap, ap₂, Bool, true, false, cond, _&&_, by-cases, some, none, List, [], _∷_, _++_, length, getD, replicate, length-replicate, length-append, ltb, ltb-true, lt-ltb, le-ltb}
 use native.Mathlib.Decide.{decLe}
 use native.Mathlib.Nat.{add-assoc}
-use native.Mathlib.Omega.{arith}
-use mathlib.Core.Path.{_≡_, refl, sym, _∙_, ap, ap₂, fun-ext}
-use mathlib.Core.Logic.{by-cases}
-use mathlib.Core.Bool.{Bool, true, false, cond, _&&_}
-use mathlib.Core.Option.{none, some}
-use mathlib.Core.List.{List, [], _∷_, _++_, map, append-nil, append-assoc}
-use borrow.Author.Tests.{lt-ltb, le-ltb, ltb-true, ltb-false}
-use lib.Dec.{ltb}
-use lib.ListN.{length, getD, replicate, length-append, length-map, length-replicate}
+use mathlib.Core.Path.{fun-ext}
+use mathlib.Core.List.{map, append-nil, append-assoc}
+use borrow.Author.Tests.{ltb-false}
+use lib.ListN.{length-map}
 use Rattle.lists.specs.Lists.{maybe, upTo, joined, count, overlay}
 use Rattle.sheet.specs.Sheet.{Sheet, choicesAt, isOpen, openBelow, wakingChoices, wakingSlots}
 use Rattle.sheet.specs.Tables.{byPair}

@@ -1,15 +1,7 @@
 -- The block, filled from the tables of a sheet.
-use Prim.Native.Nat.{ℕ, _+_, _-_, _/_, _%_, _≤_, _<_}
-use native.Mathlib.Decide.{decLt}
-use native.Mathlib.Omega.{arith}
-use mathlib.Core.Path.{_≡_, refl, sym, _∙_, ap}
-use mathlib.Core.Bool.{Bool, true, false, cond}
-use mathlib.Core.Option.{none, some}
-use lib.Dec.{ltb}
-use mathlib.Core.Logic.{_⊎_, inl, inr, ⊎-elim, by-cases}
-use mathlib.Core.List.{List, _++_}
-use lib.ListN.{length, getD, set, drop, replicate, length-set, getD-replicate, List·getD-append, List·getD-eq-default}
-use lib.Seq.{getD-append-add, getD-drop, getD-set-same, getD-set-other}
+use Rattle.lists.specs.Proving.{arith, ℕ, _+_, _-_, _/_, _%_, _<_, _≤_, _≡_, refl, sym, _∙_, ap, Bool, true, false, cond, _⊎_, inl, inr, ⊎-elim, by-cases, some, none, List, _++_, length, getD, set, drop, replicate, length-set, getD-replicate, List·getD-eq-default, getD-set-same, getD-set-other, ltb, decLt}
+use lib.ListN.{List·getD-append}
+use lib.Seq.{getD-append-add, getD-drop}
 use Rattle.lists.specs.Lists.{maybe}
 use Rattle.sheet.specs.declared.Summary.{Summary}
 use Rattle.sheet.specs.Sheet.{Sheet, choicesAt, wakingChoices, wakingSlots}

@@ -1,12 +1,5 @@
 -- Cursors that go on, notes of what is refuted, and the suspect that is picked.
-use mathlib.Core.Path.{_≡_, refl, sym, ap, _∙_, subst}
-use mathlib.Core.Logic.{_⊎_, inl, inr, ⊎-elim}
-use mathlib.Core.List.{List}
-use Prim.Native.Nat.{ℕ, _+_, _/_, _%_, _^_, _<_, _≤_}
-use native.Mathlib.Omega.{arith}
-use native.Mathlib.Decide.{ℕ-discrete}
-use lib.ListN.{length, getD, set, length-set}
-use lib.Seq.{getD-set-same, getD-set-other}
+use Rattle.lists.specs.Proving.{arith, ℕ, _+_, _/_, _%_, _^_, _<_, _≤_, _≡_, refl, sym, _∙_, ap, subst, _⊎_, inl, inr, ⊎-elim, List, length, getD, set, length-set, getD-set-same, getD-set-other, ℕ-discrete}
 use Rattle.block.specs.Layout.{slotsOf}
 use Rattle.cubes.specs.Sets.{Has, Joined}
 use Rattle.cubes.specs.laws.SetLaw.{nothing}

@@ -1,12 +1,5 @@
 -- Cubes that are narrowed: none of it, one literal, more; and the suspects that a test meets.
-use mathlib.Core.Path.{_≡_, refl, sym, ap, _∙_, subst}
-use mathlib.Core.Logic.{⊎-elim}
-use mathlib.Core.List.{List}
-use Prim.Native.Nat.{ℕ, _^_, _<_}
-use native.Mathlib.Omega.{arith}
-use native.Mathlib.Decide.{ℕ-discrete}
-use lib.ListN.{length, getD, set, length-set}
-use lib.Seq.{getD-set-other}
+use Rattle.lists.specs.Proving.{arith, ℕ, _^_, _<_, _≡_, refl, sym, _∙_, ap, subst, ⊎-elim, List, length, getD, set, length-set, getD-set-other, ℕ-discrete}
 use Rattle.cubes.specs.Sets.{Has, HasAll, Joined}
 use Rattle.cubes.specs.laws.SetLaw.{nothing, alone}
 use Rattle.leaves.specs.Members.{Exact}

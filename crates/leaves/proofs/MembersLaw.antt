@@ -1,15 +1,9 @@
 -- Bits of a difference, and of a number without its least bit; a literal that means one transition.
-use mathlib.Core.Path.{_≡_, refl, sym, ap, _∙_, subst}
-use mathlib.Core.List.{List}
-use mathlib.Core.Logic.{_⊎_, inl, inr, ⊎-elim}
-use Prim.Native.Nat.{ℕ, zero, suc, _+_, _*_, _-_, _/_, _%_, _^_, _<_, _≤_, min}
+use Rattle.lists.specs.Proving.{arith, ℕ, zero, suc, _+_, _-_, _*_, _/_, _%_, _^_, _<_, _≤_, _≡_, refl, sym, _∙_, ap, subst, _⊎_, inl, inr, ⊎-elim, List, length, getD, set, length-set, getD-set-same, getD-set-other, ℕ-discrete}
+use Prim.Native.Nat.{min}
 use native.Mathlib.Nat.{le-of-suc-le-suc}
-use native.Mathlib.Omega.{arith}
-use native.Mathlib.Decide.{ℕ-discrete}
 use lib.Bits.{bitAnd, bitXor, differ, and-step, xor-step, and-shr, xor-shr, and-self}
 use lib.Pow.{shr-shr}
-use lib.ListN.{length, getD, set, length-set}
-use lib.Seq.{getD-set-same, getD-set-other}
 use Rattle.model.specs.Machine.{Move}
 use Rattle.cubes.specs.Sets.{Has, Joined}
 use Rattle.cubes.specs.Cube.{Means}

@@ -1,11 +1,5 @@
 -- Counting nodes and keeping a witness, in the notes.
-use mathlib.Core.Path.{_≡_, refl, ap, _∙_}
-use mathlib.Core.List.{List, [], _∷_}
-use Prim.Native.Nat.{ℕ, _+_, _%_, _<_, _≤_}
-use native.Mathlib.Omega.{arith}
-use native.Mathlib.Decide.{ℕ-discrete}
-use lib.ListN.{length, getD, set, length-set}
-use lib.Seq.{getD-set-same, getD-set-other}
+use Rattle.lists.specs.Proving.{arith, ℕ, _+_, _%_, _<_, _≤_, _≡_, refl, _∙_, ap, List, [], _∷_, length, getD, set, length-set, getD-set-same, getD-set-other, ℕ-discrete}
 use Rattle.leaves.specs.Noted.{Changed, Keeps, nodesOf}
 use Rattle.leaves.specs.laws.NotedLaw.{changed-none, changed-set, changed-more, changed-wider}
 

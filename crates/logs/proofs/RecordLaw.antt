@@ -1,11 +1,7 @@
 -- Writing a log: what holds between two observations, and between two tests.
-use Prim.Native.Nat.{ℕ, zero, suc, _+_, _-_, _*_, _≤_, _<_}
-use native.Mathlib.Numerals.{add-one}
-use native.Mathlib.Omega.{arith}
-use mathlib.Core.Path.{_≡_, refl, sym, _∙_, ap, subst}
-use mathlib.Core.List.{List, [], _∷_, _++_, append-assoc, append-nil}
-use lib.ListN.{length, getD, set, take, length-set, length-append}
-use lib.Seq.{take-suc-set, append-snoc}
+use Rattle.lists.specs.Proving.{arith, ℕ, zero, suc, _+_, _-_, _*_, _<_, _≤_, _≡_, refl, sym, _∙_, ap, subst, List, [], _∷_, _++_, length, getD, set, take, length-set, length-append, append-snoc, add-one}
+use mathlib.Core.List.{append-assoc, append-nil}
+use lib.Seq.{take-suc-set}
 use Rattle.lists.specs.laws.ListLaw.{map-append}
 use Rattle.model.specs.Log.{Observation, reset, seen, testLog, testsLog}
 use Rattle.model.specs.laws.SuiteLaw.{Following, specified-uncons}

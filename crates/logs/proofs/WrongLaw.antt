@@ -1,13 +1,6 @@
 -- A tabulated mutant along a log: what holds after i observations that it gives.
-use Prim.Native.Nat.{ℕ, _+_, _-_, _/_, _%_, _≤_, _<_}
-use native.Mathlib.Numerals.{add-one}
-use native.Mathlib.Omega.{arith}
-use mathlib.Core.Path.{_≡_, refl, sym, _∙_}
-use mathlib.Core.Option.{none, some}
-use mathlib.Core.List.{List}
-use borrow.Author.Tests.{eq-eqb, ne-eqb}
-use lib.ListN.{length, getD, drop, drop-of-length-le}
-use lib.Seq.{drop-cons}
+use Rattle.lists.specs.Proving.{arith, ℕ, _+_, _-_, _/_, _%_, _<_, _≤_, _≡_, refl, sym, _∙_, some, none, List, length, getD, drop, drop-cons, add-one, eq-eqb, ne-eqb}
+use lib.ListN.{drop-of-length-le}
 use Rattle.model.specs.Log.{failedIn}
 use Rattle.block.specs.Layout.{pair}
 use Rattle.block.specs.Logged.{observation, observations}

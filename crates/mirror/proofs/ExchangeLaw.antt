@@ -1,13 +1,6 @@
 -- What makes two states exchangeable.
-use mathlib.Core.Path.{_≡_, refl, sym, ap, ap₂, _∙_, subst}
-use mathlib.Core.Logic.{_⊎_, inl, inr}
-use mathlib.Core.List.{List}
-use Prim.Native.Nat.{ℕ, _+_, _*_, _/_, _%_, _<_, _≤_}
-use native.Mathlib.Omega.{arith}
+use Rattle.lists.specs.Proving.{arith, ℕ, _+_, _*_, _/_, _%_, _<_, _≤_, _≡_, refl, sym, _∙_, ap, ap₂, subst, _⊎_, inl, inr, List, length, getD, set, replicate, length-set, getD-replicate, getD-set-same, getD-set-other, below-more}
 use native.Mathlib.Nat.{mod-lt, mod-eq-of-lt, div-eq-of-lt, div-add-mod', mul-add-div-right, mul-add-mod-self-right, div-lt-iff-lt-mul}
-use borrow.Author.Count.{below-more}
-use lib.ListN.{length, getD, set, length-set, replicate, getD-replicate}
-use lib.Seq.{getD-set-same, getD-set-other}
 use Rattle.model.specs.Machine.{Move}
 use Rattle.block.specs.Layout.{siteAt, ruleTarget, statesOf}
 use Rattle.block.specs.Tabulated.{Wf, choicesAt, choiceOf, chosen, startOf, StepIs}

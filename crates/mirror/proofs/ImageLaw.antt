@@ -1,12 +1,6 @@
 -- A mutant with two states exchanged gives the same outputs, and is sought if the other is; there is one if the states can be exchanged.
-use mathlib.Core.Path.{_≡_, refl, sym, ap, ap₂, _∙_, subst}
-use mathlib.Core.List.{List, [], _∷_}
-use Prim.Native.Nat.{ℕ, zero, suc, _/_, _%_, _<_, _≤_}
-use native.Mathlib.Omega.{arith}
+use Rattle.lists.specs.Proving.{arith, ℕ, zero, suc, _/_, _%_, _<_, _≤_, _≡_, refl, sym, _∙_, ap, ap₂, subst, List, [], _∷_, length, getD, ℕ-discrete, decLt, lt-ltb, le-ltb}
 use native.Mathlib.Nat.{div-add-mod'}
-use native.Mathlib.Decide.{ℕ-discrete, decLt}
-use borrow.Author.Tests.{lt-ltb, le-ltb}
-use lib.ListN.{length, getD}
 use Rattle.model.specs.Machine.{Move, outputsFrom, ConformingFrom}
 use Rattle.model.specs.Mutant.{idle}
 use Rattle.model.specs.Log.{Observation, reset, seen, GivesFrom}

@@ -1,11 +1,5 @@
 -- Exchanging two numbers; sets and beginnings whose members have a property.
-use mathlib.Core.Path.{_≡_, refl, sym, _∙_, subst}
-use mathlib.Core.Logic.{⊎-elim}
-use Prim.Native.Nat.{ℕ, _+_, _<_, _≤_, _^_}
-use native.Mathlib.Omega.{arith}
-use native.Mathlib.Decide.{ℕ-discrete}
-use borrow.Author.Count.{below-more}
-use borrow.Author.Tests.{eq-eqb, ne-eqb}
+use Rattle.lists.specs.Proving.{arith, ℕ, _+_, _^_, _<_, _≤_, _≡_, refl, sym, _∙_, subst, ⊎-elim, ℕ-discrete, below-more, eq-eqb, ne-eqb}
 use Rattle.cubes.specs.Sets.{Joined}
 use Rattle.cubes.specs.laws.SetLaw.{nothing, alone}
 use Rattle.mirror.specs.Mirror.{other, Each, Below}

@@ -1,12 +1,6 @@
 -- A cube in which no mutant is sought, and which does not tell two exchangeable states apart but at one suspect.
-use mathlib.Core.Path.{_≡_, refl, sym, ap, _∙_, subst}
-use mathlib.Core.Logic.{⊎-elim, by-cases}
-use mathlib.Core.List.{List}
-use Prim.Native.Nat.{ℕ, _/_, _%_, _<_}
+use Rattle.lists.specs.Proving.{arith, ℕ, _/_, _%_, _<_, _≡_, refl, sym, _∙_, ap, subst, ⊎-elim, by-cases, List, getD, ℕ-discrete, decLt}
 use native.Mathlib.Nat.{div-add-mod'}
-use native.Mathlib.Omega.{arith}
-use native.Mathlib.Decide.{ℕ-discrete, decLt}
-use lib.ListN.{getD}
 use Rattle.model.specs.Machine.{Move}
 use Rattle.block.specs.Layout.{pair, waking, siteAt}
 use Rattle.block.specs.Tabulated.{Wf, Ranged, choiceOf, chosen}

@@ -1,9 +1,5 @@
 -- The suspect that is met is not settled.
-use mathlib.Core.Path.{_≡_, refl}
-use mathlib.Core.List.{List}
-use Prim.Native.Nat.{ℕ}
-use native.Mathlib.Omega.{arith}
-use lib.ListN.{length}
+use Rattle.lists.specs.Proving.{arith, ℕ, _≡_, refl, List, length}
 use Rattle.leaves.specs.Members.{Exact}
 use Rattle.leaves.specs.Noted.{Changed}
 use Rattle.leaves.specs.laws.MembersLaw.{exact-free}

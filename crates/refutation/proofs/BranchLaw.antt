@@ -1,12 +1,5 @@
 -- The choices of a suspect in turn, each refuted by a cube; and what a cube has.
-use mathlib.Core.Path.{_≡_, sym, ap, ap₂, _∙_, subst}
-use mathlib.Core.Bool.{true}
-use mathlib.Core.List.{List}
-use Prim.Native.Nat.{ℕ, _+_, _-_, _<_, _≤_}
-use native.Mathlib.Omega.{arith}
-use native.Mathlib.Decide.{decLt}
-use borrow.Author.Count.{below-more}
-use lib.ListN.{length, getD, set, replicate, getD-replicate, length-replicate, List·getD-eq-default}
+use Rattle.lists.specs.Proving.{arith, ℕ, _+_, _-_, _<_, _≤_, _≡_, sym, _∙_, ap, ap₂, subst, true, List, length, getD, set, replicate, length-replicate, getD-replicate, List·getD-eq-default, decLt, below-more}
 use Rattle.model.specs.Machine.{Move}
 use Rattle.block.specs.Layout.{siteAt}
 use Rattle.block.specs.Tabulated.{Wf, Ranged, choicesAt, choiceOf, chosen, StepIs}

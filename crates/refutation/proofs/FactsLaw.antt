@@ -1,8 +1,5 @@
 -- The facts of a block and a log, as they are filled.
-use mathlib.Core.Logic.{inl}
-use mathlib.Core.List.{List}
-use Prim.Native.Nat.{ℕ}
-use native.Mathlib.Omega.{arith}
+use Rattle.lists.specs.Proving.{arith, ℕ, inl, List}
 use Rattle.block.specs.Tabulated.{Wf}
 use Rattle.cubes.specs.Cube.{FreeOk}
 use Rattle.cubes.specs.laws.FreeLaw.{free-kept}

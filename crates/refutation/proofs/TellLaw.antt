@@ -1,8 +1,5 @@
 -- What is told of a settled part.
-use mathlib.Core.Path.{_≡_, sym, subst}
-use mathlib.Core.Bool.{true}
-use mathlib.Core.List.{List}
-use Prim.Native.Nat.{ℕ}
+use Rattle.lists.specs.Proving.{ℕ, _≡_, sym, subst, true, List}
 use Rattle.block.specs.Tabulated.{Wf}
 use Rattle.cubes.specs.Cube.{AllConform}
 use Rattle.cubes.specs.declared.goal.Goal.{Goal}

@@ -1,16 +1,10 @@
 -- A mutant with all its choices, by tables: whether it is wanted, and what is shown of it.
-use Prim.Native.Nat.{ℕ, suc, _+_, _*_, _<_, _≤_}
+use Rattle.lists.specs.Proving.{arith, ℕ, suc, _+_, _*_, _<_, _≤_, _≡_, refl, sym, _∙_, ap, subst, Bool, true, false, Option, some, none, List, _∷_, _++_, length, getD, set, take, drop, length-append, drop-cons, append-snoc, never}
 use native.Mathlib.Nat.{mul-le-mul}
-use native.Mathlib.Omega.{arith}
-use mathlib.Core.Path.{_≡_, refl, sym, _∙_, ap, subst}
-use mathlib.Core.Bool.{Bool, true, false}
-use mathlib.Core.Option.{Option, none, some}
-use mathlib.Core.List.{List, _∷_, _++_}
-use lib.ListN.{length, getD, take, drop, set, length-append, length-drop}
-use lib.Seq.{take-suc, take-at, drop-cons, append-snoc, set-at, length-take-le, getD-take}
+use lib.ListN.{length-drop}
+use lib.Seq.{take-suc, take-at, set-at, length-take-le, getD-take}
 use Rattle.lists.specs.Lists.{overlay}
 use Rattle.sheet.specs.Sheet.{Sheet}
-use Rattle.lists.specs.laws.TestLaw.{never}
 use Rattle.model.specs.Mutant.{slots, IsMutant, step, initial}
 use Rattle.model.specs.Compare.{comparePair, found}
 use Rattle.model.specs.Suite.{Place, firstFailedOf, compareOf}

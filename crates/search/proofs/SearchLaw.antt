@@ -1,19 +1,9 @@
 -- The first wanted mutant, choice by choice in dictionary order.
-use Prim.Native.Nat.{ℕ, zero, suc, _+_, _<_, _≤_}
-use native.Mathlib.Decide.{ℕ-discrete, decLt}
-use native.Mathlib.Omega.{arith}
-use mathlib.Core.Path.{_≡_, refl, sym, _∙_, ap, subst}
-use mathlib.Core.Logic.{_⊎_, inl, inr, by-cases}
-use mathlib.Core.Bool.{Bool, true, false, cond}
-use mathlib.Core.Option.{Option, none, some}
-use mathlib.Core.List.{List, [], _∷_}
-use borrow.Author.Count.{below-more}
+use Rattle.lists.specs.Proving.{arith, ℕ, zero, suc, _+_, _<_, _≤_, _≡_, refl, sym, _∙_, ap, subst, Bool, true, false, cond, _⊎_, inl, inr, by-cases, Option, some, none, List, [], _∷_, length, getD, set, take, length-set, length-replicate, getD-replicate, List·getD-eq-default, getD-set-same, getD-set-other, ℕ-discrete, decLt, below-more, never}
 use denote.Enum.Declared.{tagOf}
-use lib.ListN.{length, getD, set, take, length-set, length-replicate, getD-replicate, List·getD-eq-default}
-use lib.Seq.{getD-set-same, getD-set-other, getD-take, length-take-le, ext-getD}
+use lib.Seq.{getD-take, length-take-le, ext-getD}
 use Rattle.lists.specs.Lists.{Before}
 use Rattle.sheet.specs.Sheet.{Sheet}
-use Rattle.lists.specs.laws.TestLaw.{never}
 use Rattle.sheet.specs.laws.RowLaw.{before-irreflexive}
 use Rattle.model.specs.Mutant.{slots, IsMutant}
 use Rattle.model.specs.Suite.{compareOf}

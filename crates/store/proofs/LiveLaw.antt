@@ -1,11 +1,5 @@
 -- A row of notes that admits every entry: none of it, one note more, all.
-use mathlib.Core.Path.{_≡_, ap, _∙_}
-use mathlib.Core.List.{List}
-use Prim.Native.Nat.{ℕ, _+_, _*_, _<_, _≤_}
-use native.Mathlib.Omega.{arith}
-use native.Mathlib.Decide.{ℕ-discrete}
-use lib.ListN.{length, getD, set}
-use lib.Seq.{getD-set-same, getD-set-other}
+use Rattle.lists.specs.Proving.{arith, ℕ, _+_, _*_, _<_, _≤_, _≡_, _∙_, ap, List, length, getD, set, getD-set-same, getD-set-other, ℕ-discrete}
 use Rattle.leaves.specs.laws.NotedLaw.{changed-none, changed-set, changed-more}
 use Rattle.store.specs.Live.{Admitted}
 

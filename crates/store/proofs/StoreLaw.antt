@@ -1,14 +1,5 @@
 -- The store of refutations.
-use mathlib.Core.Path.{_≡_, refl, sym, ap, _∙_, subst}
-use mathlib.Core.Bool.{Bool, true}
-use mathlib.Core.Logic.{_⊎_, inl, inr}
-use mathlib.Core.List.{List}
-use Prim.Native.Nat.{ℕ, _+_, _*_, _<_, _≤_}
-use native.Mathlib.Omega.{arith}
-use native.Mathlib.Decide.{ℕ-discrete, decLt}
-use borrow.Author.Count.{below-more}
-use lib.ListN.{length, getD, set, replicate, getD-replicate, length-replicate, length-set}
-use lib.Seq.{getD-set-same, getD-set-other}
+use Rattle.lists.specs.Proving.{arith, ℕ, _+_, _*_, _<_, _≤_, _≡_, refl, sym, _∙_, ap, subst, Bool, true, _⊎_, inl, inr, List, length, getD, set, replicate, length-set, length-replicate, getD-replicate, getD-set-same, getD-set-other, ℕ-discrete, decLt, below-more}
 use Rattle.block.specs.Layout.{siteAt}
 use Rattle.block.specs.Tabulated.{Wf, choiceOf, chosen}
 use Rattle.cubes.specs.Cube.{Means, NoneIn}

@@ -1,10 +1,5 @@
 -- A walk that begins before a reset; however it halts, a reset stands there.
-use mathlib.Core.List.{List}
-use mathlib.Core.Path.{_≡_}
-use Prim.Native.Nat.{ℕ, _<_}
-use native.Mathlib.Numerals.{add-one}
-use lib.ListN.{length, getD}
-use lib.Seq.{drop-cons}
+use Rattle.lists.specs.Proving.{ℕ, _<_, _≡_, List, length, getD, drop-cons, add-one}
 use Rattle.model.specs.Log.{GivesFrom}
 use Rattle.block.specs.Tabulated.{Wf, stepOf, startOf}
 use Rattle.block.specs.Logged.{observation, GivesOf}

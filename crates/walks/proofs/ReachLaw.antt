@@ -1,13 +1,5 @@
 -- The pairs of states in reach.
-use mathlib.Core.Path.{_≡_, refl, sym, ap, _∙_, subst}
-use mathlib.Core.Logic.{⊎-elim, by-cases}
-use mathlib.Core.List.{List}
-use Prim.Native.Nat.{ℕ, _+_, _/_, _%_, _<_, _≤_, _^_}
-use native.Mathlib.Omega.{arith}
-use native.Mathlib.Decide.{ℕ-discrete, decLt}
-use borrow.Author.Count.{below-more}
-use lib.ListN.{length, getD, set, replicate, length-set, length-replicate, getD-replicate, List·getD-eq-default}
-use lib.Seq.{getD-set-same, getD-set-other}
+use Rattle.lists.specs.Proving.{arith, ℕ, _+_, _/_, _%_, _^_, _<_, _≤_, _≡_, refl, sym, _∙_, ap, subst, ⊎-elim, by-cases, List, length, getD, set, replicate, length-set, length-replicate, getD-replicate, List·getD-eq-default, getD-set-same, getD-set-other, ℕ-discrete, decLt, below-more}
 use Rattle.model.specs.Machine.{Move}
 use Rattle.block.specs.Layout.{pair, waking, ruleOutput, ruleTarget, statesOf, inputsOf}
 use Rattle.block.specs.Tabulated.{Wf, Ranged, choiceOf, chosen, stepOf, startOf}

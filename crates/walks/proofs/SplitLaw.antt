@@ -1,13 +1,5 @@
 -- A settled part by the choices of a suspect.
-use mathlib.Core.Path.{_≡_, sym, ap, _∙_, subst}
-use mathlib.Core.Bool.{true}
-use mathlib.Core.Logic.{by-cases}
-use mathlib.Core.List.{List}
-use Prim.Native.Nat.{ℕ, _+_, _<_, _≤_}
-use native.Mathlib.Omega.{arith}
-use native.Mathlib.Decide.{ℕ-discrete, decLt}
-use lib.ListN.{length, getD, set, List·getD-eq-default}
-use lib.Seq.{getD-set-same, getD-set-other}
+use Rattle.lists.specs.Proving.{arith, ℕ, _+_, _<_, _≤_, _≡_, sym, _∙_, ap, subst, true, by-cases, List, length, getD, set, List·getD-eq-default, getD-set-same, getD-set-other, ℕ-discrete, decLt}
 use Rattle.block.specs.Tabulated.{Ranged}
 use Rattle.cubes.specs.Sets.{Has, Joined}
 use Rattle.cubes.specs.Cube.{Sought, Conform, Extends}

@@ -1,9 +1,5 @@
 -- Mutants that have the choices settled at some suspects, along a log.
-use mathlib.Core.Path.{_≡_, sym, ap, _∙_, subst}
-use mathlib.Core.List.{List, [], _∷_}
-use Prim.Native.Nat.{ℕ, _+_, _/_, _%_, _^_, _<_}
-use native.Mathlib.Omega.{arith}
-use lib.ListN.{length, getD, drop}
+use Rattle.lists.specs.Proving.{arith, ℕ, _+_, _/_, _%_, _^_, _<_, _≡_, sym, _∙_, ap, subst, List, [], _∷_, length, getD, drop}
 use Rattle.model.specs.Log.{GivesFrom}
 use Rattle.model.specs.Machine.{Move}
 use Rattle.block.specs.Layout.{pair, waking, siteAt, statesOf, inputsOf}

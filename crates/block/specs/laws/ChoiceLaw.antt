@@ -1,17 +1,7 @@
 -- The transitions of a pair, and the move of a mutant.
-use mathlib.Core.Path.{_≡_, refl, sym, ap, _∙_, subst}
-use mathlib.Core.Option.{some}
-use mathlib.Core.List.{List}
-use Prim.Native.Nat.{ℕ, _+_, _-_, _/_, _%_, _<_, _≤_}
-use native.Mathlib.Omega.{arith}
+use Rattle.lists.specs.Proving.{arith, ℕ, _+_, _-_, _/_, _%_, _<_, _≤_, _≡_, refl, sym, _∙_, ap, subst, Bool, true, false, cond, some, List, getD, eqb, ltb, ℕ-discrete, decLt, eq-eqb, ne-eqb, ltb-true, lt-ltb, le-ltb, never}
 use native.Mathlib.Nat.{mod-lt}
-use native.Mathlib.Decide.{ℕ-discrete, decLt}
-use borrow.Author.Tests.{eq-eqb, ne-eqb, lt-ltb, le-ltb, ltb-true}
-use mathlib.Core.Bool.{Bool, true, false, cond}
-use lib.Dec.{eqb, ltb}
-use lib.ListN.{getD}
 use Rattle.model.specs.Machine.{Move}
-use Rattle.lists.specs.laws.TestLaw.{never}
 use Rattle.block.specs.Layout.{pair, waking, ruleOutput, ruleTarget, siteAt, firstFault, mutated, diverted, choicesOf, statesOf, inputsOf, wakeAt}
 use Rattle.block.specs.Tabulated.{Wf, choicesAt, stayAt, choiceOf, chosen, ruleOf, stepOf, startOf, Ranged, StepIs}
 use Rattle.block.specs.declared.layout.Step.{Step}

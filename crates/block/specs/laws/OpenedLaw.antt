@@ -1,7 +1,5 @@
 -- A sheet that is read: what is known of an accepted one, and of a refused one.
-use Prim.Native.Nat.{ℕ}
-use mathlib.Core.Path.{_≡_, refl, sym, _∙_, ap, ap₂}
-use mathlib.Core.List.{List}
+use Rattle.lists.specs.Proving.{ℕ, _≡_, refl, sym, _∙_, ap, ap₂, List, never}
 use Rattle.sheet.specs.declared.Reading.{Reading as ReadAnswer}
 use Rattle.sheet.specs.declared.Reading.the-variants as read
 use Rattle.sheet.specs.declared.Summary.{Summary}
@@ -10,7 +8,6 @@ use Rattle.sheet.specs.Reading.{accepted, refused, Reading, reading, summaryOf}
 use Rattle.sheet.specs.Tables.{readAnswer}
 use Rattle.sheet.specs.laws.AcceptedLaw.{short-enough}
 use Rattle.sheet.specs.laws.EncodedLaw.{encoded}
-use Rattle.lists.specs.laws.TestLaw.{never}
 use Rattle.block.specs.Tabled.{Loads, ReadFrom}
 
 pub record Opened (s : List ℕ) (size : Summary) (m starts lengths : List ℕ) : Type 0 where

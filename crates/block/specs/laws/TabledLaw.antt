@@ -1,20 +1,10 @@
 -- The block that holds a sheet's tables has the sheet's specification and mutants.
-use Prim.Native.Nat.{ℕ, zero, suc, _+_, _-_, _*_, _/_, _%_, _<_, _≤_}
-use native.Mathlib.Decide.{decLt, ℕ-discrete}
-use native.Mathlib.Omega.{arith}
-use mathlib.Core.Path.{_≡_, refl, sym, _∙_, ap, fun-ext}
-use mathlib.Core.Logic.{by-cases}
-use mathlib.Core.Bool.{Bool, true, false, cond, _&&_}
-use mathlib.Core.Option.{Option, none, some}
-use mathlib.Core.List.{List, [], _∷_}
-use borrow.Author.Tests.{lt-ltb, ltb-true, ne-eqb}
-use lib.Dec.{eqb, ltb}
-use lib.ListN.{length, getD, replicate, List·getD-eq-default}
+use Rattle.lists.specs.Proving.{arith, ℕ, zero, suc, _+_, _-_, _*_, _/_, _%_, _<_, _≤_, _≡_, refl, sym, _∙_, ap, Bool, true, false, cond, _&&_, by-cases, Option, some, none, List, [], _∷_, length, getD, replicate, List·getD-eq-default, eqb, ltb, ℕ-discrete, decLt, ne-eqb, ltb-true, lt-ltb, never}
+use mathlib.Core.Path.{fun-ext}
 use Rattle.sheet.specs.declared.Row.{Row}
 use Rattle.lists.specs.Lists.{maybe, isNone, first}
 use Rattle.sheet.specs.Sheet.{Sheet, rowsAt, ruleAt, unruledChoices, choicesAt as choicesIn, isOpen, wakingChoices, wakingSlots}
 use Rattle.sheet.specs.Tables.{firstAt, firstFault as firstRow, noRow}
-use Rattle.lists.specs.laws.TestLaw.{never}
 use Rattle.sheet.specs.laws.TablesLaw.{fault-at, fault-below}
 use Rattle.sheet.specs.laws.WakingLaw.{waking-in, most-wakings, some-waking}
 use Rattle.sheet.specs.WellFormed.{RowIn, WellFormed}

@@ -1,14 +1,7 @@
 -- A set of pairs of states that is closed under some mutants makes each of them conforming.
-use mathlib.Core.Path.{_≡_, refl, sym, ap, ap₂, _∙_, subst}
-use mathlib.Core.Option.{Option, none, some, Option·some-injective}
-use mathlib.Core.List.{List, [], _∷_}
-use Prim.Native.Nat.{ℕ, _+_, _*_, _<_, _≤_}
-use native.Mathlib.Omega.{arith}
-use native.Mathlib.Decide.{ℕ-discrete}
-use borrow.Author.Count.{below-more}
-use lib.ListN.{getD}
+use Rattle.lists.specs.Proving.{arith, ℕ, _+_, _*_, _<_, _≤_, _≡_, refl, sym, _∙_, ap, ap₂, subst, Option, some, none, List, [], _∷_, getD, ℕ-discrete, below-more, never}
+use mathlib.Core.Option.{Option·some-injective}
 use Rattle.lists.specs.Lists.{maybe}
-use Rattle.lists.specs.laws.TestLaw.{never}
 use Rattle.model.specs.Machine.{Move, prepend, outputsFrom, specifiedFrom, ConformingFrom}
 use Rattle.cubes.specs.Sets.{Has, HasAll}
 use Rattle.block.specs.Layout.{pair, siteAt, ruleOutput, ruleTarget, statesOf, inputsOf}

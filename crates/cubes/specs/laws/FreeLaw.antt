@@ -1,12 +1,5 @@
 -- The facts of a block, as they are filled.
-use mathlib.Core.Path.{_≡_, sym, ap, _∙_, subst}
-use mathlib.Core.Bool.{Bool, true, false}
-use mathlib.Core.List.{List}
-use Prim.Native.Nat.{ℕ, _+_, _*_, _<_, _≤_}
-use native.Mathlib.Omega.{arith}
-use borrow.Author.Count.{below-more}
-use lib.ListN.{length, getD}
-use Rattle.lists.specs.laws.TestLaw.{never}
+use Rattle.lists.specs.Proving.{arith, ℕ, _+_, _*_, _<_, _≤_, _≡_, sym, _∙_, ap, subst, Bool, true, false, List, length, getD, below-more, never}
 use Rattle.cubes.specs.Sets.{Has, Grows, Put}
 use Rattle.block.specs.Layout.{siteAt, choicesOf}
 use Rattle.block.specs.Tabulated.{Wf, choiceOf}

@@ -1,13 +1,5 @@
 -- The join: for each choice of a suspect a cube with it that has no mutant sought; so has none what they have in common, that suspect free.
-use mathlib.Core.Path.{_≡_, refl, sym, ap, _∙_, subst}
-use mathlib.Core.Logic.{_⊎_, inl, inr, ⊎-elim}
-use mathlib.Core.List.{List}
-use Prim.Native.Nat.{ℕ, _+_, _/_, _%_, _<_, _≤_}
-use native.Mathlib.Omega.{arith}
-use native.Mathlib.Decide.{ℕ-discrete}
-use borrow.Author.Count.{below-more}
-use lib.ListN.{length, getD, set, length-set}
-use lib.Seq.{getD-set-same, getD-set-other}
+use Rattle.lists.specs.Proving.{arith, ℕ, _+_, _/_, _%_, _<_, _≤_, _≡_, refl, sym, _∙_, ap, subst, _⊎_, inl, inr, ⊎-elim, List, length, getD, set, length-set, getD-set-same, getD-set-other, ℕ-discrete, below-more}
 use Rattle.model.specs.Machine.{Move}
 use Rattle.cubes.specs.Sets.{Has, Joined}
 use Rattle.block.specs.Layout.{siteAt, choicesOf}

@@ -1,10 +1,5 @@
 -- What literals mean.
-use mathlib.Core.Path.{_≡_, sym, ap, _∙_, subst}
-use mathlib.Core.Logic.{inl, inr}
-use mathlib.Core.List.{List}
-use Prim.Native.Nat.{ℕ, _+_, _*_, _/_, _%_, _≤_, _^_}
-use native.Mathlib.Omega.{arith}
-use lib.ListN.{getD}
+use Rattle.lists.specs.Proving.{arith, ℕ, _+_, _*_, _/_, _%_, _^_, _≤_, _≡_, sym, _∙_, ap, subst, inl, inr, List, getD}
 use lib.Bits.{bitAnd, and-shr, and-mod, and-self, and-le-l}
 use Rattle.model.specs.Machine.{Move}
 use Rattle.cubes.specs.Sets.{Has}

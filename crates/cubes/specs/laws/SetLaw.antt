@@ -1,14 +1,8 @@
 -- One bit of a number, and so sets of numbers below 16.
-use mathlib.Core.Logic.{_⊎_, inl, inr}
-use mathlib.Core.Path.{_≡_, refl, sym, ap, _∙_, subst}
-use mathlib.Core.List.{List}
-use Prim.Native.Nat.{ℕ, _*_, _/_, _%_, _^_, _<_, min}
+use Rattle.lists.specs.Proving.{arith, ℕ, _*_, _/_, _%_, _^_, _<_, _≡_, refl, sym, _∙_, ap, subst, _⊎_, inl, inr, List, length, getD, set, length-set, getD-set-same, getD-set-other, ℕ-discrete}
+use Prim.Native.Nat.{min}
 use native.Mathlib.Nat.{div-eq-of-lt}
-use native.Mathlib.Omega.{arith}
-use native.Mathlib.Decide.{ℕ-discrete}
 use lib.Bits.{bitOr, bitAnd, and-step, and-shr}
-use lib.ListN.{length, getD, set, length-set}
-use lib.Seq.{getD-set-same, getD-set-other}
 use lib.Pow.{pow-pos, shl-exact}
 use Rattle.lists.specs.laws.BitLaw.{or-bit, one-other}
 use Rattle.lists.specs.laws.BitLaw as bit

@@ -1,11 +1,5 @@
 -- Where the mutants of a cube start.
-use mathlib.Core.Path.{_≡_, sym, ap, _∙_, subst}
-use mathlib.Core.List.{List}
-use mathlib.Core.Logic.{by-cases}
-use Prim.Native.Nat.{ℕ, _*_, _+_, _%_, _<_, _≤_, _^_}
-use native.Mathlib.Omega.{arith}
-use native.Mathlib.Decide.{ℕ-discrete}
-use lib.ListN.{getD}
+use Rattle.lists.specs.Proving.{arith, ℕ, _+_, _*_, _%_, _^_, _<_, _≤_, _≡_, sym, _∙_, ap, subst, by-cases, List, getD, ℕ-discrete}
 use Rattle.model.specs.Machine.{Move}
 use Rattle.block.specs.Layout.{waking, siteAt}
 use Rattle.block.specs.Tabulated.{Wf, Ranged, choiceOf, chosen, startOf, StepIs}

@@ -1,9 +1,5 @@
 -- The transition of a mutant in a cube at a suspect.
-use mathlib.Core.Path.{_≡_, sym, ap, _∙_, subst}
-use mathlib.Core.List.{List}
-use Prim.Native.Nat.{ℕ, _<_}
-use native.Mathlib.Omega.{arith}
-use lib.ListN.{getD}
+use Rattle.lists.specs.Proving.{arith, ℕ, _<_, _≡_, sym, _∙_, ap, subst, List, getD}
 use Rattle.model.specs.Machine.{Move}
 use Rattle.block.specs.Layout.{pair, siteAt, statesOf, inputsOf, choicesOf}
 use Rattle.block.specs.Tabulated.{Wf, Ranged, choiceOf, chosen, stepOf}

@@ -1,13 +1,5 @@
 -- A cube along a log.
-use mathlib.Core.Path.{_≡_, sym, _∙_, subst}
-use borrow.Author.Tests.{ne-eqb}
-use mathlib.Core.List.{List, [], _∷_}
-use Prim.Native.Nat.{ℕ, zero, suc, _+_, _*_, _/_, _%_, _<_, _≤_, _^_}
-use native.Mathlib.Omega.{arith}
-use native.Mathlib.Numerals.{add-one}
-use borrow.Author.Count.{below-more}
-use lib.ListN.{length, getD, drop}
-use lib.Seq.{drop-cons}
+use Rattle.lists.specs.Proving.{arith, ℕ, zero, suc, _+_, _*_, _/_, _%_, _^_, _<_, _≤_, _≡_, sym, _∙_, subst, List, [], _∷_, length, getD, drop, drop-cons, add-one, below-more, ne-eqb}
 use Rattle.model.specs.Log.{Observation, reset, seen, GivesFrom}
 use Rattle.model.specs.Machine.{Move}
 use Rattle.cubes.specs.Sets.{Has, Joined}

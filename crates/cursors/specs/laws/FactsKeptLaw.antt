@@ -1,10 +1,5 @@
 -- Facts that stay while tests are noted.
-use mathlib.Core.Path.{_≡_, refl, _∙_}
-use mathlib.Core.List.{List}
-use Prim.Native.Nat.{ℕ, _≤_}
-use native.Mathlib.Omega.{arith}
-use lib.ListN.{length, set, length-set}
-use lib.Seq.{getD-set-other}
+use Rattle.lists.specs.Proving.{arith, ℕ, _≤_, _≡_, refl, _∙_, List, length, set, length-set, getD-set-other}
 use Rattle.cursors.specs.FactsKept.{FactsKept}
 
 pub kept-none : {facts : List ℕ} → length facts ≡ 832 → FactsKept facts facts

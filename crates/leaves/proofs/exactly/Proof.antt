@@ -1,14 +1,9 @@
-use borrow.Author.Needs.{needs}
-use native.Mathlib.Omega.{arith}
-use borrow.Author.Tests.{not-true, not-false}
+use Rattle.lists.specs.Proving.{needs, arith, not-true, not-false}
 use Rattle.leaves.proofs.MembersLaw.{means-only}
-use Rattle.leaves.proofs.exactly.Statement.{statement}
-use Rattle.leaves.proofs.exactly.Tie as tie
+use Rattle.leaves.proofs.exactly as own
 
-pub exactly-spec : {M : Type 1} → statement M
-exactly-spec =
-    tie.close
-    (tie.spec
+pub exactly-spec : {M : Type 1} → own.Statement.statement M
+exactly-spec = own.Tie.close (own.Tie.spec
     (λ c κs. search needs)
     (λ c. record { meant = λ h. absurd (c .before .among .ensures .1 (not-true _ (c .if1 .taken)) h); free = λ h. search needs })
     (λ c κs. search needs) (λ c κs. search needs)

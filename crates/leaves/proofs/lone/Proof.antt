@@ -1,17 +1,12 @@
-use borrow.Author.Needs.{needs}
+use Rattle.lists.specs.Proving.{needs}
 use Rattle.block.specs.laws.ChoiceLaw.{choice-lone}
-use Rattle.leaves.proofs.lone.Statement.{statement}
-use Rattle.leaves.proofs.lone.Tie as tie
+use Rattle.leaves.proofs.lone as own
 
-returns : tie.Need-returns
-returns c =
+pub lone-spec : {M : Type 1} → own.Statement.statement M
+lone-spec = own.Tie.close (own.Tie.spec
+    (λ c κs. search needs) (λ c κs. search needs)
+    (λ c.
     λ w e.
     let some = choice-lone _ _ e in
     let step = c .before .transition .ensures in
-    rw (step .output w some, step .target w some) at (c .packed .ensures)
-
-pub lone-spec : {M : Type 1} → statement M
-lone-spec =
-    tie.close
-    (tie.spec
-    (λ c κs. search needs) (λ c κs. search needs) returns)
+    rw (step .output w some, step .target w some) at (c .packed .ensures)))

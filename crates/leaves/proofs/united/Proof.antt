@@ -1,7 +1,5 @@
 use Rattle.cubes.specs.laws.SetLaw.{union-or}
-use Rattle.leaves.proofs.united.Statement.{statement}
-use Rattle.leaves.proofs.united.Tie as tie
+use Rattle.leaves.proofs.united as own
 
-pub united-spec : {M : Type 1} → statement M
-united-spec =
-    tie.close (tie.spec (λ c. union-or (c .args .a) (c .args .b)))
+pub united-spec : {M : Type 1} → own.Statement.statement M
+united-spec = own.Tie.close (own.Tie.spec (λ c. union-or (c .args .a) (c .args .b)))

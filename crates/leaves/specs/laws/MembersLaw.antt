@@ -1,11 +1,5 @@
 -- Cubes that steer: their literals one by one, and which suspects are free in the cube of a settled part.
-use mathlib.Core.Path.{_≡_, sym, subst}
-use mathlib.Core.Logic.{_⊎_, inl, inr}
-use mathlib.Core.List.{List, [], _∷_}
-use Prim.Native.Nat.{ℕ, zero, suc, _+_, _*_, _%_, _<_}
-use native.Mathlib.Omega.{arith}
-use native.Mathlib.Decide.{decLt}
-use lib.ListN.{length, getD, set, List·getD-eq-default}
+use Rattle.lists.specs.Proving.{arith, ℕ, zero, suc, _+_, _*_, _%_, _<_, _≡_, sym, subst, _⊎_, inl, inr, List, [], _∷_, length, getD, set, List·getD-eq-default, decLt}
 use Rattle.cubes.specs.Sets.{Has}
 use Rattle.cubes.specs.Cube.{Means}
 use Rattle.cubes.specs.laws.SetLaw.{nothing}

@@ -1,10 +1,5 @@
 -- Notes that stay as they are: none changed, one, more.
-use mathlib.Core.Path.{_≡_, refl, _∙_}
-use mathlib.Core.List.{List}
-use Prim.Native.Nat.{ℕ, _<_, _≤_}
-use native.Mathlib.Omega.{arith}
-use lib.ListN.{length, set, length-set}
-use lib.Seq.{getD-set-other}
+use Rattle.lists.specs.Proving.{arith, ℕ, _<_, _≤_, _≡_, refl, _∙_, List, length, set, length-set, getD-set-other}
 use Rattle.leaves.specs.Noted.{Changed}
 
 pub changed-none : {from to : ℕ} {notes : List ℕ} → Changed from to notes notes

@@ -1,15 +1,9 @@
 -- The tests of an accepted sheet are where its tables say, and their log is the suite's.
-use Prim.Native.Nat.{ℕ, zero, suc, _+_, _-_, _*_, _≤_, _<_, suc-le-suc}
+use Rattle.lists.specs.Proving.{arith, ℕ, zero, suc, _+_, _-_, _*_, _<_, _≤_, _≡_, refl, _∙_, ap, cond, Option, List, [], _∷_, _++_, length, getD, length-append, append-snoc, ltb, lt-ltb}
+use Prim.Native.Nat.{suc-le-suc}
 use native.Mathlib.Nat.{add-zero}
-use native.Mathlib.Omega.{arith}
-use mathlib.Core.Path.{_≡_, refl, _∙_, ap}
-use mathlib.Core.Bool.{cond}
-use mathlib.Core.Option.{Option}
-use mathlib.Core.List.{List, [], _∷_, _++_, append-assoc}
-use borrow.Author.Tests.{lt-ltb}
-use lib.Dec.{ltb}
-use lib.ListN.{length, getD, length-append}
-use lib.Seq.{append-snoc, getD-append-add}
+use mathlib.Core.List.{append-assoc}
+use lib.Seq.{getD-append-add}
 use Rattle.sheet.specs.Sheet.{Sheet}
 use Rattle.sheet.specs.Encode.{operandBytes, pressBytes, encode}
 use Rattle.sheet.specs.Part.{spanOf}

@@ -1,10 +1,5 @@
 -- The first wrong output that a tabulated mutant gives along a log.
-use Prim.Native.Nat.{ℕ, suc, _%_, _≤_, _<_}
-use native.Mathlib.Omega.{arith}
-use mathlib.Core.Path.{_≡_, refl, _∙_}
-use mathlib.Core.Option.{Option, none, some}
-use mathlib.Core.List.{List, [], _∷_}
-use lib.ListN.{getD}
+use Rattle.lists.specs.Proving.{arith, ℕ, suc, _%_, _<_, _≤_, _≡_, refl, _∙_, Option, some, none, List, [], _∷_, getD}
 use Rattle.lists.specs.Lists.{maybe, All}
 use Rattle.sheet.specs.Sheet.{Sheet}
 use Rattle.sheet.specs.WellFormed.{WellFormed}

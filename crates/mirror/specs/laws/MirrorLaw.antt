@@ -1,9 +1,5 @@
 -- For callers: what `exchange_all` leaves, and how `reflect` fits into a join.
-use mathlib.Core.Path.{_≡_}
-use mathlib.Core.List.{List}
-use Prim.Native.Nat.{ℕ, _+_, _<_}
-use native.Mathlib.Omega.{arith}
-use lib.ListN.{getD}
+use Rattle.lists.specs.Proving.{arith, ℕ, _+_, _<_, _≡_, List, getD}
 use Rattle.cubes.specs.Cube.{MeetsAll}
 use Rattle.mirror.specs.Mirror.{SwapsOk}
 use Rattle.mirror.specs.Reflect.{Under}

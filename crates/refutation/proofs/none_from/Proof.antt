@@ -1,21 +1,15 @@
-use borrow.Author.Needs.{needs}
+use Rattle.lists.specs.Proving.{needs}
 use Rattle.store.specs.laws.ToldLaw.{void}
-use Rattle.refutation.proofs.none_from.Statement.{statement}
-use Rattle.refutation.proofs.none_from.Tie as tie
+use Rattle.refutation.proofs.none_from as own
 
-returns : tie.Need-returns
-returns c =
+pub none-from-spec : {M : Type 1} → own.Statement.statement M
+none-from-spec = own.Tie.close (own.Tie.spec
+    (λ c κs. search needs) (λ c. search needs)
+    (λ c.
     let at-shared-slice-known = c .before .before .before .before .before in
     let entry = at-shared-slice-known .before in
-    ((λ e. void e), entry .pre .1)
-
-returns-2 : tie.Need-returns-2
-returns-2 c =
+    ((λ e. void e), entry .pre .1))
+    (λ c κs. search needs) (λ c. search needs) (λ c. search needs)
+    (λ c.
     let at-told-from = c .before .before .before .before in
-    ((λ e b r x. at-told-from .told-from .ensures .0 .told .none e .at b r (at-told-from .told-from .ensures .1 e .at b r x)), at-told-from .told-from .ensures .0 .kept)
-
-pub none-from-spec : {M : Type 1} → statement M
-none-from-spec =
-    tie.close
-    (tie.spec
-    (λ c κs. search needs) (λ c. search needs) returns (λ c κs. search needs) (λ c. search needs) (λ c. search needs) returns-2)
+    ((λ e b r x. at-told-from .told-from .ensures .0 .told .none e .at b r (at-told-from .told-from .ensures .1 e .at b r x)), at-told-from .told-from .ensures .0 .kept)))

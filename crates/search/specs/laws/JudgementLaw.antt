@@ -1,13 +1,7 @@
 -- What the search for a nonconforming mutant finds is the judgement.
-use Prim.Native.Nat.{ℕ}
-use native.Mathlib.Omega.{arith}
-use mathlib.Core.Path.{_≡_, refl, _∙_, ap}
-use mathlib.Core.Option.{Option, none, some}
-use mathlib.Core.List.{List}
-use lib.ListN.{length}
+use Rattle.lists.specs.Proving.{arith, ℕ, _≡_, refl, _∙_, ap, Option, some, none, List, length, never}
 use Rattle.lists.specs.Lists.{overlay}
 use Rattle.sheet.specs.Sheet.{Sheet}
-use Rattle.lists.specs.laws.TestLaw.{never}
 use Rattle.model.specs.Suite.{Passes, compareOf, complete, survivor, judgeOf}
 use Rattle.model.specs.laws.JudgeLaw.{judge-none, judge-first}
 use Rattle.cubes.specs.declared.goal.Goal.the-variants.{Nonconforming}

@@ -1,8 +1,5 @@
 -- A mutant laid out in tables, along a log.
-use Prim.Native.Nat.{ℕ, _*_, _/_, _%_, _<_}
-use native.Mathlib.Omega.{arith}
-use mathlib.Core.Path.{_≡_, refl, _∙_}
-use mathlib.Core.List.{List}
+use Rattle.lists.specs.Proving.{arith, ℕ, _*_, _/_, _%_, _<_, _≡_, refl, _∙_, List}
 use Rattle.sheet.specs.Sheet.{Sheet}
 use Rattle.sheet.specs.WellFormed.{WellFormed}
 use Rattle.model.specs.Mutant.{step}

@@ -1,9 +1,5 @@
 -- What is told where nothing is.
-use mathlib.Core.Path.{_≡_, sym, _∙_}
-use mathlib.Core.Bool.{true, false}
-use mathlib.Core.List.{List}
-use Prim.Native.Nat.{ℕ}
-use Rattle.lists.specs.laws.TestLaw.{never}
+use Rattle.lists.specs.Proving.{ℕ, _≡_, sym, _∙_, true, false, List, never}
 use Rattle.cubes.specs.declared.goal.Goal.{Goal}
 use Rattle.store.specs.Store.{ToldOk, Tells}
 use Rattle.store.specs.declared.entries.Told.{Told}

@@ -1,8 +1,6 @@
-use borrow.Author.Needs.{needs}
-use borrow.Author.Tests.{eqb-true}
-use Rattle.walks.proofs.begins.Statement.{statement}
-use Rattle.walks.proofs.begins.Tie as tie
+use Rattle.lists.specs.Proving.{needs, eqb-true}
+use Rattle.walks.proofs.begins as own
 
-pub begins-spec : {M : Type 1} → statement M
-begins-spec =
-    tie.close (tie.spec (λ c. search needs) (λ c. search needs) (λ c e. record { at = λ l. eqb-true _ _ e }))
+pub begins-spec : {M : Type 1} → own.Statement.statement M
+begins-spec = own.Tie.close (own.Tie.spec
+    (λ c. search needs) (λ c. search needs) (λ c e. record { at = λ l. eqb-true _ _ e }))

@@ -1,19 +1,11 @@
-use borrow.Author.Tests.{not-false}
-use Rattle.lists.specs.laws.TestLaw.{never}
+use Rattle.lists.specs.Proving.{needs, not-false, never}
 use Rattle.walks.proofs.StandLaw.{stands-start}
 use Rattle.walks.proofs.SplitLaw.{none-extends}
-use borrow.Author.Needs.{needs}
-use Rattle.walks.proofs.none_from.Statement.{statement}
-use Rattle.walks.proofs.none_from.Tie as tie
+use Rattle.walks.proofs.none_from as own
 
-pub none-from-spec : {M : Type 1} → statement M
-none-from-spec =
-    tie.close
-    (tie.spec
-    (λ c κs. search needs) (λ c. search needs)
-    (λ c e. never (cc))
-    (λ c κs. search needs) (λ c. search needs)
+pub none-from-spec : {M : Type 1} → own.Statement.statement M
+none-from-spec = own.Tie.close (own.Tie.spec
+    (λ c κs. search needs) (λ c. search needs) (λ c e. never (cc)) (λ c κs. search needs) (λ c. search needs)
     (λ c e. never (cc))
     (λ c κs. let at-begins = c .before .before in let at-shared-slice-known = at-begins .before .before .before .before .before in let s = at-shared-slice-known .before in (s .pre, stands-start (s .pre) (at-begins .begins .ensures (not-false _ (c .before .if2 .left)))))
-    (λ c. search needs)
-    (λ c e. none-extends (c .before .before .refute .ensures e)))
+    (λ c. search needs) (λ c e. none-extends (c .before .before .refute .ensures e)))

@@ -1,10 +1,7 @@
-use borrow.Author.Needs.{needs}
-use Rattle.block.proofs.layout.choices.Statement.{statement}
-use Rattle.block.proofs.layout.choices.Tie as tie
+use Rattle.lists.specs.Proving.{needs}
+use Rattle.block.proofs.layout.choices as own
 
-pub choices-spec : {M : Type 1} → statement M
-choices-spec =
-    tie.close
-    (tie.spec
+pub choices-spec : {M : Type 1} → own.Statement.statement M
+choices-spec = own.Tie.close (own.Tie.spec
     (λ c κs. search needs) (λ c. search needs) (λ c. search needs) (λ c κs. search needs)
     (λ c. rw (c .before .before .wide .ensures .0) at (c .more .ensures)))

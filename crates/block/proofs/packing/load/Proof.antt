@@ -1,38 +1,28 @@
 -- `load`: the tables that were read are the sheet's.
+use Rattle.lists.specs.Proving.{needs, sym, _∙_}
 use denote.Ref.{now}
-use borrow.Author.Needs.{needs}
-use mathlib.Core.Path.{sym, _∙_}
 use Rattle.block.proofs.LoadLaw.{refused-none, read, read-of, loads}
-use Rattle.block.proofs.packing.load.Statement.{statement}
-use Rattle.block.proofs.packing.load.Tie as tie
+use Rattle.block.proofs.packing.load as own
 
-abbrev entry : tie.After-load → tie.Start
+abbrev entry : own.Tie.After-load → own.Tie.Start
 entry c = c .before .before .before .before .before .before .before .before .before .before
 
-returns : tie.Need-returns
-returns c =
+pub load-spec : {M : Type 1} → own.Statement.statement M
+load-spec = own.Tie.close (own.Tie.spec
+    (λ c κs. search needs) (λ c. search needs) (λ c. search needs)
+    (λ c.
     let at-load = c .before .before in
     let s = now (entry at-load .args .sheet) in
-    (at-load .load .ensures .0, (entry at-load .pre, λ sh is. absurd (refused-none s (at-load .load .ensures .0) (c .enum-told .given .1) sh is)))
-
-tabulate-requires : tie.Need-tabulate-requires
-tabulate-requires c κs =
+    (at-load .load .ensures .0, (entry at-load .pre, λ sh is. absurd (refused-none s (at-load .load .ensures .0) (c .enum-told .given .1) sh is))))
+    (λ c κs.
     let at-reading = c .before .before .before .before .before .before .before .before in
     let at-load = at-reading .before .before in
     let s = now (entry at-load .args .sheet) in
     let r = read s (at-load .load .ensures .0) (at-reading .reading .given .1) (at-load .load .ensures .1) in
-    (entry at-load .pre, (r .0, _, _, r .1))
-
-returns-2 : tie.Need-returns-2
-returns-2 c =
+    (entry at-load .pre, (r .0, _, _, r .1)))
+    (λ c.
     let at-reading = c .before .before .before .before .before .before .before .before .before in
     let at-load = at-reading .before .before in
     let s = now (entry at-load .args .sheet) in
     let e = at-reading .reading .given .1 in
-    (sym e ∙ at-load .load .ensures .0, (c .tabulate .ensures .0, λ sh is. loads s sh is (at-load .load .ensures .1) (c .tabulate .ensures .1 sh _ _ (read-of s sh is (at-load .load .ensures .0) e (at-load .load .ensures .1)))))
-
-pub load-spec : {M : Type 1} → statement M
-load-spec =
-    tie.close
-    (tie.spec
-    (λ c κs. search needs) (λ c. search needs) (λ c. search needs) returns tabulate-requires returns-2)
+    (sym e ∙ at-load .load .ensures .0, (c .tabulate .ensures .0, λ sh is. loads s sh is (at-load .load .ensures .1) (c .tabulate .ensures .1 sh _ _ (read-of s sh is (at-load .load .ensures .0) e (at-load .load .ensures .1)))))))

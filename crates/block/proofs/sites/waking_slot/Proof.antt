@@ -1,14 +1,8 @@
-use borrow.Author.Needs.{needs}
-use borrow.Author.Tests.{lt-ltb, le-ltb}
-use native.Mathlib.Omega.{arith}
-use mathlib.Core.Path.{refl}
-use Rattle.block.proofs.sites.waking_slot.Statement.{statement}
-use Rattle.block.proofs.sites.waking_slot.Tie as tie
+use Rattle.lists.specs.Proving.{needs, arith, refl, lt-ltb, le-ltb}
+use Rattle.block.proofs.sites.waking_slot as own
 
-pub waking-slot-spec : {M : Type 1} → statement M
-waking-slot-spec =
-    tie.close
-    (tie.spec
+pub waking-slot-spec : {M : Type 1} → own.Statement.statement M
+waking-slot-spec = own.Tie.close (own.Tie.spec
     (λ c κs. search needs)
     (λ c. rw (le-ltb 1 (c .before .before .args .waking) (c .if1 .taken)) (c .before .no-slots .ensures, refl))
     (λ c. search needs)

@@ -1,23 +1,16 @@
-use borrow.Author.Needs.{needs}
+use Rattle.lists.specs.Proving.{needs}
 use Rattle.cubes.specs.laws.StartsLaw.{starts-lone, starts-freed}
-use Rattle.cubes.proofs.starts.starts.Statement.{statement}
-use Rattle.cubes.proofs.starts.starts.Tie as tie
+use Rattle.cubes.proofs.starts.starts as own
 
-returns : tie.Need-returns
-returns c =
+pub starts-spec : {M : Type 1} → own.Statement.statement M
+starts-spec = own.Tie.close (own.Tie.spec
+    (λ c κs. search needs) (λ c κs. search needs) (λ c κs. search needs)
+    (λ c.
     let at-transition = c .before .before in
     let at-site = at-transition .before .before in
-    λ gi. starts-lone (gi .wf) (at-site .site .ensures) (at-transition .before .if1 .taken) (at-transition .transition .ensures) (c .one .ensures)
-
-returns-2 : tie.Need-returns-2
-returns-2 c =
+    λ gi. starts-lone (gi .wf) (at-site .site .ensures) (at-transition .before .if1 .taken) (at-transition .transition .ensures) (c .one .ensures))
+    (λ c κs. search needs) (λ c. search needs) (λ c. search needs) (λ c κs. search needs)
+    (λ c.
     let at-wide = c .before .before in
     let at-site = at-wide .before .before in
-    λ gi. starts-freed gi (at-site .site .ensures) (at-wide .before .if1 .left) (rw (at-wide .wide .ensures .0)) (c .going .ensures)
-
-pub starts-spec : {M : Type 1} → statement M
-starts-spec =
-    tie.close
-    (tie.spec
-    (λ c κs. search needs) (λ c κs. search needs) (λ c κs. search needs) returns (λ c κs. search needs) (λ c. search needs)
-    (λ c. search needs) (λ c κs. search needs) returns-2)
+    λ gi. starts-freed gi (at-site .site .ensures) (at-wide .before .if1 .left) (rw (at-wide .wide .ensures .0)) (c .going .ensures)))

@@ -1,7 +1,5 @@
 use Rattle.cubes.specs.laws.SetLaw.{shared-and}
-use Rattle.cubes.proofs.words.shared.Statement.{statement}
-use Rattle.cubes.proofs.words.shared.Tie as tie
+use Rattle.cubes.proofs.words.shared as own
 
-pub shared-spec : {M : Type 1} → statement M
-shared-spec =
-    tie.close (tie.spec (λ c. shared-and (c .args .a) (c .args .b)))
+pub shared-spec : {M : Type 1} → own.Statement.statement M
+shared-spec = own.Tie.close (own.Tie.spec (λ c. shared-and (c .args .a) (c .args .b)))

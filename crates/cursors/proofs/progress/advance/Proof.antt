@@ -1,19 +1,9 @@
-use borrow.Author.Needs.{needs}
-use Prim.Native.Nat.{_≤_, _-_}
-use lib.ListN.{length}
-use Rattle.cursors.proofs.progress.advance.Statement.{statement}
-use Rattle.cursors.proofs.progress.advance.Tie as tie
+use Rattle.lists.specs.Proving.{needs, _-_, _≤_, length}
+use Rattle.cursors.proofs.progress.advance as own
 
-abbrev Inv-loop : tie.InvT-loop
-Inv-loop block log p settled from state₀ at₀ state at = 0 ≤ at
-
-abbrev μ-loop : tie.MeasureT-loop
-μ-loop block log p settled from state₀ at₀ state at = length log - at
-
-pub advance-spec : {M : Type 1} → statement M
-advance-spec =
-    tie.close
-    (tie.spec
-    Inv-loop μ-loop (λ c κs. search needs) (λ c κs. search needs) (λ c. search needs) (λ c. search needs) (λ c. search needs)
-    (λ c κs. search needs) (λ c. search needs) (λ c κs. search needs) (λ c. search needs) (λ c. search needs) (λ c. search needs)
-    (λ c. search needs) (λ c. search needs) (λ c κs. search needs) (λ c. search needs))
+pub advance-spec : {M : Type 1} → own.Statement.statement M
+advance-spec = own.Tie.close (own.Tie.spec
+    (λ block log p settled from state₀ at₀ state at. 0 ≤ at) (λ _ log _ _ _ _ _ _ at. length log - at)
+    (λ c κs. search needs) (λ c κs. search needs) (λ c. search needs) (λ c. search needs) (λ c. search needs)
+    (λ c κs. search needs) (λ c. search needs) (λ c κs. search needs) (λ c. search needs) (λ c. search needs)
+    (λ c. search needs) (λ c. search needs) (λ c. search needs) (λ c κs. search needs) (λ c. search needs))

@@ -1,13 +1,9 @@
-use borrow.Author.Needs.{needs}
-use native.Mathlib.Omega.{arith}
+use Rattle.lists.specs.Proving.{needs, arith}
 use Rattle.cursors.proofs.NarrowingLaw.{narrowed-set}
-use Rattle.cursors.proofs.proposal.narrow_step.Statement.{statement}
-use Rattle.cursors.proofs.proposal.narrow_step.Tie as tie
+use Rattle.cursors.proofs.proposal.narrow_step as own
 
-pub narrow-step-spec : {M : Type 1} → statement M
-narrow-step-spec =
-    tie.close
-    (tie.spec
+pub narrow-step-spec : {M : Type 1} → own.Statement.statement M
+narrow-step-spec = own.Tie.close (own.Tie.spec
     (λ c κs. search needs) (λ c κs. search needs) (λ c κs. search needs) (λ c. search needs) (λ c κs. search needs)
     (λ c. search needs) (λ c. search needs) (λ c κs. search needs) (λ c. search needs) (λ c κs. search needs)
     (λ c κs. search needs) (λ c. search needs) (λ c κs. search needs) (λ c κs. search needs) (λ c κs. search needs)

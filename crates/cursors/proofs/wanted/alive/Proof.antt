@@ -1,19 +1,10 @@
-use borrow.Author.Needs.{needs}
-use Prim.Native.Nat.{_≤_, _-_, _*_}
-use Rattle.cursors.proofs.wanted.alive.Statement.{statement}
-use Rattle.cursors.proofs.wanted.alive.Tie as tie
+use Rattle.lists.specs.Proving.{needs, _-_, _*_, _≤_}
+use Rattle.cursors.proofs.wanted.alive as own
 
-abbrev Inv-loop : tie.InvT-loop
-Inv-loop facts notes j sum₀ left₀ n₀ sum left n = (n ≤ 16) × (sum ≤ 31 * n)
-
-abbrev μ-loop : tie.MeasureT-loop
-μ-loop facts notes j sum₀ left₀ n₀ sum left n = 16 - n
-
-pub alive-spec : {M : Type 1} → statement M
-alive-spec =
-    tie.close
-    (tie.spec
-    Inv-loop μ-loop (λ c κs. search needs) (λ c. search needs) (λ c. search needs) (λ c κs. search needs) (λ c κs. search needs)
+pub alive-spec : {M : Type 1} → own.Statement.statement M
+alive-spec = own.Tie.close (own.Tie.spec
+    (λ facts notes j sum₀ left₀ n₀ sum left n. (n ≤ 16) × (sum ≤ 31 * n)) (λ _ _ _ _ _ _ _ _ n. 16 - n)
+    (λ c κs. search needs) (λ c. search needs) (λ c. search needs) (λ c κs. search needs) (λ c κs. search needs)
     (λ c. search needs) (λ c. search needs) (λ c. search needs) (λ c κs. search needs) (λ c κs. search needs)
-    (λ c κs. search needs) (λ c. search needs) (λ c κs. search needs) (λ c. search needs) (λ c. search needs) (λ c. search needs)
-    (λ c. search needs))
+    (λ c κs. search needs) (λ c. search needs) (λ c κs. search needs) (λ c. search needs) (λ c. search needs)
+    (λ c. search needs) (λ c. search needs))

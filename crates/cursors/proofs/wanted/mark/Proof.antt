@@ -1,13 +1,9 @@
-use borrow.Author.Needs.{needs}
+use Rattle.lists.specs.Proving.{needs, _+_, _*_, _%_}
 use Rattle.cursors.proofs.MarkingLaw.{marked-none, marked-some}
-use Prim.Native.Nat.{_+_, _*_, _%_}
-use Rattle.cursors.proofs.wanted.mark.Statement.{statement}
-use Rattle.cursors.proofs.wanted.mark.Tie as tie
+use Rattle.cursors.proofs.wanted.mark as own
 
-pub mark-spec : {M : Type 1} → statement M
-mark-spec =
-    tie.close
-    (tie.spec
+pub mark-spec : {M : Type 1} → own.Statement.statement M
+mark-spec = own.Tie.close (own.Tie.spec
     (λ c κs. search needs) (λ c. search needs) (λ c κs. search needs) (λ c κs. search needs) (λ c. search needs)
     (λ c. marked-none _ _ (c .before .before .before .before .cell .ensures .0) (c .before .before .note .ensures) (c .before .less .ensures) (c .if1 .taken))
     (λ c κs. search needs) (λ c. search needs) (λ c κs. search needs) (λ c κs. search needs) (λ c. search needs)

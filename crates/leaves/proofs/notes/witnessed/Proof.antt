@@ -1,26 +1,13 @@
-use borrow.Author.Needs.{needs}
-use native.Mathlib.Omega.{arith}
-use mathlib.Core.Path.{_≡_, refl, sym, _∙_}
+use Rattle.lists.specs.Proving.{needs, arith, ℕ, _+_, _-_, _<_, _≤_, _≡_, refl, sym, _∙_, getD, below-more}
 use Rattle.lists.specs.laws.TestLaw.{clash}
-use Prim.Native.Nat.{ℕ, _+_, _≤_, _<_, _-_}
-use borrow.Author.Count.{below-more}
-use lib.ListN.{getD}
 use Rattle.leaves.specs.Noted.{Clash}
-use Rattle.leaves.proofs.notes.witnessed.Statement.{statement}
-use Rattle.leaves.proofs.notes.witnessed.Tie as tie
+use Rattle.leaves.proofs.notes.witnessed as own
 
-abbrev Inv-loop : tie.InvT-loop
-Inv-loop notes prefix j₀ j = (j ≤ 32) × ((k : ℕ) → k < j → Clash (getD notes (8 + k) 0) (getD prefix k 0) → ⊥)
-
-abbrev μ-loop : tie.MeasureT-loop
-μ-loop notes prefix j₀ j = 32 - j
-
-pub witnessed-spec : {M : Type 1} → statement M
-witnessed-spec =
-    tie.close
-    (tie.spec
-    Inv-loop μ-loop (λ c κs. search needs)
-    (λ c. (λ e. clash _ e refl, λ e w. w .kept (sym (c .before .note .ensures) ∙ c .if1 .taken)))
+pub witnessed-spec : {M : Type 1} → own.Statement.statement M
+witnessed-spec = own.Tie.close (own.Tie.spec
+    (λ notes prefix j₀ j. (j ≤ 32) × ((k : ℕ) → k < j → Clash (getD notes (8 + k) 0) (getD prefix k 0) → ⊥))
+    (λ _ _ _ j. 32 - j)
+    (λ c κs. search needs) (λ c. (λ e. clash _ e refl, λ e w. w .kept (sym (c .before .note .ensures) ∙ c .if1 .taken)))
     (λ c. (omega arith, λ k h. absurd (omega arith))) (λ c. search needs) (λ c κs. search needs) (λ c. search needs)
     (λ c. search needs) (λ c κs. search needs)
     (λ c. (λ e. clash _ e refl, λ e w. w .agrees (c .before .before .before .before .before .loop .j) (omega arith) (rw (c .before .before .before .note2 .ensures) at (c .before .clash .ensures .0 (c .if2 .taken)))))

@@ -1,13 +1,8 @@
-use borrow.Author.Needs.{needs}
-use native.Mathlib.Omega.{arith}
-use Prim.Native.Nat.{_+_, _*_, _/_, _%_}
-use mathlib.Core.Path.{_≡_, refl}
-use borrow.Author.Tests.{ne-eqb}
+use Rattle.lists.specs.Proving.{needs, arith, _+_, _*_, _/_, _%_, _≡_, refl, ne-eqb}
 use Rattle.block.specs.Logged.{observation}
-use Rattle.logs.proofs.suite.observed.Statement.{statement}
-use Rattle.logs.proofs.suite.observed.Tie as tie
+use Rattle.logs.proofs.suite.observed as own
 
-returns : tie.Need-returns
+returns : own.Tie.Need-returns
 unfolding observation
 returns c = let x = c .args .x in
     let o = c .args .o in
@@ -15,6 +10,5 @@ returns c = let x = c .args .x in
     let f : (x * 16 + o) % 16 ≡ o = omega arith in
     rw (ne-eqb (x * 16 + o) 256 (λ z. omega arith), e, f) refl
 
-pub observed-spec : {M : Type 1} → statement M
-observed-spec =
-    tie.close (tie.spec (λ c. search needs) (λ c. search needs) returns)
+pub observed-spec : {M : Type 1} → own.Statement.statement M
+observed-spec = own.Tie.close (own.Tie.spec (λ c. search needs) (λ c. search needs) returns)

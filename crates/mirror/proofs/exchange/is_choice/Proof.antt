@@ -1,14 +1,8 @@
-use Rattle.lists.specs.laws.TestLaw.{never}
-use borrow.Author.Tests.{eqb-true}
+use Rattle.lists.specs.Proving.{needs, eqb-true, never}
 use Rattle.mirror.proofs.ExchangeLaw.{offers}
-use borrow.Author.Needs.{needs}
-use Rattle.mirror.proofs.exchange.is_choice.Statement.{statement}
-use Rattle.mirror.proofs.exchange.is_choice.Tie as tie
+use Rattle.mirror.proofs.exchange.is_choice as own
 
-pub is-choice-spec : {M : Type 1} → statement M
-is-choice-spec =
-    tie.close
-    (tie.spec
-    (λ c κs. search needs)
-    (λ c. λ e. never (cc))
+pub is-choice-spec : {M : Type 1} → own.Statement.statement M
+is-choice-spec = own.Tie.close (own.Tie.spec
+    (λ c κs. search needs) (λ c. λ e. never (cc))
     (λ c. λ e. offers (c .before .before .before .before .pre .0) (c .before .before .before .before .pre .2) (c .before .before .before .transition .ensures) (c .before .if1 .left) (eqb-true _ _ e)))

@@ -1,14 +1,9 @@
-use borrow.Author.Needs.{needs}
-use native.Mathlib.Omega.{arith}
-use Prim.Native.Nat.{_≤_, _-_}
+use Rattle.lists.specs.Proving.{needs, arith, _-_, _≤_}
 use Rattle.leaves.specs.Members.{Literals}
-use Rattle.pairs.proofs.proposal.spread.Statement.{statement}
-use Rattle.pairs.proofs.proposal.spread.Tie as tie
+use Rattle.pairs.proofs.proposal.spread as own
 
-pub spread-spec : {M : Type 1} → statement M
-spread-spec =
-    tie.close
-    (tie.spec
+pub spread-spec : {M : Type 1} → own.Statement.statement M
+spread-spec = own.Tie.close (own.Tie.spec
     (λ block facts safe cube₀ pairs₀ strict done₀ w₀ turns₀ cube pairs done w turns. (turns ≤ 5000) × (Literals cube₀ → Literals cube))
     (λ block facts safe cube₀ pairs₀ strict done₀ w₀ turns₀ cube pairs done w turns. 5000 - turns) (λ c κs. search needs)
     (λ c κs. search needs) (λ c. (omega arith, λ f. f))

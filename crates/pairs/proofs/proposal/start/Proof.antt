@@ -1,12 +1,9 @@
-use borrow.Author.Needs.{needs}
+use Rattle.lists.specs.Proving.{needs}
 use Rattle.leaves.specs.laws.MembersLaw.{literals-set}
-use Rattle.pairs.proofs.proposal.start.Statement.{statement}
-use Rattle.pairs.proofs.proposal.start.Tie as tie
+use Rattle.pairs.proofs.proposal.start as own
 
-pub start-spec : {M : Type 1} → statement M
-start-spec =
-    tie.close
-    (tie.spec
+pub start-spec : {M : Type 1} → own.Statement.statement M
+start-spec = own.Tie.close (own.Tie.spec
     (λ c κs. search needs) (λ c. search needs) (λ c κs. search needs) (λ c. search needs) (λ c κs. search needs)
     (λ c. search needs) (λ c. search needs) (λ c κs. search needs) (λ c κs. search needs) (λ c. search needs)
     (λ c. search needs) (λ c. literals-set _ _ (c .before .literal .ensures .1)))

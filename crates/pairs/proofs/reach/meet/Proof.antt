@@ -1,13 +1,9 @@
-use borrow.Author.Needs.{needs}
-use mathlib.Core.Path.{_∙_}
+use Rattle.lists.specs.Proving.{needs, _∙_}
 use Rattle.pairs.proofs.MeetingLaw.{meets-free, meets-none}
-use Rattle.pairs.proofs.reach.meet.Statement.{statement}
-use Rattle.pairs.proofs.reach.meet.Tie as tie
+use Rattle.pairs.proofs.reach.meet as own
 
-pub meet-spec : {M : Type 1} → statement M
-meet-spec =
-    tie.close
-    (tie.spec
+pub meet-spec : {M : Type 1} → own.Statement.statement M
+meet-spec = own.Tie.close (own.Tie.spec
     (λ c κs. search needs) (λ c κs. search needs) (λ c κs. search needs)
     (λ c. meets-free (c .before .before .before .before .exact .ensures .0) (c .before .before .before .before .exact .ensures .1) (c .before .unsettled .ensures (c .if1 .taken)))
     (λ c κs. search needs)

@@ -1,10 +1,5 @@
-use mathlib.Core.Path.{refl}
-use mathlib.Core.Logic.{inl, inr}
-use Rattle.pairs.proofs.reach.wait.Statement.{statement}
-use Rattle.pairs.proofs.reach.wait.Tie as tie
+use Rattle.lists.specs.Proving.{refl, inl, inr}
+use Rattle.pairs.proofs.reach.wait as own
 
-pub wait-spec : {M : Type 1} → statement M
-wait-spec =
-    tie.close
-    (tie.spec
-    (λ c. inl refl) (λ c. inr refl))
+pub wait-spec : {M : Type 1} → own.Statement.statement M
+wait-spec = own.Tie.close (own.Tie.spec (λ c. inl refl) (λ c. inr refl))

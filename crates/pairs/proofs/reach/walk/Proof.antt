@@ -1,16 +1,10 @@
-use borrow.Author.Needs.{needs}
-use native.Mathlib.Omega.{arith}
-use mathlib.Core.Path.{sym, subst}
-use Prim.Native.Nat.{_≤_, _-_}
+use Rattle.lists.specs.Proving.{needs, arith, _-_, _≤_, sym, subst}
 use Rattle.pairs.specs.Meeting.{Free}
 use Rattle.pairs.proofs.MeetingLaw.{free-none}
-use Rattle.pairs.proofs.reach.walk.Statement.{statement}
-use Rattle.pairs.proofs.reach.walk.Tie as tie
+use Rattle.pairs.proofs.reach.walk as own
 
-pub walk-spec : {M : Type 1} → statement M
-walk-spec =
-    tie.close
-    (tie.spec
+pub walk-spec : {M : Type 1} → own.Statement.statement M
+walk-spec = own.Tie.close (own.Tie.spec
     (λ block facts cube seen₀ list₀ w₀ h₀ seen list w h. (h ≤ 256) × Free cube (w .first))
     (λ block facts cube seen₀ list₀ w₀ h₀ seen list w h. 256 - h) (λ c κs. search needs) (λ c κs. search needs)
     (λ c κs. search needs) (λ c. (omega arith, subst (Free _) (sym (c .list-pair .ensures)) free-none))

@@ -1,13 +1,8 @@
-use borrow.Author.Needs.{needs}
-use Prim.Native.Nat.{_≤_}
-use Rattle.pairs.proofs.witness.wrong_choice.Statement.{statement}
-use Rattle.pairs.proofs.witness.wrong_choice.Tie as tie
+use Rattle.lists.specs.Proving.{needs, _≤_}
+use Rattle.pairs.proofs.witness.wrong_choice as own
 
-pub wrong-choice-spec : {M : Type 1} → statement M
-wrong-choice-spec =
-    tie.close
-    (tie.spec
-    (λ block j o k c₀ c. 0 ≤ c)
-    (λ block j o k c₀ c. c)
-    (λ c κs. search needs) (λ c κs. search needs) (λ c. search needs) (λ c. search needs) (λ c κs. search needs)
-    (λ c. search needs) (λ c. search needs) (λ c. search needs) (λ c. search needs))
+pub wrong-choice-spec : {M : Type 1} → own.Statement.statement M
+wrong-choice-spec = own.Tie.close (own.Tie.spec
+    (λ block j o k c₀ c. 0 ≤ c) (λ block j o k c₀ c. c) (λ c κs. search needs) (λ c κs. search needs) (λ c. search needs)
+    (λ c. search needs) (λ c κs. search needs) (λ c. search needs) (λ c. search needs) (λ c. search needs)
+    (λ c. search needs))

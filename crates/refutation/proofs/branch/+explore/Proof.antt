@@ -1,14 +1,8 @@
-use borrow.Author.Needs.{needs}
-use Prim.Native.Nat.{_+_, _-_}
-use borrow.Author.Tests.{not-false}
-use native.Mathlib.Omega.{arith}
-use mathlib.Core.Path.{_≡_, refl}
-use lib.ListN.{length}
+use Rattle.lists.specs.Proving.{needs, arith, ℕ, _+_, _-_, _<_, _≡_, refl, length, not-false}
 use Rattle.store.specs.Store.{StoreOk}
 use Rattle.refutation.specs.Branching.{SplitOk}
 use Rattle.refutation.proofs.TellLaw.{found-learnt}
 use Rattle.refutation.proofs.BranchLaw.{Trying, trying-start, trying-skip, trying-more, trying-end}
-use Prim.Native.Nat.{ℕ, _<_}
 use borrow.Fn.Kinds.{In}
 use borrow.Fn.PlainCycle.{Measures, is, falls, and}
 use Rattle.refutation.proofs.branch.explore.Reads as explore

@@ -1,13 +1,6 @@
-use borrow.Author.Needs.{needs}
-use native.Mathlib.Omega.{arith}
-use Rattle.refutation.proofs.branch.at_turn.Statement.{statement}
-use Rattle.refutation.proofs.branch.at_turn.Tie as tie
+use Rattle.lists.specs.Proving.{needs, arith}
+use Rattle.refutation.proofs.branch.at_turn as own
 
-pub at-turn-spec : {M : Type 1} → statement M
-at-turn-spec =
-    tie.close
-    (tie.spec
-    (λ c κs. search needs)
-    (λ c. λ l. absurd (omega arith))
-    (λ c κs. search needs)
-    (λ c. λ l. c .second-turn .ensures))
+pub at-turn-spec : {M : Type 1} → own.Statement.statement M
+at-turn-spec = own.Tie.close (own.Tie.spec
+    (λ c κs. search needs) (λ c. λ l. absurd (omega arith)) (λ c κs. search needs) (λ c. λ l. c .second-turn .ensures))

@@ -1,14 +1,8 @@
-use borrow.Author.Needs.{needs}
-use borrow.Author.Tests.{not-false}
-use mathlib.Core.Path.{sym}
+use Rattle.lists.specs.Proving.{needs, sym, not-false}
 use Rattle.store.specs.laws.ToldLaw.{void}
-use Rattle.refutation.proofs.branch.final_at.Statement.{statement}
-use Rattle.refutation.proofs.branch.final_at.Tie as tie
+use Rattle.refutation.proofs.branch.final_at as own
 
-pub final-at-spec : {M : Type 1} → statement M
-final-at-spec =
-    tie.close
-    (tie.spec
-    (λ c. λ e. void (sym e))
-    (λ c κs. search needs) (λ c. search needs) (λ c. search needs)
+pub final-at-spec : {M : Type 1} → own.Statement.statement M
+final-at-spec = own.Tie.close (own.Tie.spec
+    (λ c. λ e. void (sym e)) (λ c κs. search needs) (λ c. search needs) (λ c. search needs)
     (λ c. λ e. not-false _ (c .before .before .if1 .left)))

@@ -1,13 +1,10 @@
-use borrow.Author.Needs.{needs}
+use Rattle.lists.specs.Proving.{needs}
 use Rattle.store.specs.laws.ToldLaw.{told-none}
 use Rattle.refutation.proofs.TellLaw.{told-conforming}
-use Rattle.refutation.proofs.tell.by_pairs.Statement.{statement}
-use Rattle.refutation.proofs.tell.by_pairs.Tie as tie
+use Rattle.refutation.proofs.tell.by_pairs as own
 
-pub by-pairs-spec : {M : Type 1} → statement M
-by-pairs-spec =
-    tie.close
-    (tie.spec
+pub by-pairs-spec : {M : Type 1} → own.Statement.statement M
+by-pairs-spec = own.Tie.close (own.Tie.spec
     (λ c. search needs) (λ c κs. search needs) (λ c. search needs) (λ c κs. search needs)
     (λ c. λ log. told-none (c .unknown .ensures))
     (λ c. λ log. told-conforming (c .before .enum-told2 .given .1) (c .by-conforming .ensures)))

@@ -1,16 +1,11 @@
-use borrow.Author.Needs.{needs}
-use Rattle.refutation.proofs.tell.by_test.Statement.{statement}
-use Rattle.refutation.proofs.tell.by_test.Tie as tie
+use Rattle.lists.specs.Proving.{needs}
+use Rattle.refutation.proofs.tell.by_test as own
 
-fails-requires : tie.Need-fails-requires
-fails-requires c κs =
+pub by-test-spec : {M : Type 1} → own.Statement.statement M
+by-test-spec = own.Tie.close (own.Tie.spec
+    (λ c κs. search needs) (λ c κs. search needs)
+    (λ c κs.
     let earlier = c .before .before .before .before .before in
     let at-entry = earlier .before .before in
-    record { wf = at-entry .pre .wf; tables = at-entry .pre .free }
-
-pub by-test-spec : {M : Type 1} → statement M
-by-test-spec =
-    tie.close
-    (tie.spec
-    (λ c κs. search needs) (λ c κs. search needs) fails-requires
+    record { wf = at-entry .pre .wf; tables = at-entry .pre .free })
     (λ c. λ g. record { none = λ e. c .fails .ensures e g }))

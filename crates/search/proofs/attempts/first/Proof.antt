@@ -1,31 +1,21 @@
 -- `first`: the mutant that was found is shown.
-use borrow.Author.Needs.{needs}
-use native.Mathlib.Omega.{arith}
-use mathlib.Core.Path.{refl}
+use Rattle.lists.specs.Proving.{needs, arith, refl}
 use Rattle.search.specs.declared.settle.Found.the-variants.{First}
 use Rattle.search.proofs.SearchLaw.{other, nothing, showing}
-use Rattle.search.proofs.attempts.first.Statement.{statement}
-use Rattle.search.proofs.attempts.first.Tie as tie
+use Rattle.search.proofs.attempts.first as own
 
-show-requires : tie.Need-show-requires
-show-requires c κs =
+pub first-spec : {M : Type 1} → own.Statement.statement M
+first-spec = own.Tie.close (own.Tie.spec
+    (λ c κs. search needs) (λ c. search needs)
+    (λ c κs.
     let at-enum-told = c .before .before .before .before in
     let at-find = at-enum-told .before .before in
     let at-entry = at-find .before .before .before .before .before in
-    ((at-entry .pre .0 .0, showing (at-entry .pre .0 .1) (rw (at-enum-told .enum-told .given .1) at (at-find .find .ensures .0 (at-entry .pre .0 .0) (at-entry .pre .0 .1)))), at-entry .pre .1)
-
-returns : tie.Need-returns
-returns c =
+    ((at-entry .pre .0 .0, showing (at-entry .pre .0 .1) (rw (at-enum-told .enum-told .given .1) at (at-find .find .ensures .0 (at-entry .pre .0 .0) (at-entry .pre .0 .1)))), at-entry .pre .1))
+    (λ c. search needs) (λ c. search needs)
+    (λ c.
     let at-show = c .before .before .before .before in
     let at-enum-told = at-show .before .before .before .before .before in
     let at-find = at-enum-told .before .before in
-    λ sh s. let a = rw (at-enum-told .enum-told .given .1) at (at-find .find .ensures .0 sh s) in record { mutant = _; first = a .first; written = at-show .show .ensures sh (showing s a) }
-
-returns-2 : tie.Need-returns-2
-returns-2 c = λ sh s. (nothing (c .before .find .result .found) _ (other (c .before .find .result .found) First (c .match .keys2) (λ z. omega arith) (λ z. omega arith)) (c .before .find .ensures .1) (c .before .find .ensures .0 sh s), record { board = refl; sequence = refl })
-
-pub first-spec : {M : Type 1} → statement M
-first-spec =
-    tie.close
-    (tie.spec
-    (λ c κs. search needs) (λ c. search needs) show-requires (λ c. search needs) (λ c. search needs) returns returns-2)
+    λ sh s. let a = rw (at-enum-told .enum-told .given .1) at (at-find .find .ensures .0 sh s) in record { mutant = _; first = a .first; written = at-show .show .ensures sh (showing s a) })
+    (λ c. λ sh s. (nothing (c .before .find .result .found) _ (other (c .before .find .result .found) First (c .match .keys2) (λ z. omega arith) (λ z. omega arith)) (c .before .find .ensures .1) (c .before .find .ensures .0 sh s), record { board = refl; sequence = refl })))

@@ -1,12 +1,6 @@
 -- `search`: the choices below c at the next slot lead to no wanted mutant.
-use borrow.Author.Needs.{needs}
-use Prim.Native.Nat.{ℕ, _-_, _<_, _≤_}
-use native.Mathlib.Omega.{arith}
-use mathlib.Core.Path.{_≡_, refl, sym, _∙_}
-use mathlib.Core.List.{List}
-use lib.ListN.{length}
+use Rattle.lists.specs.Proving.{needs, arith, ℕ, _-_, _<_, _≤_, _≡_, refl, sym, _∙_, List, length, never}
 use Rattle.sheet.specs.Sheet.{Sheet}
-use Rattle.lists.specs.laws.TestLaw.{never}
 use Rattle.cubes.specs.declared.goal.Goal.{Goal}
 use Rattle.refutation.specs.Lent.{StoreOk}
 use Rattle.search.specs.declared.settle.Found.the-variants.{Nothing}

@@ -1,7 +1,5 @@
 use Rattle.store.proofs.StoreLaw.{fresh}
-use Rattle.store.proofs.entries.fresh_store.Statement.{statement}
-use Rattle.store.proofs.entries.fresh_store.Tie as tie
+use Rattle.store.proofs.entries.fresh_store as own
 
-pub fresh-store-spec : {M : Type 1} → statement M
-fresh-store-spec =
-    tie.close (tie.spec (λ c. λ goal m log. fresh 17408))
+pub fresh-store-spec : {M : Type 1} → own.Statement.statement M
+fresh-store-spec = own.Tie.close (own.Tie.spec (λ c. λ goal m log. fresh 17408))

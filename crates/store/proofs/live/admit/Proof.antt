@@ -1,15 +1,10 @@
-use borrow.Author.Needs.{needs}
-use native.Mathlib.Omega.{arith}
-use Prim.Native.Nat.{_≤_, _-_}
+use Rattle.lists.specs.Proving.{needs, arith, _-_, _≤_}
 use Rattle.leaves.specs.Noted.{Changed}
 use Rattle.leaves.specs.laws.NotedLaw.{changed-none, changed-set, changed-more}
-use Rattle.store.proofs.live.admit.Statement.{statement}
-use Rattle.store.proofs.live.admit.Tie as tie
+use Rattle.store.proofs.live.admit as own
 
-pub admit-spec : {M : Type 1} → statement M
-admit-spec =
-    tie.close
-    (tie.spec
+pub admit-spec : {M : Type 1} → own.Statement.statement M
+admit-spec = own.Tie.close (own.Tie.spec
     (λ notes₀ e n₀ notes n. (n ≤ 34) × Changed 8768 9856 notes₀ notes) (λ notes₀ e n₀ notes n. 34 - n)
     (λ c. (omega arith, changed-none)) (λ c κs. search needs) (λ c κs. search needs) (λ c. search needs)
     (λ c κs. search needs) (λ c κs. search needs) (λ c. search needs) (λ c. search needs)

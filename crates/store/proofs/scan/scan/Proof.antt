@@ -1,19 +1,9 @@
-use borrow.Author.Needs.{needs}
-use mathlib.Core.Path.{_≡_}
-use lib.ListN.{length}
-use Prim.Native.Nat.{_-_, _≤_}
-use Rattle.store.proofs.scan.scan.Statement.{statement}
-use Rattle.store.proofs.scan.scan.Tie as tie
+use Rattle.lists.specs.Proving.{needs, _-_, _≤_, _≡_, length}
+use Rattle.store.proofs.scan.scan as own
 
-abbrev Inv-loop : tie.InvT-loop
-Inv-loop store notes₀ p settled w₀ notes w = (length notes ≡ length notes₀) × (w ≤ 32)
-
-abbrev μ-loop : tie.MeasureT-loop
-μ-loop store notes₀ p settled w₀ notes w = 32 - w
-
-pub scan-spec : {M : Type 1} → statement M
-scan-spec =
-    tie.close
-    (tie.spec
-    Inv-loop μ-loop (λ c. search needs) (λ c κs. search needs) (λ c κs. search needs) (λ c. search needs) (λ c. search needs)
-    (λ c. search needs) (λ c. search needs) (λ c. search needs) (λ c κs. search needs) (λ c. search needs) (λ c. search needs))
+pub scan-spec : {M : Type 1} → own.Statement.statement M
+scan-spec = own.Tie.close (own.Tie.spec
+    (λ store notes₀ p settled w₀ notes w. (length notes ≡ length notes₀) × (w ≤ 32)) (λ _ _ _ _ _ _ w. 32 - w)
+    (λ c. search needs) (λ c κs. search needs) (λ c κs. search needs) (λ c. search needs) (λ c. search needs)
+    (λ c. search needs) (λ c. search needs) (λ c. search needs) (λ c κs. search needs) (λ c. search needs)
+    (λ c. search needs))

@@ -1,14 +1,9 @@
-use native.Mathlib.Omega.{arith}
-use mathlib.Core.Path.{refl}
+use Rattle.lists.specs.Proving.{needs, arith, refl}
 use Rattle.walks.proofs.ReachLaw.{cell-undefined, cell-stopped, cell-met}
-use borrow.Author.Needs.{needs}
-use Rattle.walks.proofs.reach.cell.Statement.{statement}
-use Rattle.walks.proofs.reach.cell.Tie as tie
+use Rattle.walks.proofs.reach.cell as own
 
-pub cell-spec : {M : Type 1} → statement M
-cell-spec =
-    tie.close
-    (tie.spec
+pub cell-spec : {M : Type 1} → own.Statement.statement M
+cell-spec = own.Tie.close (own.Tie.spec
     (λ c κs. search needs) (λ c κs. search needs)
     (λ c. cell-undefined (rw (c .before .rule-target .ensures, c .before .before .place .ensures .0) at (c .if1 .taken)))
     (λ c κs. search needs) (λ c κs. search needs) (λ c. search needs) (λ c κs. search needs) (λ c. search needs)

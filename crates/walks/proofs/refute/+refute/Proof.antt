@@ -1,16 +1,10 @@
 -- `refute`: none of the mutants whose choice at the suspect is below c is sought.
-use borrow.Author.Needs.{needs}
-use native.Mathlib.Omega.{arith}
-use mathlib.Core.Path.{_≡_, refl, _∙_}
-use mathlib.Core.List.{List}
-use lib.ListN.{length, set}
+use Rattle.lists.specs.Proving.{needs, arith, ℕ, _-_, _<_, _≤_, _≡_, refl, _∙_, List, length, set, never}
 use lib.Seq.{set-set}
-use Rattle.lists.specs.laws.TestLaw.{never}
 use Rattle.cubes.specs.declared.goal.Goal.{Goal}
 use Rattle.walks.specs.Walks.{Stands, SplitOk}
 use Rattle.walks.specs.declared.walk.Place.{Place}
 use Rattle.walks.proofs.SplitLaw.{Tried, tried-none, tried-more, tried-all, stands-child, told-parent, stands-as, told-as}
-use Prim.Native.Nat.{ℕ, _-_, _<_, _≤_}
 use borrow.Fn.Kinds.{In}
 use borrow.Fn.PlainCycle.{Measures, is, falls, and}
 use Rattle.walks.proofs.refute.refute.Reads as refute

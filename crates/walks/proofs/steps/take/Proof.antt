@@ -1,14 +1,9 @@
+use Rattle.lists.specs.Proving.{needs, arith, sym, _∙_}
 use Rattle.walks.proofs.StandLaw.{joined-has, settled-lone, settled-at}
-use native.Mathlib.Omega.{arith}
-use mathlib.Core.Path.{sym, _∙_}
-use borrow.Author.Needs.{needs}
-use Rattle.walks.proofs.steps.take.Statement.{statement}
-use Rattle.walks.proofs.steps.take.Tie as tie
+use Rattle.walks.proofs.steps.take as own
 
-pub take-spec : {M : Type 1} → statement M
-take-spec =
-    tie.close
-    (tie.spec
+pub take-spec : {M : Type 1} → own.Statement.statement M
+take-spec = own.Tie.close (own.Tie.spec
     (λ c κs. search needs) (λ c κs. search needs)
     (λ c. let s = c .before .before .before in (λ j h. h, settled-lone (s .pre .0) (s .pre .1) (sym (c .before .before .site .ensures) ∙ c .before .if1 .taken) (c .transition .ensures)))
     (λ c κs. search needs) (λ c. search needs)
