@@ -53,11 +53,9 @@ fn copy(block: &mut [u8; BLOCK], base: usize, from: &[u8; 256])
     requires { ⌜ (length (now block) ≡ 1620) × (base ≤ 1315) ⌝ }
     ensures { λ r. ⌜ Copied (now (block .entry)) (now (block .exit)) base (now (from .entry)) 256 ⌝ }
 {
-    let mut k: usize = 0;
-    while k < 256 {
+    for k in 0..256 {
         let x = from[k];
         block[base + k] = x;
-        k += 1;
     }
 }
 
@@ -65,11 +63,9 @@ fn copy_first(block: &mut [u8; BLOCK], first: &[u16; 256])
     requires { ⌜ length (now block) ≡ 1620 ⌝ }
     ensures { λ r. ⌜ FirstCopied (now (block .entry)) (now (block .exit)) (now (first .entry)) 256 ⌝ }
 {
-    let mut k: usize = 0;
-    while k < 256 {
+    for k in 0..256 {
         let x = narrow(first[k]);
         block[FIRST_FAULTS + k] = x;
-        k += 1;
     }
 }
 
@@ -77,11 +73,9 @@ fn copy_choices(block: &mut [u8; BLOCK], choices: &[u16; 32])
     requires { ⌜ length (now block) ≡ 1620 ⌝ }
     ensures { λ r. ⌜ ChoicesCopied (now (block .entry)) (now (block .exit)) (now (choices .entry)) 32 ⌝ }
 {
-    let mut i: usize = 0;
-    while i < 32 {
+    for i in 0..32 {
         let x = last(choices[i]);
         block[CHOICES + i] = x;
-        i += 1;
     }
 }
 
@@ -90,11 +84,9 @@ fn copy_wakings(block: &mut [u8; BLOCK], states: &[u8; 16])
     requires { ⌜ length (now block) ≡ 1620 ⌝ }
     ensures { λ r. ⌜ WakingsCopied (now (block .entry)) (now (block .exit)) (now (states .entry)) 16 ⌝ }
 {
-    let mut c: usize = 0;
-    while c < 16 {
+    for c in 0..16 {
         let t = states[c];
         block[WAKES + c] = t;
-        c += 1;
     }
 }
 
@@ -103,11 +95,9 @@ fn locate(block: &mut [u8; BLOCK], pairs: &[u8; 32])
     requires { ⌜ length (now block) ≡ 1620 ⌝ }
     ensures { λ r. ⌜ Located (now (block .entry)) (now (block .exit)) ⌝ }
 {
-    let mut i: usize = 0;
-    while i < 32 {
+    for i in 0..32 {
         let k = pairs[i];
         block[PAIRS + i] = k;
-        i += 1;
     }
 }
 

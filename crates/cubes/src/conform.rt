@@ -6,13 +6,8 @@ use crate::tables::FACTS;
 use crate::words::holds;
 use crate::words::within;
 use block::BLOCK;
-use block::inputs;
 use block::place;
-use block::rule_output;
-use block::rule_target;
-use block::site;
 use block::states;
-use block::transition;
 use block::wide;
 ghost use mathlib.Core.Path.{_≡_};
 ghost use mathlib.Core.Bool.{true};
@@ -26,7 +21,7 @@ fn lone(block: &[u8; BLOCK], k: usize, o: u8, row: u16) -> bool
     requires { ⌜ Wf (now block) × (k < 256) × (siteAt (now block) k ≡ 255) ⌝ }
     ensures { λ r. ⌜ (r ≡ true → LoneOk (now (block .entry)) k o row) ⌝ }
 {
-    let step = transition(block, k, 0);
+    let step = block::transition(block, k, 0);
     if step.output != o {
         return false;
     }
@@ -61,14 +56,14 @@ fn cell_closed(
     ensures { λ r. ⌜ (r ≡ true → CellOk (now (block .entry)) (In (now (block .entry)) (now (cube .entry))) (now (pairs .entry)) a b x) ⌝ }
 {
     let k = place(a, x);
-    let next = rule_target(block, k);
+    let next = block::rule_target(block, k);
     if next == 255 {
         return true;
     }
-    let o = rule_output(block, k);
+    let o = block::rule_output(block, k);
     let row = pairs[wide(next)];
     let at = place(b, x);
-    let i = site(block, at);
+    let i = block::site(block, at);
     if i == 255 {
         return lone(block, at, o, row);
     }
@@ -92,13 +87,11 @@ fn row_closed(
     if !holds(row, b) {
         return true;
     }
-    let end = inputs(block);
-    let mut x: u8 = 0;
-    while x < end {
+    let end = block::inputs(block);
+    for x in 0..end {
         if !cell_closed(block, facts, cube, pairs, a, b, x) {
             return false;
         }
-        x += 1;
     }
     true
 }
@@ -115,12 +108,10 @@ fn line_closed(
     ensures { λ r. ⌜ (r ≡ true → LineOk (now (block .entry)) (In (now (block .entry)) (now (cube .entry))) (now (pairs .entry)) a) ⌝ }
 {
     let end = states(block);
-    let mut b: u8 = 0;
-    while b < end {
+    for b in 0..end {
         if !row_closed(block, facts, cube, pairs, a, b) {
             return false;
         }
-        b += 1;
     }
     true
 }
@@ -139,12 +130,10 @@ pub fn closed(
         return false;
     }
     let end = states(block);
-    let mut a: u8 = 0;
-    while a < end {
+    for a in 0..end {
         if !line_closed(block, facts, cube, pairs, a) {
             return false;
         }
-        a += 1;
     }
     true
 }

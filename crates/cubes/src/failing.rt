@@ -6,12 +6,6 @@ use crate::words::holds;
 use crate::words::one;
 use crate::words::union;
 use block::BLOCK;
-use block::inputs;
-use block::place;
-use block::site;
-use block::states;
-use block::transition;
-use block::wide;
 ghost use mathlib.Core.Path.{_≡_};
 ghost use mathlib.Core.Bool.{true};
 ghost use Prim.Native.Nat.{_/_, _%_, _<_};
@@ -26,7 +20,7 @@ fn lone_lead(block: &[u8; BLOCK], k: usize, o: u8) -> u16
     requires { ⌜ Wf (now block) × (k < 256) × (siteAt (now block) k ≡ 255) ⌝ }
     ensures { λ r. ⌜ LoneLead (now (block .entry)) k o r ⌝ }
 {
-    let step = transition(block, k, 0);
+    let step = block::transition(block, k, 0);
     if step.output != o {
         return 0;
     }
@@ -49,12 +43,12 @@ fn leads(
     if !holds(set, q) {
         return 0;
     }
-    let at = place(q, x);
-    let i = site(block, at);
+    let at = block::place(q, x);
+    let i = block::site(block, at);
     if i == 255 {
         return lone_lead(block, at, o);
     }
-    let l = cube[wide(i)];
+    let l = cube[block::wide(i)];
     going(facts, l, i, o)
 }
 
@@ -70,12 +64,10 @@ fn onward(
     requires { ⌜ Given (now block) (now facts) × (x < inputsOf (now block)) × (o < 16) ⌝ }
     ensures { λ r. ⌜ OnwardOk (now (block .entry)) (now (cube .entry)) set x o r ⌝ }
 {
-    let end = states(block);
+    let end = block::states(block);
     let mut next: u16 = 0;
-    let mut q: u8 = 0;
-    while q < end {
+    for q in 0..end {
         next = union(next, leads(block, facts, cube, set, q, x, o));
-        q += 1;
     }
     next
 }
@@ -119,7 +111,7 @@ pub fn fails(
             return false;
         }
         let x = input_of(v);
-        if x >= inputs(block) {
+        if x >= block::inputs(block) {
             return false;
         }
         set = onward(block, facts, cube, set, x, output_of(v));

@@ -2,9 +2,6 @@
 use crate::words::one;
 use crate::words::union;
 use block::BLOCK;
-use block::choices;
-use block::site;
-use block::transition;
 use block::wide;
 ghost use mathlib.Core.Path.{_≡_};
 ghost use mathlib.Core.Bool.{true};
@@ -43,7 +40,7 @@ fn enter(block: &[u8; BLOCK], facts: &mut [u16; FACTS], k: usize, i: u8, c: u16)
     requires { ⌜ Wf (now block) × (k < 257) × (i ≡ siteAt (now block) k) × (i < 32) × (c < choicesOf (now block) i) × (length (now facts) ≡ 832) ⌝ }
     ensures { λ r. ⌜ Entered (now (block .entry)) (now (facts .entry)) (now (facts .exit)) k c r ⌝ }
 {
-    let step = transition(block, k, c);
+    let step = block::transition(block, k, c);
     let o = step.output;
     if o >= 16 {
         return false;
@@ -59,17 +56,15 @@ fn enter_pair(block: &[u8; BLOCK], facts: &mut [u16; FACTS], k: usize) -> bool
     requires { ⌜ Wf (now block) × (k < 257) × (length (now facts) ≡ 832) ⌝ }
     ensures { λ r. ⌜ PairEntered (now (block .entry)) (now (facts .entry)) (now (facts .exit)) k r ⌝ }
 {
-    let i = site(block, k);
+    let i = block::site(block, k);
     if i == 255 {
         return true;
     }
-    let end = choices(block, i);
-    let mut c: u16 = 0;
-    while c < end {
+    let end = block::choices(block, i);
+    for c in 0..end {
         if !enter(block, facts, k, i, c) {
             return false;
         }
-        c += 1;
     }
     true
 }
@@ -79,12 +74,10 @@ pub fn enter_all(block: &[u8; BLOCK], facts: &mut [u16; FACTS]) -> bool
     requires { ⌜ Wf (now block) × (length (now facts) ≡ 832) ⌝ }
     ensures { λ r. ⌜ AllEntered (now (block .entry)) (now (facts .exit)) r ⌝ }
 {
-    let mut k: usize = 0;
-    while k < 257 {
+    for k in 0..257 {
         if !enter_pair(block, facts, k) {
             return false;
         }
-        k += 1;
     }
     true
 }

@@ -5,13 +5,8 @@ use crate::observed::test_at;
 use crate::observed::tests_of;
 use block::BLOCK;
 use block::WAKING;
-use block::site;
-use block::some_place;
-use block::wide;
 use cubes::tables::FACTS;
 use leaves::among;
-use leaves::joined;
-use leaves::lone;
 ghost use mathlib.Core.Path.{_≡_};
 ghost use Prim.Native.Nat.{_+_, _*_, _%_, _<_, _≤_};
 ghost use lib.ListN.{getD};
@@ -59,10 +54,8 @@ pub fn begun(facts: &[u16; FACTS], t: usize) -> u32
 pub fn start_cursors(facts: &[u16; FACTS], cursors: &mut [u32; 256])
     ensures { λ r. ⌜ Begun 256 (now (facts .entry)) (now (cursors .exit)) ⌝ }
 {
-    let mut t: usize = 0;
-    while t < 256 {
+    for t in 0..256 {
         cursors[t] = begun(facts, t);
-        t += 1;
     }
 }
 
@@ -78,14 +71,14 @@ fn go(step: u8, o: u8) -> u16 {
 fn go_at(block: &[u8; BLOCK], p: &[u8; 32], settled: u32, k: usize, o: u8) -> u16
     requires { ⌜ k < 257 ⌝ }
 {
-    let i = site(block, k);
+    let i = block::site(block, k);
     if i >= 32 {
-        return go(lone(block, k), o);
+        return go(leaves::lone(block, k), o);
     }
     if !among(settled, i) {
         return 256 + (i as u16);
     }
-    go(p[wide(i)], o)
+    go(p[block::wide(i)], o)
 }
 
 // The waking state at a test's own reset; through at the next one.
@@ -105,7 +98,7 @@ fn go_on(block: &[u8; BLOCK], p: &[u8; 32], settled: u32, state: u8, v: u16) -> 
         block,
         p,
         settled,
-        some_place(state, input_of(v)),
+        block::some_place(state, input_of(v)),
         output_of(v),
     )
 }
@@ -155,8 +148,7 @@ pub fn advance_all(
     ensures { λ r. ⌜ Advanced last (now (cursors .entry)) (now (cursors .exit)) × (r ≤ 256) × (r < 256 → r < getD (now (facts .entry)) 816 0) ⌝ }
 {
     let end = tests_of(facts);
-    let mut t: usize = 0;
-    while t < 256 {
+    for t in 0..256 {
         if t >= end {
             return 256;
         }
@@ -165,7 +157,6 @@ pub fn advance_all(
             return t;
         }
         cursors[t] = c;
-        t += 1;
     }
     256
 }
@@ -176,8 +167,7 @@ pub fn met(block: &[u8; BLOCK], log: &[u16], p: &[u8; 32], settled: u32, from: u
 {
     let mut used: u32 = 0;
     let mut c = from;
-    let mut n: u8 = 0;
-    while n < 33 {
+    for n in 0..33u8 {
         c = advance(block, log, p, used, c);
         let i = wait_of(c);
         if i >= 32 {
@@ -186,8 +176,7 @@ pub fn met(block: &[u8; BLOCK], log: &[u16], p: &[u8; 32], settled: u32, from: u
         if !among(settled, i) {
             return used;
         }
-        used = joined(used, i);
-        n += 1;
+        used = leaves::joined(used, i);
     }
     used
 }

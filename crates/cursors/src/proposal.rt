@@ -9,20 +9,13 @@ use block::BLOCK;
 use block::WAKING;
 use block::site;
 use block::some_place;
-use block::states;
 use block::wide;
-use cubes::literals::going;
 use cubes::tables::FACTS;
 use leaves::ANY;
 use leaves::add;
-use leaves::cell;
-use leaves::common;
 use leaves::exact;
-use leaves::least;
 use leaves::less;
 use leaves::literal;
-use leaves::lone;
-use leaves::without_least;
 ghost use Prim.Native.Nat.{_<_, _≤_};
 ghost use Rattle.leaves.specs.Members.{Literals};
 ghost use Rattle.cursors.specs.Steering.{SpeaksOf, Narrowed};
@@ -32,12 +25,10 @@ fn length_of(log: &[u16], from: usize) -> usize
     requires { ⌜ from ≤ 65536 ⌝ }
     ensures { λ r. ⌜ r ≤ 256 ⌝ }
 {
-    let mut l: usize = 0;
-    while l < 256 {
+    for l in 0..256 {
         if observed(log, from + l) >= 256 {
             return l;
         }
-        l += 1;
     }
     256
 }
@@ -48,9 +39,9 @@ fn arrive(block: &[u8; BLOCK], facts: &[u16; FACTS], cube: &[u32; 32], k: usize,
 {
     let i = site(block, k);
     if i < 32 {
-        return going(facts, cube[wide(i)], i, o);
+        return cubes::literals::going(facts, cube[wide(i)], i, o);
     }
-    let step = lone(block, k);
+    let step = leaves::lone(block, k);
     if step / 16 != o {
         return 0;
     }
@@ -59,15 +50,13 @@ fn arrive(block: &[u8; BLOCK], facts: &[u16; FACTS], cube: &[u32; 32], k: usize,
 
 // The states in which an observation fails every mutant of the cube at once, or leads into `bad` only.
 fn backward(block: &[u8; BLOCK], facts: &[u16; FACTS], cube: &[u32; 32], bad: u16, v: u16) -> u16 {
-    let end = states(block);
+    let end = block::states(block);
     let mut set: u16 = 0;
-    let mut s: u8 = 0;
-    while s < end {
+    for s in 0..end {
         let go = arrive(block, facts, cube, some_place(s, input_of(v)), output_of(v));
         if less(go, bad) == 0 {
             set = add(set, s);
         }
-        s += 1;
     }
     set
 }
@@ -99,7 +88,7 @@ fn narrowed(facts: &[u16; FACTS], own: u8, i: u8, o: u8, into: u16) -> u32
     if own == o {
         return literal(o, into);
     }
-    literal(own, facts[cell(i, own)])
+    literal(own, facts[leaves::cell(i, own)])
 }
 
 // The output that a literal means.
@@ -137,7 +126,7 @@ fn narrow_step(
     if less(go, bad) == 0 {
         return wide32(go);
     }
-    cube[wide(i)] = narrowed(facts, own_output(l), i, o, common(go, bad));
+    cube[wide(i)] = narrowed(facts, own_output(l), i, o, leaves::common(go, bad));
     65536
 }
 
@@ -155,15 +144,13 @@ fn narrow_states(
 {
     let mut next: u32 = 0;
     let mut left = set;
-    let mut n: u8 = 0;
-    while n < 16 {
+    for n in 0..16u8 {
         if left == 0 {
             return next;
         }
-        let k = some_place(least(left), input_of(v));
+        let k = some_place(leaves::least(left), input_of(v));
         next = next | narrow_step(block, facts, base, cube, k, output_of(v), bad);
-        left = without_least(left);
-        n += 1;
+        left = leaves::without_least(left);
     }
     next
 }
@@ -183,8 +170,7 @@ fn narrow_once<'a>(
     ensures { λ r. ⌜ Narrowed (now (base .entry)) (now (cube .entry)) (now (cube .exit)) ⌝ }
 {
     let mut next = narrow_step(block, facts, base, cube, WAKING, 0, bad[0]);
-    let mut l: usize = 0;
-    while l < length {
+    for l in 0..length {
         if next >= 65536 {
             return true;
         }
@@ -200,7 +186,6 @@ fn narrow_once<'a>(
             observed(log, from + l),
             bad[l + 1],
         );
-        l += 1;
     }
     next >= 65536
 }
@@ -219,12 +204,10 @@ fn narrow_all<'a>(
     requires { ⌜ (from ≤ 65536) × (length ≤ 256) ⌝ }
     ensures { λ r. ⌜ Narrowed (now (base .entry)) (now (cube .entry)) (now (cube .exit)) ⌝ }
 {
-    let mut rounds: u16 = 0;
-    while rounds < 600 {
+    for rounds in 0..600u16 {
         if !narrow_once(block, facts, base, cube, log, from, bad, length) {
             return;
         }
-        rounds += 1;
     }
 }
 

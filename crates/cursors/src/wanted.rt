@@ -5,21 +5,17 @@ use crate::observed::tests_of;
 use crate::progress::at_of;
 use crate::progress::wait_of;
 use block::BLOCK;
-use block::slots;
 use block::wide;
 use block::wide16;
 use cubes::tables::FACTS;
 use cubes::tables::OUTPUTS;
 use leaves::DEAD;
 use leaves::HINTS;
-use leaves::add;
 use leaves::cell;
-use leaves::either;
 use leaves::least;
 use leaves::less;
 use leaves::note;
 use leaves::set_note;
-use leaves::size;
 use leaves::without_least;
 ghost use mathlib.Core.Path.{_≡_};
 ghost use mathlib.Core.Logic.{_⊎_};
@@ -36,14 +32,12 @@ fn set_hints(notes: &mut [u16], k: usize, next: u16, h: u16)
     ensures { λ r. ⌜ Changed 576 8768 (now (notes .entry)) (now (notes .exit)) ⌝ }
 {
     let mut left = next;
-    let mut n: u8 = 0;
-    while n < 16 {
+    for n in 0..16u8 {
         if left == 0 {
             return;
         }
         set_note(notes, HINTS + k * 16 + wide(least(left)), h);
         left = without_least(left);
-        n += 1;
     }
 }
 
@@ -58,7 +52,7 @@ pub fn mark(notes: &mut [u16], j: u8, o: u8, next: u16, h: u16)
         return;
     }
     set_hints(notes, k, new, h);
-    set_note(notes, DEAD + k, either(old, next));
+    set_note(notes, DEAD + k, leaves::either(old, next));
 }
 
 // The outputs that a suspect has.
@@ -70,16 +64,14 @@ fn outputs_of(facts: &[u16; FACTS], j: u8) -> u16 {
 fn mark_test(facts: &[u16; FACTS], notes: &mut [u16], j: u8, want: u8, h: u16)
     ensures { λ r. ⌜ Changed 64 8768 (now (notes .entry)) (now (notes .exit)) ⌝ }
 {
-    let mut left = less(outputs_of(facts, j), add(0, want));
-    let mut n: u8 = 0;
-    while n < 16 {
+    let mut left = less(outputs_of(facts, j), leaves::add(0, want));
+    for n in 0..16u8 {
         if left == 0 {
             return;
         }
         let o = least(left);
         mark(notes, j, o, facts[cell(j, o)], h);
         left = without_least(left);
-        n += 1;
     }
 }
 
@@ -121,8 +113,7 @@ pub fn mark_wants(
     ensures { λ r. ⌜ Changed 64 8768 (now (notes .entry)) (now (notes .exit)) ⌝ }
 {
     let end = tests_of(facts);
-    let mut t: u16 = 0;
-    while t < 256 {
+    for t in 0..256 {
         if wide16(t) >= end {
             return;
         }
@@ -134,7 +125,6 @@ pub fn mark_wants(
             waiting,
             FROM_TEST + t,
         );
-        t += 1;
     }
 }
 
@@ -144,15 +134,13 @@ fn alive(facts: &[u16; FACTS], notes: &[u16], j: u8) -> u32
 {
     let mut sum: u32 = 0;
     let mut left = outputs_of(facts, j);
-    let mut n: u8 = 0;
-    while n < 16 {
+    for n in 0..16u8 {
         if left == 0 {
             return sum;
         }
         let k = cell(j, least(left));
-        sum += size(less(facts[k], note(notes, DEAD + k)));
+        sum += leaves::size(less(facts[k], note(notes, DEAD + k)));
         left = without_least(left);
-        n += 1;
     }
     sum
 }
@@ -190,19 +178,17 @@ fn better(facts: &[u16; FACTS], notes: &[u16], best: Best, j: u8, tests: u16) ->
 pub fn pick(block: &[u8; BLOCK], facts: &[u16; FACTS], notes: &[u16], waiting: &[u16; 32]) -> u8
     ensures { λ r. ⌜ Picked (now (block .entry)) (now (waiting .entry)) r ⌝ }
 {
-    let end = slots(block);
+    let end = block::slots(block);
     let mut best = Best {
         at: 255,
         left: 0,
         tests: 0,
     };
-    let mut j: u8 = 0;
-    while j < 32 {
+    for j in 0..32 {
         if j >= end {
             return best.at;
         }
         best = better(facts, notes, best, j, waiting[wide(j)]);
-        j += 1;
     }
     best.at
 }

@@ -4,12 +4,7 @@
 mod notes;
 
 use block::BLOCK;
-use block::transition;
 use block::wide;
-use block::wide32;
-use cubes::words::holds;
-use cubes::words::one;
-use cubes::words::shared;
 use cubes::words::union;
 pub use notes::DEAD;
 pub use notes::FILLED;
@@ -51,13 +46,13 @@ pub fn low(x: u8) -> u8
 pub fn in_set(set: u16, s: u8) -> bool
     ensures { λ r. ⌜ (r ≡ true → Has set (s % 16)) × (r ≡ false → Has set (s % 16) → ⊥) ⌝ }
 {
-    holds(set, low(s))
+    cubes::words::holds(set, low(s))
 }
 
 pub fn add(set: u16, s: u8) -> u16
     ensures { λ r. ⌜ Joined set (2 ^ (s % 16)) r ⌝ }
 {
-    union(set, one(low(s)))
+    union(set, cubes::words::one(low(s)))
 }
 
 // The states of the one set that are not in the other.
@@ -76,7 +71,7 @@ pub fn either(a: u16, b: u16) -> u16
 pub fn common(a: u16, b: u16) -> u16
     ensures { λ r. ⌜ Shared a b r ⌝ }
 {
-    shared(a, b)
+    cubes::words::shared(a, b)
 }
 
 // The least state of a set that has one.
@@ -133,7 +128,7 @@ pub fn lone(block: &[u8; BLOCK], k: usize) -> u8
     requires { ⌜ k < 257 ⌝ }
     ensures { λ r. ⌜ (Wf (now (block .entry)) → siteAt (now (block .entry)) k ≡ 255 → r ≡ choiceOf (now (block .entry)) k 0 .output % 16 * 16 + choiceOf (now (block .entry)) k 0 .target % 16) ⌝ }
 {
-    let step = transition(block, k, 0);
+    let step = block::transition(block, k, 0);
     packed(step.output, step.target)
 }
 
@@ -154,7 +149,7 @@ fn high(o: u8) -> u32
 pub fn literal(o: u8, next: u16) -> u32
     ensures { λ r. ⌜ (r ≡ o % 16 * 65536 + next) × (r < 1048576) ⌝ }
 {
-    high(o) * 65536 + wide32(next)
+    high(o) * 65536 + block::wide32(next)
 }
 
 // What the settled part says of a suspect.
@@ -171,9 +166,7 @@ fn exactly(step: u8, settled: u32, j: u8) -> u32
 pub fn exact(p: &[u8; 32], settled: u32, cube: &mut [u32; 32])
     ensures { λ r. ⌜ (length (now (cube .exit)) ≡ length (now (cube .entry))) × Exact 32 (now (p .entry)) settled (now (cube .exit)) ⌝ }
 {
-    let mut j: u8 = 0;
-    while j < 32 {
+    for j in 0..32 {
         cube[wide(j)] = exactly(p[wide(j)], settled, j);
-        j += 1;
     }
 }

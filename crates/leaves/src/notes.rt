@@ -98,12 +98,10 @@ pub fn witnessed(notes: &[u16], prefix: &[u16; 32]) -> bool
     if note(notes, KEPT) == 0 {
         return false;
     }
-    let mut j: usize = 0;
-    while j < 32 {
+    for j in 0..32 {
         if clash(note(notes, WITNESS + j), prefix[j]) {
             return false;
         }
-        j += 1;
     }
     true
 }
@@ -112,10 +110,8 @@ pub fn witnessed(notes: &[u16], prefix: &[u16; 32]) -> bool
 pub fn keep_witness(notes: &mut [u16], choices: &[u16; 32])
     ensures { λ r. ⌜ Keeps (now (choices .entry)) (now (notes .entry)) (now (notes .exit)) ⌝ }
 {
-    let mut j: usize = 0;
-    while j < 32 {
+    for j in 0..32 {
         set_note(notes, WITNESS + j, choices[j]);
-        j += 1;
     }
     set_note(notes, KEPT, 1);
 }

@@ -1,8 +1,5 @@
 // The test suite of a sheet as a log: 256 for a reset, an input * 16 + the specified output.
 use block::BLOCK;
-use block::place;
-use block::rule_output;
-use block::rule_target;
 use block::wide16;
 ghost use mathlib.Core.Path.{_≡_};
 ghost use Prim.Native.Nat.{_+_, _<_, _≤_};
@@ -44,9 +41,9 @@ pub fn record_test(
     let mut s: u8 = 0;
     while left > 0 {
         let x = sheet[at + 1];
-        let k = place(s, x);
-        log[to] = observed(x, rule_output(block, k));
-        s = rule_target(block, k);
+        let k = block::place(s, x);
+        log[to] = observed(x, block::rule_output(block, k));
+        s = block::rule_target(block, k);
         to += 1;
         at += 2;
         left -= 1;

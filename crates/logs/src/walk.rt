@@ -1,5 +1,4 @@
 // A tabulated mutant along a log.
-use block::some_place;
 ghost use mathlib.Core.Path.{_≡_};
 ghost use Prim.Native.Nat.{_/_, _%_, _-_};
 ghost use Rattle.model.specs.Log.{failedIn};
@@ -51,7 +50,7 @@ pub fn first_wrong(log: &[u16], outputs: &[u8; 256], targets: &[u8; 256], start:
             position = 0;
             continue;
         }
-        let k = some_place(s, input_of(v));
+        let k = block::some_place(s, input_of(v));
         if outputs[k] != output_of(v) {
             return Wrong::At(last(begun), position);
         }

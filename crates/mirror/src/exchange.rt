@@ -1,14 +1,9 @@
 // Which states can be exchanged: with them exchanged every mutant is another mutant, with the same outputs.
 use block::BLOCK;
-use block::choices;
-use block::inputs;
 use block::place;
-use block::rule_target;
 use block::site;
 use block::states;
 use block::transition;
-use block::wide;
-use cubes::starts::starts;
 use cubes::tables::EXCHANGES;
 use cubes::tables::FACTS;
 use cubes::words::holds;
@@ -45,7 +40,7 @@ fn choices_at(block: &[u8; BLOCK], k: usize) -> u16
     if i == 255 {
         return 1;
     }
-    choices(block, i)
+    block::choices(block, i)
 }
 
 // Whether choice d of the pair j is the transition.
@@ -116,12 +111,10 @@ fn all_answered(block: &[u8; BLOCK], k: usize, j: usize, a: u8, b: u8) -> bool
     ensures { λ r. ⌜ (r ≡ true → Exchanges (now (block .entry)) a b k j) ⌝ }
 {
     let end = choices_at(block, k);
-    let mut c: u16 = 0;
-    while c < end {
+    for c in 0..end {
         if !answered(block, k, j, a, b, c) {
             return false;
         }
-        c += 1;
     }
     true
 }
@@ -146,7 +139,7 @@ fn is_free(block: &[u8; BLOCK], k: usize) -> bool
     if site(block, k) == 255 {
         return false;
     }
-    rule_target(block, k) == 255
+    block::rule_target(block, k) == 255
 }
 
 fn pair_exchanges(block: &[u8; BLOCK], k: usize, j: usize, a: u8, b: u8) -> bool
@@ -168,13 +161,11 @@ fn row_exchanges(block: &[u8; BLOCK], s: u8, a: u8, b: u8) -> bool
     ensures { λ r. ⌜ (r ≡ true → RowExchanges (now (block .entry)) a b s) ⌝ }
 {
     let q = other(s, a, b);
-    let end = inputs(block);
-    let mut x: u8 = 0;
-    while x < end {
+    let end = block::inputs(block);
+    for x in 0..end {
         if !pair_exchanges(block, place(s, x), place(q, x), a, b) {
             return false;
         }
-        x += 1;
     }
     true
 }
@@ -188,12 +179,10 @@ fn all_exchange(block: &[u8; BLOCK], a: u8, b: u8) -> bool
         return false;
     }
     let end = states(block);
-    let mut s: u8 = 0;
-    while s < end {
+    for s in 0..end {
         if !row_exchanges(block, s, a, b) {
             return false;
         }
-        s += 1;
     }
     true
 }
@@ -204,7 +193,7 @@ fn fixed(block: &[u8; BLOCK], facts: &[u16; FACTS]) -> u16
     ensures { λ r. ⌜ FixedOk (now (block .entry)) r ⌝ }
 {
     let all = [4294967295u32; 32];
-    union(one(0), starts(block, facts, &all))
+    union(one(0), cubes::starts::starts(block, facts, &all))
 }
 
 // The state b, if it can be exchanged with a.
@@ -237,10 +226,8 @@ fn partners(block: &[u8; BLOCK], fixed: u16, a: u8) -> u16
         return 0;
     }
     let mut set: u16 = 0;
-    let mut b: u8 = 0;
-    while b < end {
+    for b in 0..end {
         set = union(set, partner(block, fixed, a, b));
-        b += 1;
     }
     set
 }
@@ -251,10 +238,8 @@ pub fn exchange_all(block: &[u8; BLOCK], facts: &mut [u16; FACTS])
     ensures { λ r. ⌜ Exchanged (now (block .entry)) (now (facts .entry)) (now (facts .exit)) ⌝ }
 {
     let keep = fixed(block, facts);
-    let mut a: u8 = 0;
-    while a < 16 {
+    for a in 0..16 {
         let set = partners(block, keep, a);
-        facts[EXCHANGES + wide(a)] = set;
-        a += 1;
+        facts[EXCHANGES + block::wide(a)] = set;
     }
 }

@@ -1,17 +1,10 @@
 // What a cube without a mutant sought tells of the states that can be exchanged with the one in hand.
 use block::BLOCK;
-use block::inputs;
-use block::place;
 use block::site;
 use block::wide;
-use cubes::gather::note;
-use cubes::literals::lit_next;
-use cubes::literals::means;
 use cubes::tables::EXCHANGES;
 use cubes::tables::FACTS;
 use cubes::words::holds;
-use cubes::words::one;
-use cubes::words::union;
 ghost use mathlib.Core.Path.{_≡_};
 ghost use mathlib.Core.Bool.{true};
 ghost use Prim.Native.Nat.{_<_, _/_, _%_};
@@ -38,13 +31,11 @@ fn silent(block: &[u8; BLOCK], cube: &[u32; 32], s: u8) -> bool
     requires { ⌜ Wf (now block) × (s < 16) ⌝ }
     ensures { λ r. ⌜ (r ≡ true → Silent (now (block .entry)) (now (cube .entry)) s) ⌝ }
 {
-    let end = inputs(block);
-    let mut x: u8 = 0;
-    while x < end {
-        if !quiet(block, cube, place(s, x)) {
+    let end = block::inputs(block);
+    for x in 0..end {
+        if !quiet(block, cube, block::place(s, x)) {
             return false;
         }
-        x += 1;
     }
     true
 }
@@ -57,7 +48,7 @@ fn blind(l: u32, a: u8, b: u8) -> bool
     if l == 4294967295 {
         return true;
     }
-    let set = lit_next(l);
+    let set = cubes::literals::lit_next(l);
     if holds(set, a) {
         return holds(set, b);
     }
@@ -80,12 +71,10 @@ fn blind_but(cube: &[u32; 32], i: u8, a: u8, b: u8) -> bool
     requires { ⌜ (a < 16) × (b < 16) ⌝ }
     ensures { λ r. ⌜ (r ≡ true → BlindBut (now (cube .entry)) i a b) ⌝ }
 {
-    let mut j: usize = 0;
-    while j < 32 {
+    for j in 0..32 {
         if !blind_at(cube, i, a, b, j) {
             return false;
         }
-        j += 1;
     }
     true
 }
@@ -104,7 +93,7 @@ fn image(block: &[u8; BLOCK], cube: &[u32; 32], i: u8, set: u16, a: u8, b: u8) -
     if !blind_but(cube, i, a, b) {
         return 0;
     }
-    one(b)
+    cubes::words::one(b)
 }
 
 // The states of the set that the cube does not tell from a.
@@ -113,10 +102,8 @@ fn images(block: &[u8; BLOCK], cube: &[u32; 32], i: u8, set: u16, a: u8) -> u16
     ensures { λ r. ⌜ Each (λ t. Mirrors (now (block .entry)) (now (cube .entry)) i a t) r ⌝ }
 {
     let mut found: u16 = 0;
-    let mut b: u8 = 0;
-    while b < 16 {
-        found = union(found, image(block, cube, i, set, a, b));
-        b += 1;
+    for b in 0..16 {
+        found = cubes::words::union(found, image(block, cube, i, set, a, b));
     }
     found
 }
@@ -149,11 +136,11 @@ pub fn reflect(
         return;
     }
     let i = site(block, k);
-    if !means(cube[wide(i)], o, a) {
+    if !cubes::literals::means(cube[wide(i)], o, a) {
         return;
     }
     if !silent(block, cube, a) {
         return;
     }
-    note(done, literal(o, images(block, cube, i, set, a)));
+    cubes::gather::note(done, literal(o, images(block, cube, i, set, a)));
 }

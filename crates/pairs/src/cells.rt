@@ -1,16 +1,8 @@
 // What the mutants of a cube do on an input at a pair of states: specification's * 16 + mutant's.
 use block::BLOCK;
-use block::rule_output;
-use block::rule_target;
 use block::site;
 use block::some_place;
-use block::wide;
-use cubes::literals::going;
-use cubes::literals::sounds;
 use cubes::tables::FACTS;
-use leaves::add;
-use leaves::lone;
-use leaves::low;
 
 // The specification's next state (255: no rule) and output, the suspect met (255: none), whether every output is right, and
 // the next states after the right one.
@@ -24,7 +16,7 @@ pub struct Cell {
 
 pub fn look(block: &[u8; BLOCK], facts: &[u16; FACTS], cube: &[u32; 32], z: u8, x: u8) -> Cell {
     let k = some_place(z / 16, x);
-    let next = rule_target(block, k);
+    let next = block::rule_target(block, k);
     if next == 255 {
         return Cell {
             next,
@@ -34,25 +26,25 @@ pub fn look(block: &[u8; BLOCK], facts: &[u16; FACTS], cube: &[u32; 32], z: u8, 
             go: 0,
         };
     }
-    let output = low(rule_output(block, k));
+    let output = leaves::low(block::rule_output(block, k));
     let q = some_place(z, x);
     let i = site(block, q);
     if i >= 32 {
-        let s = lone(block, q);
+        let s = leaves::lone(block, q);
         return Cell {
             next,
             output,
             site: 255,
             sound: s / 16 == output,
-            go: add(0, s),
+            go: leaves::add(0, s),
         };
     }
-    let l = cube[wide(i)];
+    let l = cube[block::wide(i)];
     Cell {
         next,
         output,
         site: i,
-        sound: sounds(facts, l, i, output),
-        go: going(facts, l, i, output),
+        sound: cubes::literals::sounds(facts, l, i, output),
+        go: cubes::literals::going(facts, l, i, output),
     }
 }

@@ -4,22 +4,16 @@ use crate::cells::look;
 use block::BLOCK;
 use block::WAKING;
 use block::inputs;
-use block::site;
 use block::states;
 use block::wide;
-use cubes::starts::starts;
 use cubes::tables::FACTS;
 use leaves::add;
 use leaves::common;
-use leaves::either;
 use leaves::exact;
-use leaves::in_set;
 use leaves::least;
 use leaves::less;
 use leaves::literal;
 use leaves::low;
-use leaves::packed;
-use leaves::without_least;
 ghost use mathlib.Core.Path.{_≡_};
 ghost use mathlib.Core.Bool.{true};
 ghost use Rattle.leaves.specs.Members.{Literals};
@@ -49,12 +43,10 @@ fn pair_safe(
     z: u8,
 ) -> bool {
     let end = inputs(block);
-    let mut x: u8 = 0;
-    while x < end {
+    for x in 0..end {
         if !cell_safe(block, facts, cube, safe, z, x) {
             return false;
         }
-        x += 1;
     }
     true
 }
@@ -71,7 +63,7 @@ fn sift_pair(
     if z % 16 >= states(block) {
         return false;
     }
-    if !in_set(safe[row], z) {
+    if !leaves::in_set(safe[row], z) {
         return false;
     }
     if pair_safe(block, facts, cube, safe, z) {
@@ -93,24 +85,20 @@ fn rows_end(block: &[u8; BLOCK]) -> u16 {
 fn sift(block: &[u8; BLOCK], facts: &[u16; FACTS], cube: &[u32; 32], safe: &mut [u16; 16]) -> bool {
     let end = rows_end(block);
     let mut changed = false;
-    let mut h: u16 = 0;
-    while h < end {
+    for h in 0..end {
         if sift_pair(block, facts, cube, safe, pair_at(h)) {
             changed = true;
         }
-        h += 1;
     }
     changed
 }
 
 // Of some pairs of states the most that are closed under the cube without a wrong output.
 fn safe_pairs(block: &[u8; BLOCK], facts: &[u16; FACTS], cube: &[u32; 32], safe: &mut [u16; 16]) {
-    let mut rounds: u16 = 0;
-    while rounds < 300 {
+    for rounds in 0..300u16 {
         if !sift(block, facts, cube, safe) {
             return;
         }
-        rounds += 1;
     }
 }
 
@@ -168,7 +156,7 @@ fn spread_cell(
     let next = low(cell.next);
     let go = common(cell.go, safe[wide(next)]);
     let stayed = narrow_cell(cube, cell, go);
-    pairs[wide(next)] = either(pairs[wide(next)], go);
+    pairs[wide(next)] = leaves::either(pairs[wide(next)], go);
     Rows {
         rows: add(w.rows, next),
         good: w.good & stayed,
@@ -190,13 +178,11 @@ fn spread_pair(
 {
     let end = inputs(block);
     let mut w = from;
-    let mut x: u8 = 0;
-    while x < end {
+    for x in 0..end {
         w = spread_cell(block, facts, safe, cube, pairs, w, z, x);
         if w.rows == 0 {
             return w;
         }
-        x += 1;
     }
     w
 }
@@ -217,14 +203,14 @@ fn spread_next(
     let new = less(pairs[wide(a)], done[wide(a)]);
     if new == 0 {
         return Rows {
-            rows: without_least(w.rows),
+            rows: leaves::without_least(w.rows),
             good: w.good,
             strict: w.strict,
         };
     }
     let b = least(new);
     done[wide(a)] = add(done[wide(a)], b);
-    spread_pair(block, facts, safe, cube, pairs, w, packed(a, b))
+    spread_pair(block, facts, safe, cube, pairs, w, leaves::packed(a, b))
 }
 
 // Begins with the pairs after a reset, and narrows the literal of the waking state where these would not be safe; false if it was
@@ -239,9 +225,9 @@ fn start(
     ensures { λ r. ⌜ (Literals (now (cube .entry)) → Literals (now (cube .exit))) ⌝ }
 {
     *pairs = [0u16; 16];
-    let all = starts(block, facts, cube);
+    let all = cubes::starts::starts(block, facts, cube);
     pairs[0] = all;
-    let i = site(block, WAKING);
+    let i = block::site(block, WAKING);
     let go = common(all, safe[0]);
     if i >= 32 || go == all {
         return true;
@@ -269,13 +255,11 @@ fn spread(
         good: start(block, facts, safe, cube, pairs),
         strict,
     };
-    let mut turns: u16 = 0;
-    while turns < 5000 {
+    for turns in 0..5000u16 {
         if w.rows == 0 {
             return w.good;
         }
         w = spread_next(block, facts, safe, cube, pairs, &mut done, w);
-        turns += 1;
     }
     w.good
 }
@@ -290,12 +274,10 @@ fn narrow(
 )
     ensures { λ r. ⌜ (Literals (now (cube .entry)) → Literals (now (cube .exit))) ⌝ }
 {
-    let mut rounds: u16 = 0;
-    while rounds < 600 {
+    for rounds in 0..600u16 {
         if spread(block, facts, safe, cube, pairs, false) {
             return;
         }
-        rounds += 1;
     }
 }
 

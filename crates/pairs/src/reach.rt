@@ -4,18 +4,10 @@ use crate::cells::look;
 use crate::witness::keep;
 use block::BLOCK;
 use block::WAKING;
-use block::inputs;
-use block::site;
 use block::wide;
-use cubes::starts::starts;
 use cubes::tables::FACTS;
 use leaves::ANY;
-use leaves::add;
-use leaves::exact;
-use leaves::in_set;
 use leaves::least;
-use leaves::low;
-use leaves::packed;
 ghost use mathlib.Core.Path.{_≡_};
 ghost use mathlib.Core.Bool.{true};
 ghost use mathlib.Core.Logic.{_⊎_};
@@ -64,16 +56,16 @@ fn wait(w: Reach, i: u8) -> Reach
 fn list_pair(seen: &mut [u16; 16], list: &mut [u8; 256], w: Reach, a: u8, b: u8) -> Reach
     ensures { λ r. ⌜ r .first ≡ w .first ⌝ }
 {
-    let row = wide(low(a));
-    if in_set(seen[row], b) {
+    let row = wide(leaves::low(a));
+    if leaves::in_set(seen[row], b) {
         return w;
     }
     let end = w.end;
     if end >= 256 {
         return w;
     }
-    seen[row] = add(seen[row], b);
-    list[end] = packed(a, b);
+    seen[row] = leaves::add(seen[row], b);
+    list[end] = leaves::packed(a, b);
     Reach {
         end: end + 1,
         first: w.first,
@@ -131,15 +123,13 @@ fn walk_pair(
 ) -> Reach
     ensures { λ r. ⌜ (Free (now (cube .entry)) (from .first) → Free (now (cube .entry)) (r .first)) ⌝ }
 {
-    let end = inputs(block);
+    let end = block::inputs(block);
     let mut w = from;
-    let mut x: u8 = 0;
-    while x < end {
+    for x in 0..end {
         w = walk_cell(block, facts, cube, seen, list, w, z, x);
         if w.wrong {
             return w;
         }
-        x += 1;
     }
     w
 }
@@ -161,9 +151,14 @@ fn walk(
         at: 255,
         want: 0,
     };
-    w = list_pair(seen, list, w, 0, least(starts(block, facts, cube)));
-    let mut h: usize = 0;
-    while h < 256 {
+    w = list_pair(
+        seen,
+        list,
+        w,
+        0,
+        least(cubes::starts::starts(block, facts, cube)),
+    );
+    for h in 0..256 {
         if h >= w.end {
             return w;
         }
@@ -172,7 +167,6 @@ fn walk(
         if w.wrong {
             return w;
         }
-        h += 1;
     }
     w
 }
@@ -191,8 +185,8 @@ pub fn meet(
     let mut cube = [ANY; 32];
     let mut seen = [0u16; 16];
     let mut list = [0u8; 256];
-    exact(p, settled, &mut cube);
-    let i = site(block, WAKING);
+    leaves::exact(p, settled, &mut cube);
+    let i = block::site(block, WAKING);
     if unsettled(&cube, i) {
         return i;
     }

@@ -4,9 +4,6 @@ use block::choices;
 use block::pair_of;
 use block::transition;
 use block::wide;
-use leaves::among;
-use leaves::keep_witness;
-use leaves::packed;
 ghost use Prim.Native.Nat.{_<_};
 ghost use Rattle.leaves.specs.Noted.{Changed};
 
@@ -16,13 +13,11 @@ fn choice_of(block: &[u8; BLOCK], j: u8, step: u8) -> u16
 {
     let k = pair_of(block, j);
     let end = choices(block, j);
-    let mut c: u16 = 0;
-    while c < end {
+    for c in 0..end {
         let s = transition(block, k, c);
-        if packed(s.output, s.target) == step {
+        if leaves::packed(s.output, s.target) == step {
             return c;
         }
-        c += 1;
     }
     256
 }
@@ -47,7 +42,7 @@ fn wrong_choice(block: &[u8; BLOCK], j: u8, o: u8) -> u16
 fn noted(block: &[u8; BLOCK], p: &[u8; 32], settled: u32, at: u8, want: u8, j: u8) -> u16
     requires { ⌜ j < 32 ⌝ }
 {
-    if among(settled, j) {
+    if leaves::among(settled, j) {
         return choice_of(block, j, p[wide(j)]);
     }
     if at != j {
@@ -61,10 +56,8 @@ pub fn keep(block: &[u8; BLOCK], p: &[u8; 32], settled: u32, at: u8, want: u8, n
     ensures { λ r. ⌜ Changed 4 40 (now (notes .entry)) (now (notes .exit)) ⌝ }
 {
     let mut kept = [256u16; 32];
-    let mut j: u8 = 0;
-    while j < 32 {
+    for j in 0..32 {
         kept[wide(j)] = noted(block, p, settled, at, want, j);
-        j += 1;
     }
-    keep_witness(notes, &kept);
+    leaves::keep_witness(notes, &kept);
 }

@@ -5,30 +5,16 @@ use crate::node::child;
 use crate::tell::look;
 use block::BLOCK;
 use block::Step;
-use block::choices;
-use block::pair_of;
 use block::site;
 use block::transition;
 use block::wide;
-use cubes::gather::meet_in;
 use cubes::gather::note as add;
 use cubes::goal::Goal;
-use cubes::literals::means;
 use cubes::tables::FACTS;
-use cubes::words::holds;
-use cursors::mark_wants;
-use cursors::pick;
 use leaves::ANY;
 use leaves::DEAD;
 use leaves::HINTS;
-use leaves::in_set;
-use leaves::low;
-use leaves::note;
-use leaves::packed;
-use mirror::reflect;
-use pairs::meet;
 use store::Told;
-use store::learn;
 ghost use mathlib.Core.Path.{_≡_};
 ghost use mathlib.Core.Bool.{true, false};
 ghost use Prim.Native.Nat.{_-_, _<_, _≤_};
@@ -49,12 +35,12 @@ fn next_suspect(
     cursors: &[u32; 256],
 ) -> u8 {
     let mut waiting = [0u16; 32];
-    mark_wants(facts, log, cursors, notes, &mut waiting);
-    let i = pick(block, facts, notes, &waiting);
+    cursors::mark_wants(facts, log, cursors, notes, &mut waiting);
+    let i = cursors::pick(block, facts, notes, &waiting);
     if i < 32 {
         return i;
     }
-    meet(block, facts, &node.p, node.settled, notes)
+    pairs::meet(block, facts, &node.p, node.settled, notes)
 }
 
 // By transition of a suspect what is said to refute it.
@@ -63,20 +49,16 @@ fn recall_hints(notes: &[u16], i: u8, known: &mut [u16; 272]) {
     if notes.len() < base + 256 {
         return;
     }
-    let mut v: usize = 0;
-    while v < 256 {
+    for v in 0..256 {
         known[v] = notes[base + v];
-        v += 1;
     }
 }
 
 // By output, from 256 on, the next states that are said to be refuted.
 fn recall_dead(notes: &[u16], i: u8, known: &mut [u16; 272]) {
     let base = DEAD + wide(i % 32) * 16;
-    let mut o: usize = 0;
-    while o < 16 {
-        known[256 + o] = note(notes, base + o);
-        o += 1;
+    for o in 0..16 {
+        known[256 + o] = leaves::note(notes, base + o);
     }
 }
 
@@ -113,7 +95,7 @@ fn split_at(block: &[u8; BLOCK], i: u8, left: u8) -> Split
             n: 0,
         };
     }
-    let k = pair_of(block, i);
+    let k = block::pair_of(block, i);
     if site(block, k) != i {
         return Split {
             i,
@@ -124,7 +106,7 @@ fn split_at(block: &[u8; BLOCK], i: u8, left: u8) -> Split
     Split {
         i,
         k,
-        n: choices(block, i),
+        n: block::choices(block, i),
     }
 }
 
@@ -164,7 +146,7 @@ fn has_step(sets: &[u16; 16], step: Step) -> bool
     if t >= 16 {
         return false;
     }
-    holds(sets[wide(o)], t)
+    cubes::words::holds(sets[wide(o)], t)
 }
 
 // In the first round a choice of which something is said is passed over.
@@ -172,7 +154,7 @@ fn first_turn(block: &[u8; BLOCK], k: usize, c: u16, done: &[u16; 16], known: &[
     requires { ⌜ k < 257 ⌝ }
 {
     let step = transition(block, k, c);
-    let dead = in_set(known[256 + wide(low(step.output))], step.target);
+    let dead = leaves::in_set(known[256 + wide(leaves::low(step.output))], step.target);
     Turn {
         step,
         skip: dead | has_step(done, step),
@@ -188,7 +170,7 @@ fn second_turn(block: &[u8; BLOCK], k: usize, c: u16, done: &[u16; 16], known: &
     Turn {
         step,
         skip: has_step(done, step),
-        hint: known[wide(packed(step.output, step.target))],
+        hint: known[wide(leaves::packed(step.output, step.target))],
     }
 }
 
@@ -237,12 +219,12 @@ fn join(
     if l == ANY {
         return false;
     }
-    if !means(l, o, t) {
+    if !cubes::literals::means(l, o, t) {
         return false;
     }
     add(done, l);
-    meet_in(all, cube);
-    reflect(block, facts, cube, k, t, o, done);
+    cubes::gather::meet_in(all, cube);
+    mirror::reflect(block, facts, cube, k, t, o, done);
     true
 }
 
@@ -253,7 +235,7 @@ fn finish(store: &mut [u32], notes: &mut [u16], all: &[u32; 32], i: u8) -> Told
 {
     let mut cube = *all;
     cube[wide(i)] = ANY;
-    learn(store, notes, true, &cube);
+    store::learn(store, notes, true, &cube);
     Told { ok: true, cube }
 }
 

@@ -7,19 +7,9 @@ mod prefix;
 mod tell;
 
 use block::BLOCK;
-use branch::explore;
 use cubes::goal::Goal;
 use cubes::tables::FACTS;
-use cubes::tables::enter_all;
-use cursors::add_test;
-use cursors::find_tests;
-use cursors::start_cursors;
-use leaves::witnessed;
-use mirror::exchange_all;
-use node::root;
-use prefix::has_prefix;
 pub use store::Told;
-use store::admit_all;
 pub use store::fresh_store;
 pub use store::no_store;
 pub use store::short_store;
@@ -40,11 +30,11 @@ pub fn prepare(block: &[u8; BLOCK], log: &[u16], facts: &mut [u16; FACTS]) -> bo
     requires { ⌜ Wf (now block) × (length (now facts) ≡ 832) ⌝ }
     ensures { λ r. ⌜ (length (now (facts .exit)) ≡ 832) × (r ≡ true → Ready (now (block .entry)) (now (facts .exit))) ⌝ }
 {
-    if !enter_all(block, facts) {
+    if !cubes::tables::enter_all(block, facts) {
         return false;
     }
-    exchange_all(block, facts);
-    find_tests(log, facts);
+    mirror::exchange_all(block, facts);
+    cursors::find_tests(log, facts);
     true
 }
 
@@ -53,7 +43,7 @@ pub fn note_test(facts: &mut [u16; FACTS], at: usize)
     requires { ⌜ length (now facts) ≡ 832 ⌝ }
     ensures { λ r. ⌜ (length (now (facts .exit)) ≡ 832) × ((m : List ℕ) → Ready m (now (facts .entry)) → Ready m (now (facts .exit))) ⌝ }
 {
-    add_test(facts, at);
+    cursors::add_test(facts, at);
 }
 
 // A cube in which no mutant is sought and that has every mutant with all the choices of the prefix; or nothing.
@@ -69,15 +59,15 @@ pub fn told_from(
     requires { ⌜ Ready (now block) (now facts) × StoreOk goal (now block) (now log) (now store) ⌝ }
     ensures { λ r. ⌜ Found goal (now (block .entry)) (now (log .entry)) (now (store .exit)) r × (r .ok ≡ true → PrefixIn (now (block .entry)) (r .cube) (now (prefix .entry))) ⌝ }
 {
-    let node = root(block, prefix);
-    admit_all(notes, node.settled);
+    let node = node::root(block, prefix);
+    store::admit_all(notes, node.settled);
     let mut cursors = [0u32; 256];
-    start_cursors(facts, &mut cursors);
-    let told = explore(block, facts, log, goal, store, notes, node, &cursors);
+    cursors::start_cursors(facts, &mut cursors);
+    let told = branch::explore(block, facts, log, goal, store, notes, node, &cursors);
     if !told.ok {
         return unknown();
     }
-    if !has_prefix(block, &told.cube, prefix) {
+    if !prefix::has_prefix(block, &told.cube, prefix) {
         return unknown();
     }
     told
@@ -96,7 +86,7 @@ pub fn none_from(
     requires { ⌜ Ready (now block) (now facts) × StoreOk goal (now block) (now log) (now store) ⌝ }
     ensures { λ r. ⌜ NoneIf goal (now (block .entry)) (now (log .entry)) (now (prefix .entry)) r × StoreOk goal (now (block .entry)) (now (log .entry)) (now (store .exit)) ⌝ }
 {
-    if witnessed(notes, prefix) {
+    if leaves::witnessed(notes, prefix) {
         return false;
     }
     let told = told_from(block, facts, log, goal, store, notes, prefix);

@@ -2,8 +2,6 @@
 use block::BLOCK;
 use block::Step;
 use block::pair_of;
-use block::site;
-use block::transition;
 use block::wide;
 use leaves::joined;
 use leaves::packed;
@@ -43,7 +41,7 @@ pub(crate) fn child(node: Node, i: u8, step: Step, hint: u16) -> Node
 fn step_of(block: &[u8; BLOCK], j: u8, c: u16) -> u8
     requires { ⌜ j < 32 ⌝ }
 {
-    let step = transition(block, pair_of(block, j), c);
+    let step = block::transition(block, pair_of(block, j), c);
     packed(step.output, step.target)
 }
 
@@ -54,7 +52,7 @@ fn settled_with(block: &[u8; BLOCK], set: u32, j: u8, c: u16) -> u32
     if c == 256 {
         return set;
     }
-    if site(block, pair_of(block, j)) != j {
+    if block::site(block, pair_of(block, j)) != j {
         return set;
     }
     joined(set, j)
@@ -64,12 +62,10 @@ fn settled_with(block: &[u8; BLOCK], set: u32, j: u8, c: u16) -> u32
 pub(crate) fn root(block: &[u8; BLOCK], prefix: &[u16; 32]) -> Node {
     let mut p = [0u8; 32];
     let mut settled: u32 = 0;
-    let mut j: u8 = 0;
-    while j < 32 {
+    for j in 0..32 {
         let c = prefix[wide(j)];
         p[wide(j)] = step_of(block, j, c);
         settled = settled_with(block, settled, j, c);
-        j += 1;
     }
     Node {
         p,

@@ -1,9 +1,6 @@
 // Whether a cube has every mutant with the choices of a prefix.
 use block::BLOCK;
-use block::site;
-use block::transition;
 use block::wide;
-use cubes::literals::means;
 use leaves::ANY;
 ghost use mathlib.Core.Path.{_≡_};
 ghost use mathlib.Core.Bool.{true};
@@ -16,7 +13,7 @@ fn pair_has(block: &[u8; BLOCK], cube: &[u32; 32], prefix: &[u16; 32], k: usize)
     requires { ⌜ Wf (now block) × (k < 257) ⌝ }
     ensures { λ r. ⌜ (r ≡ true → PairHas (now (block .entry)) (now (cube .entry)) (now (prefix .entry)) k) ⌝ }
 {
-    let i = site(block, k);
+    let i = block::site(block, k);
     if i == 255 {
         return true;
     }
@@ -31,24 +28,22 @@ fn pair_has(block: &[u8; BLOCK], cube: &[u32; 32], prefix: &[u16; 32], k: usize)
     if c == 256 {
         return false;
     }
-    let step = transition(block, k, c);
+    let step = block::transition(block, k, c);
     let t = step.target;
     if t >= 16 {
         return false;
     }
-    means(l, step.output, t)
+    cubes::literals::means(l, step.output, t)
 }
 
 pub(crate) fn has_prefix(block: &[u8; BLOCK], cube: &[u32; 32], prefix: &[u16; 32]) -> bool
     requires { ⌜ Wf (now block) ⌝ }
     ensures { λ r. ⌜ (r ≡ true → PrefixIn (now (block .entry)) (now (cube .entry)) (now (prefix .entry))) ⌝ }
 {
-    let mut k: usize = 0;
-    while k < 257 {
+    for k in 0..257 {
         if !pair_has(block, cube, prefix, k) {
             return false;
         }
-        k += 1;
     }
     true
 }

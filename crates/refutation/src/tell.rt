@@ -2,21 +2,12 @@
 use crate::node::Node;
 use block::BLOCK;
 use block::wide16;
-use cubes::conform::closed;
-use cubes::failing::fails;
 use cubes::goal::Goal;
 use cubes::tables::FACTS;
 use cursors::FROM_TEST;
-use cursors::advance_all;
-use cursors::propose_fail;
-use cursors::test_at;
 use leaves::ANY;
-use leaves::count_node;
-use pairs::propose;
 use store::Told;
-use store::find;
 use store::learn;
-use store::look_up;
 use store::unknown;
 ghost use mathlib.Core.Path.{_≡_};
 ghost use mathlib.Core.Bool.{true};
@@ -34,8 +25,8 @@ fn by_test(block: &[u8; BLOCK], facts: &[u16; FACTS], log: &[u16], node: Node, t
     ensures { λ r. ⌜ ((goal : Sort) → ToldOk goal (now (block .entry)) (now (log .entry)) r) ⌝ }
 {
     let mut cube = [ANY; 32];
-    propose_fail(block, facts, log, &node.p, node.settled, t, &mut cube);
-    let ok = fails(block, facts, &cube, log, test_at(facts, t));
+    cursors::propose_fail(block, facts, log, &node.p, node.settled, t, &mut cube);
+    let ok = cubes::failing::fails(block, facts, &cube, log, cursors::test_at(facts, t));
     Told { ok, cube }
 }
 
@@ -46,10 +37,10 @@ fn by_conforming(block: &[u8; BLOCK], facts: &[u16; FACTS], node: Node) -> Told
 {
     let mut cube = [ANY; 32];
     let mut pairs = [0u16; 16];
-    if !propose(block, facts, &node.p, node.settled, &mut cube, &mut pairs) {
+    if !pairs::propose(block, facts, &node.p, node.settled, &mut cube, &mut pairs) {
         return unknown();
     }
-    let ok = closed(block, facts, &cube, &pairs);
+    let ok = cubes::conform::closed(block, facts, &cube, &pairs);
     Told { ok, cube }
 }
 
@@ -79,7 +70,7 @@ fn by_hint(
     if hint >= FROM_TEST {
         return by_test(block, facts, log, node, wide16(hint - FROM_TEST));
     }
-    look_up(store, wide16(hint), &node.p, node.settled)
+    store::look_up(store, wide16(hint), &node.p, node.settled)
 }
 
 // What the store and the pairs of states say, where no test fails.
@@ -94,7 +85,7 @@ fn consult(
     requires { ⌜ Ready (now block) (now facts) ⌝ }
     ensures { λ r. ⌜ ((log : List ℕ) → StoreOk goal (now (block .entry)) log (now (store .entry)) → Found goal (now (block .entry)) log (now (store .exit)) r) ⌝ }
 {
-    let stored = find(store, notes, &node.p, node.settled);
+    let stored = store::find(store, notes, &node.p, node.settled);
     if stored.ok {
         return stored;
     }
@@ -121,8 +112,8 @@ pub(crate) fn look(
     if hinted.ok {
         return hinted;
     }
-    count_node(notes);
-    let t = advance_all(block, facts, log, &node.p, node.settled, cursors, node.last);
+    leaves::count_node(notes);
+    let t = cursors::advance_all(block, facts, log, &node.p, node.settled, cursors, node.last);
     if t >= 256 {
         return consult(block, facts, goal, store, notes, node);
     }

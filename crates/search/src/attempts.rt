@@ -9,10 +9,6 @@ use cubes::tables::FACTS;
 use leaves::LONG;
 use leaves::SHORT;
 use machine::Difference;
-use refutation::fresh_store;
-use refutation::no_store;
-use refutation::prepare;
-use walks::begins;
 ghost use mathlib.Core.Path.{_≡_};
 ghost use mathlib.Core.Bool.{cond};
 ghost use lib.ListN.{replicate};
@@ -62,9 +58,9 @@ fn find_thoroughly(block: &[u8; BLOCK], log: &[u16], goal: Goal, nodes: &mut u32
     ensures { λ r. ⌜ (r .found ≡ GaveUp → ⊥) ⌝ }
 {
     let mut facts = [no_facts()];
-    let ready = prepare(block, log, &mut facts[0]);
+    let ready = refutation::prepare(block, log, &mut facts[0]);
     let n = how_many(ready);
-    let mut store = fresh_store();
+    let mut store = refutation::fresh_store();
     let mut notes = long_notes();
     let found = search(
         block,
@@ -88,11 +84,11 @@ fn find(block: &[u8; BLOCK], log: &[u16], goal: Goal, nodes: &mut u32) -> Attemp
     ensures { λ r. ⌜ (r .found ≡ GaveUp → ⊥) ⌝ }
 {
     *nodes = 0;
-    if !begins(log) {
+    if !walks::begins(log) {
         return find_thoroughly(block, log, goal, nodes);
     }
     let facts: [[u16; FACTS]; 0] = [];
-    let mut store = no_store();
+    let mut store = refutation::no_store();
     let mut notes = short_notes();
     let quick = search(
         block,

@@ -1,16 +1,10 @@
 // A mutant with all its choices: whether it is wanted, and what is shown of it.
 use block::BLOCK;
-use block::initial;
-use block::slots;
-use block::wide;
 use cubes::goal::Goal;
 use logs::Wrong;
-use logs::first_wrong;
 use machine::Difference;
 use machine::blank;
 use machine::distinguish;
-use machine::lay;
-use machine::machine_of;
 ghost use mathlib.Core.Path.{_≡_};
 ghost use Prim.Native.Nat.{ℕ, _<_, _≤_};
 ghost use lib.ListN.{length, getD, take};
@@ -53,9 +47,9 @@ pub(crate) fn wanted(block: &[u8; BLOCK], log: &[u16], goal: Goal, p: &[u16; 32]
 {
     let mut outputs = blank();
     let mut targets = blank();
-    lay(block, p, &mut outputs, &mut targets);
-    let start = initial(block, p);
-    match first_wrong(log, &outputs, &targets, start) {
+    machine::lay(block, p, &mut outputs, &mut targets);
+    let start = block::initial(block, p);
+    match logs::first_wrong(log, &outputs, &targets, start) {
         Wrong::Nothing => meets(block, goal, &outputs, &targets, start),
         Wrong::At(_, _) => false,
     }
@@ -83,9 +77,9 @@ pub(crate) fn show(
     requires { ⌜ ((sh : Sheet) × Showing sh (now block) (now p)) × Room (now block) (now board) (now sequence) ⌝ }
     ensures { λ r. ⌜ ((sh : Sheet) → Showing sh (now (block .entry)) (now (p .entry)) → Written sh (mutantIn sh (now (p .entry))) r (now (board .entry)) (now (board .exit)) (now (sequence .entry)) (now (sequence .exit))) ⌝ }
 {
-    let n = wide(slots(block));
+    let n = block::wide(block::slots(block));
     write_choices(p, n, board);
-    let machine = machine_of(block, &board[..n]);
+    let machine = machine::machine_of(block, &board[..n]);
     let start = machine.start;
     distinguish(block, &machine.output, &machine.target, start, sequence)
 }

@@ -2,12 +2,8 @@
 use crate::check::wanted;
 use block::BLOCK;
 use block::choices;
-use block::slots;
-use block::wide;
 use cubes::goal::Goal;
 use cubes::tables::FACTS;
-use refutation::none_from;
-use walks::spent;
 ghost use mathlib.Core.Path.{_≡_};
 ghost use lib.ListN.{length};
 ghost use Rattle.sheet.specs.Sheet.{Sheet};
@@ -49,7 +45,7 @@ fn refuted(
     if facts.len() == 0 {
         return false;
     }
-    none_from(block, &facts[0], log, goal, store, notes, p)
+    refutation::none_from(block, &facts[0], log, goal, store, notes, p)
 }
 
 // What is found where every slot is settled.
@@ -92,10 +88,10 @@ pub(crate) fn search(
             choices: p,
         };
     }
-    if i == wide(slots(block)) {
+    if i == block::wide(block::slots(block)) {
         return settled(wanted(block, log, goal, &p), p);
     }
-    if store.len() == 0 && spent(notes) {
+    if store.len() == 0 && walks::spent(notes) {
         return Attempt {
             found: Found::GaveUp,
             choices: p,

@@ -1,12 +1,10 @@
 // Entries of the store, read and written. Which entry is written, and what is noted of its age and of the suspects it speaks of,
 // steers only.
 use crate::live::admit;
-use block::wide;
 use block::wide16;
 use leaves::ANY;
 use leaves::FILLED;
 use leaves::HAND;
-use leaves::joined;
 use leaves::note;
 use leaves::set_note;
 ghost use mathlib.Core.Path.{_≡_};
@@ -122,13 +120,11 @@ fn idle(store: &mut [u32], hand: usize, n: usize) -> usize
     ensures { λ r. ⌜ Kept (now (store .entry)) (now (store .exit)) ⌝ }
 {
     let mut h = hand;
-    let mut tries: usize = 0;
-    while tries < 2048 {
+    for tries in 0..2048usize {
         if tire(store, h) {
             return h;
         }
         h = after(h, n);
-        tries += 1;
     }
     h
 }
@@ -164,16 +160,14 @@ fn spoken(set: u32, l: u32, j: u8) -> u32 {
     if l == ANY {
         return set;
     }
-    joined(set, j)
+    leaves::joined(set, j)
 }
 
 // The suspects of which a cube speaks.
 fn speaks(cube: &[u32; 32]) -> u32 {
     let mut set: u32 = 0;
-    let mut j: u8 = 0;
-    while j < 32 {
-        set = spoken(set, cube[wide(j)], j);
-        j += 1;
+    for j in 0..32 {
+        set = spoken(set, cube[block::wide(j)], j);
     }
     set
 }
@@ -184,11 +178,9 @@ fn write(store: &mut [u32], e: usize, cube: &[u32; 32])
 {
     store[spot(e, 32)] = speaks(cube);
     store[spot(e, 33)] = 1;
-    let mut j: usize = 0;
-    while j < 32 {
+    for j in 0..32 {
         let l = cube[j];
         store[spot(e, j)] = l;
-        j += 1;
     }
 }
 
@@ -214,11 +206,9 @@ fn literals(store: &[u32], e: usize) -> [u32; 32]
     ensures { λ r. ⌜ Holds (now (store .entry)) e r ⌝ }
 {
     let mut cube = [ANY; 32];
-    let mut j: usize = 0;
-    while j < 32 {
+    for j in 0..32 {
         let l = store[spot(e, j)];
         cube[j] = l;
-        j += 1;
     }
     cube
 }

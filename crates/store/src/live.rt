@@ -1,8 +1,6 @@
 // Which entries may agree with a settled part: those that agreed with the part from which it came by one more suspect, and those
 // written since. Noted by how many suspects are settled. This steers only.
 use leaves::LIVE;
-use leaves::add;
-use leaves::note;
 use leaves::set_note;
 ghost use mathlib.Core.Path.{_≡_};
 ghost use Prim.Native.Nat.{_+_, _*_, _%_, _<_};
@@ -29,10 +27,8 @@ pub fn admit_all(notes: &mut [u16], settled: u32)
     ensures { λ r. ⌜ Admitted 32 (ones settled % 64 % 34) (now (notes .entry)) (now (notes .exit)) ⌝ }
 {
     let n = level(settled);
-    let mut w: usize = 0;
-    while w < 32 {
+    for w in 0..32 {
         set_note(notes, noted_at(n, w), 65535);
-        w += 1;
     }
 }
 
@@ -40,11 +36,9 @@ pub fn admit_all(notes: &mut [u16], settled: u32)
 pub(crate) fn admit(notes: &mut [u16], e: usize)
     ensures { λ r. ⌜ Changed 8768 9856 (now (notes .entry)) (now (notes .exit)) ⌝ }
 {
-    let mut n: usize = 0;
-    while n < 34 {
+    for n in 0..34 {
         let at = noted_at(n, e / 16);
-        let set = note(notes, at);
-        set_note(notes, at, add(set, (e % 16) as u8));
-        n += 1;
+        let set = leaves::note(notes, at);
+        set_note(notes, at, leaves::add(set, (e % 16) as u8));
     }
 }

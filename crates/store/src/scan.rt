@@ -6,19 +6,10 @@ use crate::entries::spot;
 use crate::entries::unknown;
 use crate::live::level;
 use crate::live::noted_at;
-use block::wide16;
-use block::wide32;
-use cubes::literals::lit_next;
-use cubes::literals::lit_out;
-use cubes::literals::means;
-use cursors::mark;
 use leaves::DEAD;
 use leaves::FILLED;
 use leaves::HINTS;
-use leaves::add;
-use leaves::low;
 use leaves::note;
-use leaves::set_note;
 ghost use Prim.Native.Nat.{_+_, _*_, _<_, _≤_};
 ghost use lib.ListN.{length};
 ghost use Rattle.store.specs.Store.{Kept, Tells};
@@ -66,7 +57,7 @@ fn agrees(store: &[u32], e: usize, p: &[u8; 32], settled: u32) -> bool
     while left > 0 {
         let j = least(left);
         let step = p[j];
-        if !means(literal_of(store, e, j), step / 16, low(step)) {
+        if !cubes::literals::means(literal_of(store, e, j), step / 16, leaves::low(step)) {
             return false;
         }
         left = without_least(left);
@@ -79,11 +70,11 @@ fn mark_entry(store: &[u32], notes: &mut [u16], e: usize, j: usize)
     requires { ⌜ (e * 34 + 34 ≤ length (now store)) × (j < 32) ⌝ }
 {
     let l = literal_of(store, e, j);
-    mark(
+    cursors::mark(
         notes,
         j as u8,
-        (lit_out(l) % 16) as u8,
-        lit_next(l),
+        (cubes::literals::lit_out(l) % 16) as u8,
+        cubes::literals::lit_next(l),
         (e % 32768) as u16,
     );
 }
@@ -92,7 +83,7 @@ fn mark_entry(store: &[u32], notes: &mut [u16], e: usize, j: usize)
 fn filled(store: &[u32], notes: &[u16]) -> usize
     ensures { λ r. ⌜ r * 34 ≤ length (now (store .entry)) ⌝ }
 {
-    let n = wide16(note(notes, FILLED));
+    let n = block::wide16(note(notes, FILLED));
     let end = room(store);
     if n < end {
         return n;
@@ -131,7 +122,7 @@ fn scan_word(store: &[u32], notes: &mut [u16], p: &[u8; 32], settled: u32, w: us
     requires { ⌜ w < 32 ⌝ }
 {
     let n = level(settled);
-    let mut left = wide32(note(notes, noted_at(n, w)));
+    let mut left = block::wide32(note(notes, noted_at(n, w)));
     let mut live: u16 = 0;
     while left > 0 {
         let e = w * 16 + least(left);
@@ -140,25 +131,23 @@ fn scan_word(store: &[u32], notes: &mut [u16], p: &[u8; 32], settled: u32, w: us
                 return e;
             }
             Fit::Agrees => {
-                live = add(live, (e % 16) as u8);
+                live = leaves::add(live, (e % 16) as u8);
             }
             Fit::Disagrees => {}
         }
         left = without_least(left);
     }
-    set_note(notes, noted_at(n + 1, w), live);
+    leaves::set_note(notes, noted_at(n + 1, w), live);
     room(store)
 }
 
 // An entry that has the settled part; past the last if there is none.
 fn scan(store: &[u32], notes: &mut [u16], p: &[u8; 32], settled: u32) -> usize {
-    let mut w: usize = 0;
-    while w < 32 {
+    for w in 0..32 {
         let e = scan_word(store, notes, p, settled, w);
         if e < room(store) {
             return e;
         }
-        w += 1;
     }
     room(store)
 }
@@ -168,10 +157,8 @@ fn forget(notes: &mut [u16]) {
     if notes.len() < HINTS {
         return;
     }
-    let mut j: usize = DEAD;
-    while j < HINTS {
+    for j in DEAD..HINTS {
         notes[j] = 0;
-        j += 1;
     }
 }
 

@@ -1,8 +1,5 @@
 // How much an attempt may spend: one for each node that it looks at, one for each pair of states that it meets.
 use leaves::SPENT;
-use leaves::count_node;
-use leaves::note;
-use leaves::set_note;
 ghost use mathlib.Core.Path.{_≡_};
 ghost use mathlib.Core.Bool.{true, false};
 ghost use Prim.Native.Nat.{_<_, _≤_};
@@ -22,11 +19,11 @@ pub fn spent(notes: &[u16]) -> bool
 
 // Spends n, which is below the budget.
 pub(crate) fn spend(notes: &mut [u16], n: u16) {
-    let before = note(notes, SPENT);
+    let before = leaves::note(notes, SPENT);
     if before >= BUDGET {
         return;
     }
-    set_note(notes, SPENT, before + n % BUDGET);
+    leaves::set_note(notes, SPENT, before + n % BUDGET);
 }
 
 // Whether one node more may be looked at, which is counted.
@@ -34,7 +31,7 @@ pub(crate) fn enter_node(notes: &mut [u16]) -> bool {
     if spent(notes) {
         return false;
     }
-    count_node(notes);
+    leaves::count_node(notes);
     spend(notes, 1);
     true
 }

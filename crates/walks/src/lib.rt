@@ -14,7 +14,6 @@ pub use blame::gives_from;
 use block::BLOCK;
 use cubes::goal::Goal;
 pub use effort::spent;
-use leaves::witnessed;
 pub use refute::Told;
 use refute::refute;
 use walk::Place;
@@ -29,7 +28,7 @@ fn hopeless(notes: &[u16], prefix: &[u16; 32]) -> bool {
     if spent(notes) {
         return true;
     }
-    witnessed(notes, prefix)
+    leaves::witnessed(notes, prefix)
 }
 
 // Whether a log has nothing before its first reset: then any state will do to begin with.

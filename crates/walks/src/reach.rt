@@ -3,17 +3,11 @@ use crate::steps::Taken;
 use crate::steps::take;
 use block::BLOCK;
 use block::WAKING;
-use block::inputs;
 use block::place;
-use block::rule_output;
-use block::rule_target;
-use block::states;
 use block::wide;
 use block::wide16;
-use cubes::words::holds;
 use cubes::words::one;
 use cubes::words::union;
-use cubes::words::within;
 ghost use mathlib.Core.Path.{_≡_};
 ghost use mathlib.Core.Bool.{true};
 ghost use Prim.Native.Nat.{_<_, _≤_, _/_, _%_};
@@ -50,7 +44,7 @@ fn meet(rows: &mut [u16; 16], queue: &mut [u8; 256], s: u8, q: u8, count: u16) -
     }
     let at = wide(s);
     let row = rows[at];
-    if holds(row, q) {
+    if cubes::words::holds(row, q) {
         return count;
     }
     rows[at] = union(row, one(q));
@@ -89,7 +83,7 @@ fn cell(
     ensures { λ r. ⌜ CellReached (now (block .entry)) (now (p .entry)) (now (rows .entry)) (now (rows .exit)) reach r k x ⌝ }
 {
     let at = place(k / 16, x);
-    let next = rule_target(block, at);
+    let next = block::rule_target(block, at);
     if next == 255 {
         return reach;
     }
@@ -97,7 +91,7 @@ fn cell(
     match taken {
         Taken::Waits(i) => stopped(reach, i),
         Taken::Takes(step, used) => {
-            if step.output != rule_output(block, at) {
+            if step.output != block::rule_output(block, at) {
                 return Reach {
                     used,
                     count: reach.count,
@@ -146,15 +140,13 @@ fn row(
     requires { ⌜ Wf (now block) × (length (now rows) ≡ 16) ⌝ }
     ensures { λ r. ⌜ RowReached (now (block .entry)) (now (p .entry)) (now (rows .entry)) (now (rows .exit)) from r k (inputsOf (now (block .entry))) ⌝ }
 {
-    let end = inputs(block);
+    let end = block::inputs(block);
     let mut reach = from;
-    let mut x: u8 = 0;
-    while x < end {
+    for x in 0..end {
         reach = cell(block, p, k, x, rows, queue, reach);
         if reach.stop == WRONG {
             return reach;
         }
-        x += 1;
     }
     reach
 }
@@ -164,13 +156,11 @@ fn all_within(block: &[u8; BLOCK], rows: &[u16; 16], done: &[u16; 16]) -> bool
     requires { ⌜ Wf (now block) ⌝ }
     ensures { λ r. ⌜ (r ≡ true → AllWithin (now (block .entry)) (now (rows .entry)) (now (done .entry))) ⌝ }
 {
-    let end = states(block);
-    let mut s: u8 = 0;
-    while s < end {
-        if !within(rows[wide(s)], done[wide(s)]) {
+    let end = block::states(block);
+    for s in 0..end {
+        if !cubes::words::within(rows[wide(s)], done[wide(s)]) {
             return false;
         }
-        s += 1;
     }
     true
 }

@@ -8,12 +8,9 @@ use crate::walk::Halt;
 use crate::walk::Place;
 use crate::walk::walk;
 use block::BLOCK;
-use block::choices;
 use block::wide;
 use cubes::goal::Goal;
-use leaves::among;
 use leaves::keep_witness;
-use leaves::united;
 ghost use mathlib.Core.Path.{_≡_};
 ghost use mathlib.Core.Bool.{true, false};
 ghost use mathlib.Core.List.{List};
@@ -104,7 +101,7 @@ fn to_settle(block: &[u8; BLOCK], p: &[u16; 32], i: u8, left: u8) -> u16
     if p[wide(i)] != 256 {
         return 0;
     }
-    choices(block, i)
+    block::choices(block, i)
 }
 
 // Whether nothing is told, or that which does not depend on the suspect.
@@ -115,7 +112,7 @@ fn is_final(told: Told, i: u8) -> bool
     if !told.ok {
         return true;
     }
-    !among(told.used, i)
+    !leaves::among(told.used, i)
 }
 
 // Refutes the settled part p, with the walk at a place. `left` falls: so many more may be settled.
@@ -141,15 +138,13 @@ pub(crate) fn refute(
     }
     let mut q = *p;
     let mut used: u32 = 0;
-    let mut c: u16 = 0;
-    while c < end {
+    for c in 0..end {
         q[wide(i)] = c;
         let told = refute(block, log, goal, notes, &q, place, left - 1);
         if is_final(told, i) {
             return told;
         }
-        used = united(used, told.used);
-        c += 1;
+        used = leaves::united(used, told.used);
     }
     Told { ok: true, used }
 }

@@ -1,10 +1,7 @@
 // What the settled choices do at a pair of a state and an input, or into the waking state.
 use block::BLOCK;
 use block::Step;
-use block::site;
 use block::transition;
-use block::wide;
-use leaves::joined;
 ghost use Prim.Native.Nat.{_<_};
 ghost use Rattle.block.specs.Tabulated.{Wf};
 ghost use Rattle.walks.specs.Walks.{TakenOk};
@@ -19,13 +16,13 @@ pub(crate) fn take(block: &[u8; BLOCK], p: &[u16; 32], k: usize, used: u32) -> T
     requires { ⌜ Wf (now block) × (k < 257) ⌝ }
     ensures { λ r. ⌜ TakenOk (now (block .entry)) (now (p .entry)) k used r ⌝ }
 {
-    let i = site(block, k);
+    let i = block::site(block, k);
     if i == 255 {
         return Taken::Takes(transition(block, k, 0), used);
     }
-    let c = p[wide(i)];
+    let c = p[block::wide(i)];
     if c == 256 {
         return Taken::Waits(i);
     }
-    Taken::Takes(transition(block, k, c), joined(used, i))
+    Taken::Takes(transition(block, k, c), leaves::joined(used, i))
 }

@@ -3,10 +3,6 @@ use crate::steps::Taken;
 use crate::steps::take;
 use block::BLOCK;
 use block::WAKING;
-use block::inputs;
-use block::some_place;
-use cubes::failing::input_of;
-use cubes::failing::output_of;
 ghost use mathlib.Core.Path.{_≡_};
 ghost use Prim.Native.Nat.{_+_, _<_};
 ghost use lib.ListN.{length, getD};
@@ -58,15 +54,15 @@ fn observe(block: &[u8; BLOCK], log: &[u16], p: &[u16; 32], place: Place) -> Hal
     if v > 256 {
         return Halt::Lost;
     }
-    let x = input_of(v);
-    if x >= inputs(block) {
+    let x = cubes::failing::input_of(v);
+    if x >= block::inputs(block) {
         return Halt::Lost;
     }
-    let taken = take(block, p, some_place(place.state, x), place.used);
+    let taken = take(block, p, block::some_place(place.state, x), place.used);
     match taken {
         Taken::Waits(i) => Halt::Waits(i, place),
         Taken::Takes(step, used) => {
-            if step.output != output_of(v) {
+            if step.output != cubes::failing::output_of(v) {
                 return Halt::Fails(used);
             }
             Halt::Ends(Place {

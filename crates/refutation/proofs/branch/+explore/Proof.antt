@@ -36,39 +36,28 @@ explore-Inv-loop block facts log goal store₀ notes₀ node from cursors seen k
 abbrev explore-μ-loop : explore-lts.MeasureT-loop
 explore-μ-loop block facts log goal store₀ notes₀ node from cursors seen known split all₀ done₀ r₀ store notes all done r = split .n + split .n - r
 
-explore-look-requires : (t : ℕ) → explore-lts.Need-look-requires (cs t) (explore-at t) explore.Post explore-Inv-loop explore-μ-loop
-explore-look-requires t c κs =
-    let at-cursors = c .before .before .before in
-    at-cursors .before .before .before .before .pre .1
-
-explore-returns : (t : ℕ) → explore-lts.Need-returns (cs t) (explore-at t) explore.Post explore-Inv-loop explore-μ-loop
-explore-returns t c = c .before .before .before .before .before .look .ensures
-
-explore-returns-2 : (t : ℕ) → explore-lts.Need-returns-2 (cs t) (explore-at t) explore.Post explore-Inv-loop explore-μ-loop
-explore-returns-2 t c =
+pub +explore-spec : {M : Type 1} → statement M
++explore-spec = close μ-explore λ t. explore-lts.spec (cs t)
+    (explore-at t) explore.Post explore-Inv-loop explore-μ-loop
+    (λ c κs. let at-cursors = c .before .before .before in at-cursors .before .before .before .before .pre .1)
+    (λ c. search needs) (λ c. search needs) (λ c. c .before .before .before .before .before .look .ensures)
+    (λ c κs. search needs) (λ c. search needs) (λ c. search needs)
+    (λ c.
     let at-next-split = c .before .before .before .before in
     let at-if1 = at-next-split .before .before .before .before in
-    at-if1 .before .before .before .before .before .look .ensures
-
-explore-loop-holds : (t : ℕ) → explore-lts.Need-loop-holds (cs t) (explore-at t) explore.Post explore-Inv-loop explore-μ-loop
-explore-loop-holds t c =
+    at-if1 .before .before .before .before .before .look .ensures)
+    (λ c.
     let at-next-split = c .before .before .before .before in
     let at-if1 = at-next-split .before .before .before .before in
-    (trying-start, at-next-split .next-split .ensures (omega arith), at-if1 .before .before .before .before .before .look .ensures .kept, refl, refl)
-
-explore-add-if3 : (t : ℕ) → explore-lts.Need-add-if3 (cs t) (explore-at t) explore.Post explore-Inv-loop explore-μ-loop
-explore-add-if3 t c =
+    (trying-start, at-next-split .next-split .ensures (omega arith), at-if1 .before .before .before .before .before .look .ensures .kept, refl, refl))
+    (λ c.
     let at-notes2 = c .before .before .before .before .before in
     let at-if1 = at-notes2 .before .before .before .before .before in
     let at-look = at-if1 .before .before .before .before .before in
     let at-cursors = at-look .before .before .before .before in
-    omega (arith, c .before .loop .inv .1 .count, at-cursors .before .before .before .before .pre .1 .0 .wf .choices _ (c .before .loop .inv .1 .low))
-
-explore-at-turn-requires : (t : ℕ) → explore-lts.Need-at-turn-requires (cs t) (explore-at t) explore.Post explore-Inv-loop explore-μ-loop
-explore-at-turn-requires t c κs = c .before .before .before .before .loop .inv .1 .pair
-
-explore-add-r : (t : ℕ) → explore-lts.Need-add-r (cs t) (explore-at t) explore.Post explore-Inv-loop explore-μ-loop
-explore-add-r t c =
+    omega (arith, c .before .loop .inv .1 .count, at-cursors .before .before .before .before .pre .1 .0 .wf .choices _ (c .before .loop .inv .1 .low)))
+    (λ c κs. c .before .before .before .before .loop .inv .1 .pair)
+    (λ c.
     let at-if3 = c .before .before .before .before in
     let at-loop = at-if3 .before .before in
     let at-if2 = at-loop .before in
@@ -76,25 +65,18 @@ explore-add-r t c =
     let at-if1 = at-next-split .before .before .before .before in
     let at-look = at-if1 .before .before .before .before .before in
     let at-cursors = at-look .before .before .before .before in
-    omega (arith, at-if3 .if3 .taken, at-loop .loop .inv .1 .count, at-cursors .before .before .before .before .pre .1 .0 .wf .choices _ (at-loop .loop .inv .1 .low))
-
-explore-loop-again : (t : ℕ) → explore-lts.Need-loop-again (cs t) (explore-at t) explore.Post explore-Inv-loop explore-μ-loop
-explore-loop-again t c =
+    omega (arith, at-if3 .if3 .taken, at-loop .loop .inv .1 .count, at-cursors .before .before .before .before .pre .1 .0 .wf .choices _ (at-loop .loop .inv .1 .low)))
+    (λ c. search needs)
+    (λ c.
     let at-if3 = c .before .before .before .before in
     let at-if2 = at-if3 .before .before .before in
     let at-next-split = at-if2 .before .before .before .before in
     let at-if1 = at-next-split .before .before .before .before in
     let at-look = at-if1 .before .before .before .before .before in
     let at-cursors = at-look .before .before .before .before in
-    let inv = at-if3 .before .before .loop .inv in (trying-skip (at-cursors .before .before .before .before .pre .1 .0 .wf) (inv .1) (at-if3 .if3 .taken) (c .before .at-turn .ensures) (inv .0) (c .if4 .taken), inv .1, inv .2, inv .3, inv .4)
-
-explore-child-requires : (t : ℕ) → explore-lts.Need-child-requires (cs t) (explore-at t) explore.Post explore-Inv-loop explore-μ-loop
-explore-child-requires t c κs =
-    let at-if3 = c .before .before .before .before in
-    at-if3 .before .before .loop .inv .1 .some
-
-explore-explore-requires : (t : ℕ) → explore-lts.Need-explore-requires (cs t) (explore-at t) explore.Post explore-Inv-loop explore-μ-loop
-explore-explore-requires t c κs =
+    let inv = at-if3 .before .before .loop .inv in (trying-skip (at-cursors .before .before .before .before .pre .1 .0 .wf) (inv .1) (at-if3 .if3 .taken) (c .before .at-turn .ensures) (inv .0) (c .if4 .taken), inv .1, inv .2, inv .3, inv .4))
+    (λ c κs. let at-if3 = c .before .before .before .before in at-if3 .before .before .loop .inv .1 .some)
+    (λ c κs.
     let at-child = c .before .before .before in
     let at-if3 = at-child .before .before .before .before .before in
     let at-if2 = at-if3 .before .before .before in
@@ -103,10 +85,9 @@ explore-explore-requires t c κs =
     let at-look = at-if1 .before .before .before .before .before in
     let at-cursors = at-look .before .before .before .before in
     let at-entry = at-cursors .before .before .before .before in
-    (omega (arith, at-child .child .ensures, at-entry .pre .0), (at-entry .pre .1 .0, at-if3 .before .before .loop .inv .2))
-
-explore-same-length-5 : (t : ℕ) → explore-lts.Need-same-length-5 (cs t) (explore-at t) explore.Post explore-Inv-loop explore-μ-loop
-explore-same-length-5 t c =
+    (omega (arith, at-child .child .ensures, at-entry .pre .0), (at-entry .pre .1 .0, at-if3 .before .before .loop .inv .2)))
+    (λ c κs. search needs)
+    (λ c.
     let at-notes3 = c .before .before .before .before .before in
     let at-cursors4 = at-notes3 .before .before .before .before in
     let at-if4 = at-cursors4 .before .before .before .before in
@@ -114,10 +95,8 @@ explore-same-length-5 t c =
     let at-if2 = at-if3 .before .before .before in
     let at-next-split = at-if2 .before .before .before .before in
     let at-if1 = at-next-split .before .before .before .before in
-    omega (arith, at-notes3 .before .before .store2 .given, at-if3 .before .before .loop .inv .3, at-if1 .before .before .before .before .store .given)
-
-explore-same-length-6 : (t : ℕ) → explore-lts.Need-same-length-6 (cs t) (explore-at t) explore.Post explore-Inv-loop explore-μ-loop
-explore-same-length-6 t c =
+    omega (arith, at-notes3 .before .before .store2 .given, at-if3 .before .before .loop .inv .3, at-if1 .before .before .before .before .store .given))
+    (λ c.
     let at-notes3 = c .before .before .before .before .before in
     let at-cursors4 = at-notes3 .before .before .before .before in
     let at-if4 = at-cursors4 .before .before .before .before in
@@ -125,15 +104,9 @@ explore-same-length-6 t c =
     let at-if2 = at-if3 .before .before .before in
     let at-notes2 = at-if2 .before .before .before in
     let at-if1 = at-notes2 .before .before .before .before .before in
-    omega (arith, at-notes3 .notes3 .given, at-if3 .before .before .loop .inv .4, at-notes2 .notes2 .given, at-if1 .before .before .notes .given)
-
-explore-returns-3 : (t : ℕ) → explore-lts.Need-returns-3 (cs t) (explore-at t) explore.Post explore-Inv-loop explore-μ-loop
-explore-returns-3 t c =
-    let at-notes3 = c .before .before .before .before .before in
-    at-notes3 .before .before .before .explore .ensures
-
-explore-join-requires : (t : ℕ) → explore-lts.Need-join-requires (cs t) (explore-at t) explore.Post explore-Inv-loop explore-μ-loop
-explore-join-requires t c κs =
+    omega (arith, at-notes3 .notes3 .given, at-if3 .before .before .loop .inv .4, at-notes2 .notes2 .given, at-if1 .before .before .notes .given))
+    (λ c. let at-notes3 = c .before .before .before .before .before in at-notes3 .before .before .before .explore .ensures)
+    (λ c κs.
     let at-if5 = c .before .before .before .before in
     let at-notes3 = at-if5 .before .before .before .before .before in
     let at-cursors4 = at-notes3 .before .before .before .before in
@@ -144,10 +117,8 @@ explore-join-requires t c κs =
     let at-if1 = at-next-split .before .before .before .before in
     let at-look = at-if1 .before .before .before .before .before in
     let at-cursors = at-look .before .before .before .before in
-    let inv = at-if3 .before .before .loop .inv in (at-cursors .before .before .before .before .pre .1 .0, inv .1 .pair, omega (arith, inv .1 .is, inv .1 .low), inv .0 .all-long, inv .0 .done-long)
-
-explore-same-length-7 : (t : ℕ) → explore-lts.Need-same-length-7 (cs t) (explore-at t) explore.Post explore-Inv-loop explore-μ-loop
-explore-same-length-7 t c =
+    let inv = at-if3 .before .before .loop .inv in (at-cursors .before .before .before .before .pre .1 .0, inv .1 .pair, omega (arith, inv .1 .is, inv .1 .low), inv .0 .all-long, inv .0 .done-long))
+    (λ c.
     let at-told2 = c .before .before .before .before .before in
     let at-told = at-told2 .before .before .before .before in
     let at-store2 = at-told .before .before .before .before in
@@ -156,10 +127,8 @@ explore-same-length-7 t c =
     let at-if2 = at-if3 .before .before .before in
     let at-next-split = at-if2 .before .before .before .before in
     let at-if1 = at-next-split .before .before .before .before in
-    omega (arith, at-store2 .store2 .given, at-if3 .before .before .loop .inv .3, at-if1 .before .before .before .before .store .given)
-
-explore-same-length-8 : (t : ℕ) → explore-lts.Need-same-length-8 (cs t) (explore-at t) explore.Post explore-Inv-loop explore-μ-loop
-explore-same-length-8 t c =
+    omega (arith, at-store2 .store2 .given, at-if3 .before .before .loop .inv .3, at-if1 .before .before .before .before .store .given))
+    (λ c.
     let at-told2 = c .before .before .before .before .before in
     let at-told = at-told2 .before .before .before .before in
     let at-explore = at-told .before .before .before .before .before in
@@ -168,10 +137,8 @@ explore-same-length-8 t c =
     let at-if2 = at-if3 .before .before .before in
     let at-notes2 = at-if2 .before .before .before in
     let at-if1 = at-notes2 .before .before .before .before .before in
-    omega (arith, at-told .before .before .notes3 .given, at-if3 .before .before .loop .inv .4, at-notes2 .notes2 .given, at-if1 .before .before .notes .given)
-
-explore-returns-4 : (t : ℕ) → explore-lts.Need-returns-4 (cs t) (explore-at t) explore.Post explore-Inv-loop explore-μ-loop
-explore-returns-4 t c =
+    omega (arith, at-told .before .before .notes3 .given, at-if3 .before .before .loop .inv .4, at-notes2 .notes2 .given, at-if1 .before .before .notes .given))
+    (λ c.
     let at-told2 = c .before .before .before .before .before in
     let at-told = at-told2 .before .before .before .before in
     let at-explore = at-told .before .before .before .before .before in
@@ -180,10 +147,8 @@ explore-returns-4 t c =
     let at-if2 = at-if3 .before .before .before in
     let at-next-split = at-if2 .before .before .before .before in
     let at-if1 = at-next-split .before .before .before .before in
-    record { told = at-if1 .before .before .before .before .before .look .ensures .told; kept = at-explore .explore .ensures .kept }
-
-explore-add-r-2 : (t : ℕ) → explore-lts.Need-add-r-2 (cs t) (explore-at t) explore.Post explore-Inv-loop explore-μ-loop
-explore-add-r-2 t c =
+    record { told = at-if1 .before .before .before .before .before .look .ensures .told; kept = at-explore .explore .ensures .kept })
+    (λ c.
     let at-told2 = c .before .before .before .before .before in
     let at-told = at-told2 .before .before .before .before in
     let at-explore = at-told .before .before .before .before .before in
@@ -195,18 +160,14 @@ explore-add-r-2 t c =
     let at-if1 = at-next-split .before .before .before .before in
     let at-look = at-if1 .before .before .before .before .before in
     let at-cursors = at-look .before .before .before .before in
-    omega (arith, at-if3 .if3 .taken, at-loop .loop .inv .1 .count, at-cursors .before .before .before .before .pre .1 .0 .wf .choices _ (at-loop .loop .inv .1 .low))
-
-explore-loop-less-2 : (t : ℕ) → explore-lts.Need-loop-less-2 (cs t) (explore-at t) explore.Post explore-Inv-loop explore-μ-loop
-explore-loop-less-2 t c =
+    omega (arith, at-if3 .if3 .taken, at-loop .loop .inv .1 .count, at-cursors .before .before .before .before .pre .1 .0 .wf .choices _ (at-loop .loop .inv .1 .low)))
+    (λ c.
     let at-told2 = c .before .before .before .before .before in
     let at-told = at-told2 .before .before .before .before in
     let at-explore = at-told .before .before .before .before .before in
     let at-if4 = at-explore .before .before .before .before .before in
-    omega (arith, at-if4 .before .before .before .before .if3 .taken)
-
-explore-loop-again-2 : (t : ℕ) → explore-lts.Need-loop-again-2 (cs t) (explore-at t) explore.Post explore-Inv-loop explore-μ-loop
-explore-loop-again-2 t c =
+    omega (arith, at-if4 .before .before .before .before .if3 .taken))
+    (λ c.
     let at-told2 = c .before .before .before .before .before in
     let at-told = at-told2 .before .before .before .before in
     let at-explore = at-told .before .before .before .before .before in
@@ -217,30 +178,22 @@ explore-loop-again-2 t c =
     let at-if1 = at-next-split .before .before .before .before in
     let at-look = at-if1 .before .before .before .before .before in
     let at-cursors = at-look .before .before .before .before in
-    let inv = at-if3 .before .before .loop .inv in (trying-more (at-cursors .before .before .before .before .pre .1 .0 .wf) (inv .1) (at-if3 .if3 .taken) (at-if4 .before .at-turn .ensures) (inv .0) (at-explore .explore .ensures .told .none (at-told2 .before .before .final-at .ensures (at-told2 .before .if5 .left))) (c .before .join .ensures (not-false _ (c .if6 .left))), inv .1, at-explore .explore .ensures .kept, omega (arith, at-told .before .before .before .before .store2 .given, inv .3), omega (arith, at-told .before .before .notes3 .given, inv .4))
-
-explore-finish-requires : (t : ℕ) → explore-lts.Need-finish-requires (cs t) (explore-at t) explore.Post explore-Inv-loop explore-μ-loop
-explore-finish-requires t c κs = c .before .before .before .before .before .loop .inv .1 .low
-
-explore-same-length-9 : (t : ℕ) → explore-lts.Need-same-length-9 (cs t) (explore-at t) explore.Post explore-Inv-loop explore-μ-loop
-explore-same-length-9 t c =
+    let inv = at-if3 .before .before .loop .inv in (trying-more (at-cursors .before .before .before .before .pre .1 .0 .wf) (inv .1) (at-if3 .if3 .taken) (at-if4 .before .at-turn .ensures) (inv .0) (at-explore .explore .ensures .told .none (at-told2 .before .before .final-at .ensures (at-told2 .before .if5 .left))) (c .before .join .ensures (not-false _ (c .if6 .left))), inv .1, at-explore .explore .ensures .kept, omega (arith, at-told .before .before .before .before .store2 .given, inv .3), omega (arith, at-told .before .before .notes3 .given, inv .4)))
+    (λ c κs. c .before .before .before .before .before .loop .inv .1 .low)
+    (λ c.
     let at-store3 = c .before .before .before in
     let at-if3 = at-store3 .before .before .before .before .before in
     let at-if2 = at-if3 .before .before .before in
     let at-next-split = at-if2 .before .before .before .before in
     let at-if1 = at-next-split .before .before .before .before in
-    omega (arith, at-store3 .store3 .given, at-if3 .before .before .loop .inv .3, at-if1 .before .before .before .before .store .given)
-
-explore-same-length-10 : (t : ℕ) → explore-lts.Need-same-length-10 (cs t) (explore-at t) explore.Post explore-Inv-loop explore-μ-loop
-explore-same-length-10 t c =
+    omega (arith, at-store3 .store3 .given, at-if3 .before .before .loop .inv .3, at-if1 .before .before .before .before .store .given))
+    (λ c.
     let at-all2 = c .before .before .before .before .before in
     let at-loop = at-all2 .before .before .before .before .before in
     let at-notes2 = at-loop .before .before .before .before in
     let at-if1 = at-notes2 .before .before .before .before .before in
-    omega (arith, c .before .notes4 .given, at-loop .loop .inv .4, at-notes2 .notes2 .given, at-if1 .before .before .notes .given)
-
-explore-returns-5 : (t : ℕ) → explore-lts.Need-returns-5 (cs t) (explore-at t) explore.Post explore-Inv-loop explore-μ-loop
-explore-returns-5 t c =
+    omega (arith, c .before .notes4 .given, at-loop .loop .inv .4, at-notes2 .notes2 .given, at-if1 .before .before .notes .given))
+    (λ c.
     let at-finish = c .before .before .before .before in
     let at-if3 = at-finish .before .before .before .before in
     let at-if2 = at-if3 .before .before .before in
@@ -249,15 +202,4 @@ explore-returns-5 t c =
     let at-look = at-if1 .before .before .before .before .before in
     let at-cursors = at-look .before .before .before .before in
     let at-entry = at-cursors .before .before .before .before in
-    let inv = at-if3 .before .before .loop .inv in found-learnt (at-entry .pre .1 .0 .wf) (inv .2) (record { none = λ e. trying-end (at-entry .pre .1 .0 .wf) (inv .1) (inv .0) (at-if3 .if3 .left) (at-finish .finish .ensures .0) }) (at-finish .finish .ensures .1)
-
-pub +explore-spec : {M : Type 1} → statement M
-+explore-spec = close μ-explore λ t. explore-lts.spec (cs t)
-    (explore-at t) explore.Post explore-Inv-loop explore-μ-loop (explore-look-requires t) (λ c. search needs)
-    (λ c. search needs) (explore-returns t) (λ c κs. search needs) (λ c. search needs) (λ c. search needs)
-    (explore-returns-2 t) (explore-loop-holds t) (explore-add-if3 t) (explore-at-turn-requires t) (explore-add-r t)
-    (λ c. search needs) (explore-loop-again t) (explore-child-requires t) (explore-explore-requires t) (λ c κs. search needs)
-    (explore-same-length-5 t) (explore-same-length-6 t) (explore-returns-3 t) (explore-join-requires t)
-    (explore-same-length-7 t) (explore-same-length-8 t) (explore-returns-4 t) (explore-add-r-2 t) (explore-loop-less-2 t)
-    (explore-loop-again-2 t) (explore-finish-requires t) (explore-same-length-9 t) (explore-same-length-10 t)
-    (explore-returns-5 t)
+    let inv = at-if3 .before .before .loop .inv in found-learnt (at-entry .pre .1 .0 .wf) (inv .2) (record { none = λ e. trying-end (at-entry .pre .1 .0 .wf) (inv .1) (inv .0) (at-if3 .if3 .left) (at-finish .finish .ensures .0) }) (at-finish .finish .ensures .1))

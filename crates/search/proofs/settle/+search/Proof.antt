@@ -48,54 +48,46 @@ search-Inv-loop block facts log goal store₀ notes₀ i p k c₀ store notes c 
 abbrev search-μ-loop : search-lts.MeasureT-loop
 search-μ-loop block facts log goal store₀ notes₀ i p k c₀ store notes c = k - c
 
-search-refuted-requires : (t : ℕ) → search-lts.Need-refuted-requires (cs t) (search-at t) search′.Post search-Inv-loop search-μ-loop
-search-refuted-requires t c κs =
+pub +search-spec : {M : Type 1} → statement M
++search-spec = close μ-search λ t. search-lts.spec (cs t)
+    (search-at t) search′.Post search-Inv-loop search-μ-loop
+    (λ c κs.
     let at-shared-slice-known = c .before .before .before .before .before in
     let given = at-shared-slice-known .before .pre .1 in
-    (well-formed (given .0 .1 .sheet .tabled), given .1 .0, given .1 .1)
-
-search-returns : (t : ℕ) → search-lts.Need-returns (cs t) (search-at t) search′.Post search-Inv-loop search-μ-loop
-search-returns t c = (λ sh w. refuted w (c .before .before .before .before .before .refuted .ensures .0) (c .if1 .taken), (c .before .before .before .before .before .refuted .ensures .1, λ e. never (cc)))
-
-search-wanted-requires : (t : ℕ) → search-lts.Need-wanted-requires (cs t) (search-at t) search′.Post search-Inv-loop search-μ-loop
-search-wanted-requires t c κs =
+    (well-formed (given .0 .1 .sheet .tabled), given .1 .0, given .1 .1))
+    (λ c. search needs) (λ c. search needs)
+    (λ c. (λ sh w. refuted w (c .before .before .before .before .before .refuted .ensures .0) (c .if1 .taken), (c .before .before .before .before .before .refuted .ensures .1, λ e. never (cc))))
+    (λ c κs. search needs) (λ c κs. search needs)
+    (λ c κs.
     let at-slots = c .before .before .before in
     let at-store = at-slots .before .before .before .before .before in
     let at-slice-known2 = at-store .before .before .before .before .before in
     let at-entry = at-slice-known2 .before .before .before in
-    (at-entry .pre .1 .0 .0, full (at-entry .pre .1 .0 .1) (c .before .before .wide .ensures .0 ∙ at-slots .slots .ensures) (c .before .if2 .taken))
-
-search-returns-2 : (t : ℕ) → search-lts.Need-returns-2 (cs t) (search-at t) search′.Post search-Inv-loop search-μ-loop
-search-returns-2 t c =
+    (at-entry .pre .1 .0 .0, full (at-entry .pre .1 .0 .1) (c .before .before .wide .ensures .0 ∙ at-slots .slots .ensures) (c .before .if2 .taken)))
+    (λ c κs. search needs) (λ c. search needs) (λ c. search needs)
+    (λ c.
     let at-slots = c .before .before .before .before .before in
     let at-store = at-slots .before .before .before .before .before in
     let en = (c .before .before .before .before .wide .ensures .0 ∙ at-slots .slots .ensures) in
     let told = c .settled .ensures in
-    (λ sh w. full-answer w en (c .before .before .before .if2 .taken) _ (c .before .wanted .ensures sh (full w en (c .before .before .before .if2 .taken))) _ _ (told .0) (told .1), (at-store .before .refuted .ensures .1, λ e. ended (c .before .wanted .result) (sym (told .0) ∙ e)))
-
-search-returns-3 : (t : ℕ) → search-lts.Need-returns-3 (cs t) (search-at t) search′.Post search-Inv-loop search-μ-loop
-search-returns-3 t c =
+    (λ sh w. full-answer w en (c .before .before .before .if2 .taken) _ (c .before .wanted .ensures sh (full w en (c .before .before .before .if2 .taken))) _ _ (told .0) (told .1), (at-store .before .refuted .ensures .1, λ e. ended (c .before .wanted .result) (sym (told .0) ∙ e))))
+    (λ c κs. search needs) (λ c. search needs) (λ c. search needs)
+    (λ c.
     let at-if3 = c .before .before .before in
     let at-if1 = at-if3 .before .before .before .before in
     let at-refuted = at-if1 .before .before .before .before .before in
-    (λ sh w. tt, (at-refuted .refuted .ensures .1, λ e. sym (at-refuted .refuted .kept .1 .1 .1 .1 .0) ∙ at-if3 .if3 .taken))
-
-search-cast-choices : (t : ℕ) → search-lts.Need-cast-choices (cs t) (search-at t) search′.Post search-Inv-loop search-μ-loop
-search-cast-choices t c =
+    (λ sh w. tt, (at-refuted .refuted .ensures .1, λ e. sym (at-refuted .refuted .kept .1 .1 .1 .1 .0) ∙ at-if3 .if3 .taken)))
+    (λ c.
     let at-slots = c .before .before .before in
     let at-store = at-slots .before .before .before .before .before in
     let at-slice-known2 = at-store .before .before .before .before .before in
-    omega (arith, next-low (at-slice-known2 .before .before .before .pre .1 .0 .1) (c .before .before .wide .ensures .0 ∙ at-slots .slots .ensures) (c .before .if2 .left) .0)
-
-search-choices-requires : (t : ℕ) → search-lts.Need-choices-requires (cs t) (search-at t) search′.Post search-Inv-loop search-μ-loop
-search-choices-requires t c κs =
+    omega (arith, next-low (at-slice-known2 .before .before .before .pre .1 .0 .1) (c .before .before .wide .ensures .0 ∙ at-slots .slots .ensures) (c .before .if2 .left) .0))
+    (λ c κs.
     let at-slots = c .before .before .before in
     let at-store = at-slots .before .before .before .before .before in
     let at-slice-known2 = at-store .before .before .before .before .before in
-    next-low (at-slice-known2 .before .before .before .pre .1 .0 .1) (c .before .before .wide .ensures .0 ∙ at-slots .slots .ensures) (c .before .if2 .left) .0
-
-search-loop-holds : (t : ℕ) → search-lts.Need-loop-holds (cs t) (search-at t) search′.Post search-Inv-loop search-μ-loop
-search-loop-holds t c =
+    next-low (at-slice-known2 .before .before .before .pre .1 .0 .1) (c .before .before .wide .ensures .0 ∙ at-slots .slots .ensures) (c .before .if2 .left) .0)
+    (λ c.
     let at-if1 = c .before .before .before .before .before in
     record {
       tried = λ sh w. tried-none;
@@ -103,34 +95,26 @@ search-loop-holds t c =
       ok = at-if1 .before .before .before .before .before .refuted .ensures .1;
       same-store = refl;
       same-notes = refl;
-    }
-
-search-mul-q : (t : ℕ) → search-lts.Need-mul-q (cs t) (search-at t) search′.Post search-Inv-loop search-μ-loop
-search-mul-q t c =
+    })
+    (λ c.
     let at-wide = c .before .before .before .before .before in
     let at-notes = at-wide .before .before .before .before in
     let at-p = at-notes .before .before .before .before in
     let at-shared-slice-known = at-p .before .before .before .before .before in
-    omega (arith, next-low (at-shared-slice-known .before .pre .1 .0 .1) (at-wide .wide .ensures .0 ∙ at-wide .before .slots .ensures) (c .before .before .before .before .if2 .left) .0)
-
-search-array-write-q : (t : ℕ) → search-lts.Need-array-write-q (cs t) (search-at t) search′.Post search-Inv-loop search-μ-loop
-search-array-write-q t c =
+    omega (arith, next-low (at-shared-slice-known .before .pre .1 .0 .1) (at-wide .wide .ensures .0 ∙ at-wide .before .slots .ensures) (c .before .before .before .before .if2 .left) .0))
+    (λ c.
     let at-wide = c .before .before .before .before .before in
     let at-notes = at-wide .before .before .before .before in
     let at-p = at-notes .before .before .before .before in
     let at-shared-slice-known = at-p .before .before .before .before .before in
-    omega (arith, next-low (at-shared-slice-known .before .pre .1 .0 .1) (at-wide .wide .ensures .0 ∙ at-wide .before .slots .ensures) (c .before .before .before .before .if2 .left) .0)
-
-search-add-search : (t : ℕ) → search-lts.Need-add-search (cs t) (search-at t) search′.Post search-Inv-loop search-μ-loop
-search-add-search t c =
+    omega (arith, next-low (at-shared-slice-known .before .pre .1 .0 .1) (at-wide .wide .ensures .0 ∙ at-wide .before .slots .ensures) (c .before .before .before .before .if2 .left) .0))
+    (λ c.
     let at-loop = c .before .before .before in
     let at-slots = at-loop .before .before .before .before .before in
     let at-store = at-slots .before .before .before .before .before in
     let at-slice-known2 = at-store .before .before .before .before .before in
-    omega (arith, next-low (at-slice-known2 .before .before .before .pre .1 .0 .1) (at-loop .before .before .before .before .wide .ensures .0 ∙ at-slots .slots .ensures) (at-loop .before .before .before .if2 .left) .0)
-
-search-search-requires : (t : ℕ) → search-lts.Need-search-requires (cs t) (search-at t) search′.Post search-Inv-loop search-μ-loop
-search-search-requires t c κs =
+    omega (arith, next-low (at-slice-known2 .before .before .before .pre .1 .0 .1) (at-loop .before .before .before .before .wide .ensures .0 ∙ at-slots .slots .ensures) (at-loop .before .before .before .if2 .left) .0))
+    (λ c κs.
     let at-choices = c .before .before .before .before in
     let at-if2 = at-choices .before .before in
     let at-slots = at-if2 .before .before in
@@ -140,26 +124,21 @@ search-search-requires t c κs =
     let w = at-entry .pre .1 .0 .1 in
     let en = (at-if2 .before .wide .ensures .0 ∙ at-slots .slots .ensures) in
     let set = searching-set w en (at-if2 .if2 .left) (at-choices .choices .ensures) (c .before .before .loop-test .taken) in
-    (omega (arith, at-entry .pre .0, next-low w en (at-if2 .if2 .left) .0), ((at-entry .pre .1 .0 .0, set), (at-entry .pre .1 .1 .0, c .before .before .before .loop .inv .ok)))
-
-search-same-length-7 : (t : ℕ) → search-lts.Need-same-length-7 (cs t) (search-at t) search′.Post search-Inv-loop search-μ-loop
-search-same-length-7 t c =
+    (omega (arith, at-entry .pre .0, next-low w en (at-if2 .if2 .left) .0), ((at-entry .pre .1 .0 .0, set), (at-entry .pre .1 .1 .0, c .before .before .before .loop .inv .ok))))
+    (λ c. search needs)
+    (λ c.
     let at-search = c .before .before .before .before .before in
     let at-loop = at-search .before .before .before .before in
     let at-if2 = at-loop .before .before .before in
     let at-if1 = at-if2 .before .before .before in
-    at-search .search .kept .1 .1 .1 .1 .0 ∙ at-loop .loop .inv .same-store ∙ at-if1 .before .before .before .before .before .refuted .kept .1 .1 .1 .1 .0
-
-search-same-length-8 : (t : ℕ) → search-lts.Need-same-length-8 (cs t) (search-at t) search′.Post search-Inv-loop search-μ-loop
-search-same-length-8 t c =
+    at-search .search .kept .1 .1 .1 .1 .0 ∙ at-loop .loop .inv .same-store ∙ at-if1 .before .before .before .before .before .refuted .kept .1 .1 .1 .1 .0)
+    (λ c.
     let at-search = c .before .before .before .before .before in
     let at-loop = at-search .before .before .before .before in
     let at-if2 = at-loop .before .before .before in
     let at-if1 = at-if2 .before .before .before in
-    at-search .search .kept .1 .1 .1 .1 .1 .0 ∙ at-loop .loop .inv .same-notes ∙ at-if1 .before .before .before .before .before .refuted .kept .1 .1 .1 .1 .1 .0
-
-search-returns-4 : (t : ℕ) → search-lts.Need-returns-4 (cs t) (search-at t) search′.Post search-Inv-loop search-μ-loop
-search-returns-4 t c =
+    at-search .search .kept .1 .1 .1 .1 .1 .0 ∙ at-loop .loop .inv .same-notes ∙ at-if1 .before .before .before .before .before .refuted .kept .1 .1 .1 .1 .1 .0)
+    (λ c.
     let at-search = c .before .before .before .before .before in
     let at-loop = at-search .before .before .before .before in
     let at-choices = at-loop .before in
@@ -171,25 +150,19 @@ search-returns-4 t c =
           let set = searching-set w en (at-if2 .if2 .left) (at-choices .choices .ensures) (at-search .before .before .before .loop-test .taken) in
           one-found w en (at-if2 .if2 .left) (at-choices .choices .ensures) (at-loop .loop .inv .tried sh w) (at-search .search .result .found) (at-search .search .result .choices) (other (at-search .search .result .found) Nothing (c .match .keys2) (λ z. omega arith) (λ z. omega arith)) (at-search .search .ensures .0 sh set),
       (at-search .search .ensures .1 .0, λ e. sym (at-store .before .refuted .kept .1 .1 .1 .1 .0) ∙ sym (at-loop .loop .inv .same-store) ∙ at-search .search .ensures .1 .1 e),
-    )
-
-search-add-c : (t : ℕ) → search-lts.Need-add-c (cs t) (search-at t) search′.Post search-Inv-loop search-μ-loop
-search-add-c t c =
+    ))
+    (λ c.
     let at-store2 = c .before .before .before .before .before in
     let at-loop-test = at-store2 .before .before .before .before in
     let at-wide = at-loop-test .before .before .before .before .before in
     let at-notes = at-wide .before .before .before .before in
     let at-p = at-notes .before .before .before .before in
     let at-shared-slice-known = at-p .before .before .before .before .before in
-    omega (arith, few-choices (at-shared-slice-known .before .pre .1 .0 .1) (at-wide .wide .ensures .0 ∙ at-wide .before .slots .ensures) (at-loop-test .before .before .before .before .if2 .left) (at-loop-test .before .before .choices .ensures), at-loop-test .loop-test .taken)
-
-search-loop-less : (t : ℕ) → search-lts.Need-loop-less (cs t) (search-at t) search′.Post search-Inv-loop search-μ-loop
-search-loop-less t c =
+    omega (arith, few-choices (at-shared-slice-known .before .pre .1 .0 .1) (at-wide .wide .ensures .0 ∙ at-wide .before .slots .ensures) (at-loop-test .before .before .before .before .if2 .left) (at-loop-test .before .before .choices .ensures), at-loop-test .loop-test .taken))
+    (λ c.
     let at-store2 = c .before .before .before .before .before in
-    omega (arith, at-store2 .before .before .before .before .loop-test .taken)
-
-search-loop-again : (t : ℕ) → search-lts.Need-loop-again (cs t) (search-at t) search′.Post search-Inv-loop search-μ-loop
-search-loop-again t c =
+    omega (arith, at-store2 .before .before .before .before .loop-test .taken))
+    (λ c.
     let at-store2 = c .before .before .before .before .before in
     let at-search = at-store2 .before in
     let at-loop-test = at-search .before .before .before in
@@ -205,31 +178,15 @@ search-loop-again t c =
       ok = at-search .search .ensures .1 .0;
       same-store = at-search .search .kept .1 .1 .1 .1 .0 ∙ at-loop .loop .inv .same-store;
       same-notes = at-search .search .kept .1 .1 .1 .1 .1 .0 ∙ at-loop .loop .inv .same-notes;
-    }
-
-search-same-length-9 : (t : ℕ) → search-lts.Need-same-length-9 (cs t) (search-at t) search′.Post search-Inv-loop search-μ-loop
-search-same-length-9 t c =
+    })
+    (λ c.
     let at-if2 = c .before .before .before .before in
     let at-if1 = at-if2 .before .before .before in
-    c .before .loop .inv .same-store ∙ at-if1 .before .before .before .before .before .refuted .kept .1 .1 .1 .1 .0
-
-search-same-length-10 : (t : ℕ) → search-lts.Need-same-length-10 (cs t) (search-at t) search′.Post search-Inv-loop search-μ-loop
-search-same-length-10 t c =
+    c .before .loop .inv .same-store ∙ at-if1 .before .before .before .before .before .refuted .kept .1 .1 .1 .1 .0)
+    (λ c.
     let at-if2 = c .before .before .before .before in
     let at-if1 = at-if2 .before .before .before in
-    c .before .loop .inv .same-notes ∙ at-if1 .before .before .before .before .before .refuted .kept .1 .1 .1 .1 .1 .0
-
-search-returns-5 : (t : ℕ) → search-lts.Need-returns-5 (cs t) (search-at t) search′.Post search-Inv-loop search-μ-loop
-search-returns-5 t c =
+    c .before .loop .inv .same-notes ∙ at-if1 .before .before .before .before .before .refuted .kept .1 .1 .1 .1 .1 .0)
+    (λ c.
     let at-wide = c .before .before .before .before .before in
-    (λ sh w. all-tried w (at-wide .wide .ensures .0 ∙ at-wide .before .slots .ensures) (c .before .before .before .before .if2 .left) (c .before .before .choices .ensures) (c .before .loop .inv .tried sh w) (c .loop-test .left), (c .before .loop .inv .ok, λ e. never (cc)))
-
-pub +search-spec : {M : Type 1} → statement M
-+search-spec = close μ-search λ t. search-lts.spec (cs t)
-    (search-at t) search′.Post search-Inv-loop search-μ-loop (search-refuted-requires t) (λ c. search needs)
-    (λ c. search needs) (search-returns t) (λ c κs. search needs) (λ c κs. search needs) (search-wanted-requires t)
-    (λ c κs. search needs) (λ c. search needs) (λ c. search needs) (search-returns-2 t) (λ c κs. search needs)
-    (λ c. search needs) (λ c. search needs) (search-returns-3 t) (search-cast-choices t) (search-choices-requires t)
-    (search-loop-holds t) (search-mul-q t) (search-array-write-q t) (search-add-search t) (search-search-requires t)
-    (λ c. search needs) (search-same-length-7 t) (search-same-length-8 t) (search-returns-4 t) (search-add-c t)
-    (search-loop-less t) (search-loop-again t) (search-same-length-9 t) (search-same-length-10 t) (search-returns-5 t)
+    (λ sh w. all-tried w (at-wide .wide .ensures .0 ∙ at-wide .before .slots .ensures) (c .before .before .before .before .if2 .left) (c .before .before .choices .ensures) (c .before .loop .inv .tried sh w) (c .loop-test .left), (c .before .loop .inv .ok, λ e. never (cc))))

@@ -47,17 +47,13 @@ refute-Inv-loop block log goal notes₀ p left i place end q₀ used₀ c₀ not
 abbrev refute-μ-loop : refute-lts.MeasureT-loop
 refute-μ-loop block log goal notes₀ p left i place end q₀ used₀ c₀ notes q used c = end - c
 
-refute-look-requires : (t : ℕ) → refute-lts.Need-look-requires (cs t) (refute-at t) refute.Post refute-Inv-loop refute-μ-loop
-refute-look-requires t c κs = c .before .before .before .pre .1
-
-refute-returns : (t : ℕ) → refute-lts.Need-returns (cs t) (refute-at t) refute.Post refute-Inv-loop refute-μ-loop
-refute-returns t c = c .told-of .ensures _ _ _ _ (c .before .before .before .before .look .ensures)
-
-refute-returns-2 : (t : ℕ) → refute-lts.Need-returns-2 (cs t) (refute-at t) refute.Post refute-Inv-loop refute-μ-loop
-refute-returns-2 t c = λ e. never (cc)
-
-refute-loop-holds : (t : ℕ) → refute-lts.Need-loop-holds (cs t) (refute-at t) refute.Post refute-Inv-loop refute-μ-loop
-refute-loop-holds t c =
+pub +refute-spec : {M : Type 1} → statement M
++refute-spec = close μ-refute λ t. refute-lts.spec (cs t)
+    (refute-at t) refute.Post refute-Inv-loop refute-μ-loop
+    (λ c κs. c .before .before .before .pre .1) (λ c. search needs) (λ c κs. search needs) (λ c. search needs)
+    (λ c. c .told-of .ensures _ _ _ _ (c .before .before .before .before .look .ensures)) (λ c κs. search needs)
+    (λ c κs. search needs) (λ c. search needs) (λ c. λ e. never (cc))
+    (λ c.
     let at-if1 = c .before in
     let at-halt = at-if1 .before .before .before in
     let at-look = at-halt .before .before .before .before in
@@ -70,57 +66,39 @@ refute-loop-holds t c =
       tried = tried-none;
       same = refl;
       child = λ v. refl;
-    }
-
-refute-array-write-q : (t : ℕ) → refute-lts.Need-array-write-q (cs t) (refute-at t) refute.Post refute-Inv-loop refute-μ-loop
-refute-array-write-q t c = omega (arith, c .wide .ensures, c .before .before .loop .inv .split .low)
-
-refute-sub-refute : (t : ℕ) → refute-lts.Need-sub-refute (cs t) (refute-at t) refute.Post refute-Inv-loop refute-μ-loop
-refute-sub-refute t c = omega (arith, c .before .before .before .before .loop .inv .split .some)
-
-refute-refute-requires : (t : ℕ) → refute-lts.Need-refute-requires (cs t) (refute-at t) refute.Post refute-Inv-loop refute-μ-loop
-refute-refute-requires t c κs =
+    })
+    (λ c κs. search needs) (λ c. search needs)
+    (λ c. omega (arith, c .wide .ensures, c .before .before .loop .inv .split .low))
+    (λ c. omega (arith, c .before .before .before .before .loop .inv .split .some))
+    (λ c κs.
     let at-wide = c .before .before in
     let at-loop = at-wide .before .before in
     let at-halt = at-loop .before .before .before .before .before in
     let at-look = at-halt .before .before .before .before in
     let s = at-look .before .before .before .before in
     let inv = at-loop .loop .inv in
-    (omega (arith, s .pre .0, inv .split .some), (s .pre .1 .0, rw (at-wide .wide .ensures .0) (stands-as (inv .child _) (stands-child _ _ _ (inv .split .free) (inv .stands)))))
-
-refute-is-final-requires : (t : ℕ) → refute-lts.Need-is-final-requires (cs t) (refute-at t) refute.Post refute-Inv-loop refute-μ-loop
-refute-is-final-requires t c κs =
-    let at-wide = c .before .before .before .before .before in
-    at-wide .before .before .loop .inv .split .low
-
-refute-same-length-3 : (t : ℕ) → refute-lts.Need-same-length-3 (cs t) (refute-at t) refute.Post refute-Inv-loop refute-μ-loop
-refute-same-length-3 t c =
+    (omega (arith, s .pre .0, inv .split .some), (s .pre .1 .0, rw (at-wide .wide .ensures .0) (stands-as (inv .child _) (stands-child _ _ _ (inv .split .free) (inv .stands))))))
+    (λ c κs. let at-wide = c .before .before .before .before .before in at-wide .before .before .loop .inv .split .low)
+    (λ c.
     let at-notes2 = c .before .before .before in
     let at-loop-test = at-notes2 .before .before .before .before .before in
     let at-loop = at-loop-test .before in
     let at-halt = at-loop .before .before .before .before .before in
-    omega (arith, at-notes2 .notes2 .given, at-loop .loop .inv .same, at-halt .before .before .before .notes .given)
-
-refute-returns-3 : (t : ℕ) → refute-lts.Need-returns-3 (cs t) (refute-at t) refute.Post refute-Inv-loop refute-μ-loop
-refute-returns-3 t c =
+    omega (arith, at-notes2 .notes2 .given, at-loop .loop .inv .same, at-halt .before .before .before .notes .given))
+    (λ c.
     let at-refute = c .before .before .before .before in
     let at-wide = at-refute .before .before .before in
     let at-loop = at-wide .before .before in
-    told-parent _ _ (at-loop .loop .c) (told-as (at-loop .loop .inv .child _) (rw (at-wide .wide .ensures .0) at (at-refute .refute .ensures))) (c .before .is-final .ensures .1 (c .if2 .taken))
-
-refute-add-c : (t : ℕ) → refute-lts.Need-add-c (cs t) (refute-at t) refute.Post refute-Inv-loop refute-μ-loop
-refute-add-c t c =
+    told-parent _ _ (at-loop .loop .c) (told-as (at-loop .loop .inv .child _) (rw (at-wide .wide .ensures .0) at (at-refute .refute .ensures))) (c .before .is-final .ensures .1 (c .if2 .taken)))
+    (λ c κs. search needs)
+    (λ c.
     let at-refute = c .before .before .before .before .before in
     let at-test = at-refute .before .before .before .before in
-    omega (arith, at-test .loop-test .taken, at-test .before .loop .inv .few)
-
-refute-loop-less : (t : ℕ) → refute-lts.Need-loop-less (cs t) (refute-at t) refute.Post refute-Inv-loop refute-μ-loop
-refute-loop-less t c =
+    omega (arith, at-test .loop-test .taken, at-test .before .loop .inv .few))
+    (λ c.
     let at-refute = c .before .before .before .before .before in
-    omega (arith, at-refute .before .before .before .before .loop-test .taken)
-
-refute-loop-again : (t : ℕ) → refute-lts.Need-loop-again (cs t) (refute-at t) refute.Post refute-Inv-loop refute-μ-loop
-refute-loop-again t c =
+    omega (arith, at-refute .before .before .before .before .loop-test .taken))
+    (λ c.
     let at-refute = c .before .before .before .before .before in
     let at-wide = at-refute .before .before .before in
     let at-loop = at-wide .before .before in
@@ -132,22 +110,9 @@ refute-loop-again t c =
       tried = tried-more (inv .split .free) (inv .tried) (told-as (inv .child _) (rw (at-wide .wide .ensures .0) at (at-refute .refute .ensures)) (c .before .before .is-final .ensures .0 (c .before .if2 .left))) (c .united .ensures);
       same = omega (arith, c .before .before .before .before .notes2 .given, inv .same);
       child = λ v. rw (at-wide .wide .ensures .0) (set-set (at-loop .loop .q) _ (at-loop .loop .c) v ∙ inv .child v);
-    }
-
-refute-same-length-4 : (t : ℕ) → refute-lts.Need-same-length-4 (cs t) (refute-at t) refute.Post refute-Inv-loop refute-μ-loop
-refute-same-length-4 t c =
+    })
+    (λ c.
     let at-if1 = c .before .before .before in
     let at-match = at-if1 .before .before .before .before in
-    omega (arith, c .before .loop .inv .same, at-match .before .before .notes .given)
-
-refute-returns-4 : (t : ℕ) → refute-lts.Need-returns-4 (cs t) (refute-at t) refute.Post refute-Inv-loop refute-μ-loop
-refute-returns-4 t c = λ e. tried-all (c .before .loop .inv .tried) (c .before .loop .inv .split) (c .loop-test .left)
-
-pub +refute-spec : {M : Type 1} → statement M
-+refute-spec = close μ-refute λ t. refute-lts.spec (cs t)
-    (refute-at t) refute.Post refute-Inv-loop refute-μ-loop (refute-look-requires t) (λ c. search needs)
-    (λ c κs. search needs) (λ c. search needs) (refute-returns t) (λ c κs. search needs) (λ c κs. search needs)
-    (λ c. search needs) (refute-returns-2 t) (refute-loop-holds t) (λ c κs. search needs) (λ c. search needs)
-    (refute-array-write-q t) (refute-sub-refute t) (refute-refute-requires t) (refute-is-final-requires t)
-    (refute-same-length-3 t) (refute-returns-3 t) (λ c κs. search needs) (refute-add-c t) (refute-loop-less t)
-    (refute-loop-again t) (refute-same-length-4 t) (refute-returns-4 t)
+    omega (arith, c .before .loop .inv .same, at-match .before .before .notes .given))
+    (λ c. λ e. tried-all (c .before .loop .inv .tried) (c .before .loop .inv .split) (c .loop-test .left))
