@@ -5,7 +5,7 @@ use Rattle.sheet.specs.declared.Reading.the-variants as answer
 use Rattle.sheet.specs.declared.Summary.{Summary}
 use Rattle.sheet.specs.Sheet.{Sheet}
 use Rattle.sheet.specs.Reading.{Reading, accepted, refused, reading, summaryOf}
-use Rattle.sheet.specs.Tables.{Tables, readAnswer, tablesOf, loadedOf}
+use Rattle.sheet.specs.Tables.{Tables, readAnswer, loadedOf}
 use Rattle.sheet.specs.laws.AcceptedLaw.{well-formed}
 use Rattle.block.specs.Tabled.{Read, Tabled, Loads}
 

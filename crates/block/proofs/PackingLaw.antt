@@ -1,6 +1,6 @@
 -- Filling the block, cell by cell.
 use Rattle.lists.specs.Proving.{arith, ℕ, _+_, _<_, _≤_, _≡_, refl, sym, _∙_, subst, _⊎_, inl, inr, List, length, set, length-set, getD-set-same, getD-set-other, below-more}
-use Rattle.block.specs.Packing.{Filled, Located}
+use Rattle.block.specs.Packing.{Filled}
 
 pub fill-none : {m : List ℕ} (base size : ℕ) (Right : ℕ → ℕ → Type 0) → length m ≡ 1620 → Filled m m base size 0 Right
 fill-none base size Right l = record { low = omega arith; long = l; same = λ k h. absurd (omega arith); others = λ j h. refl }
@@ -21,10 +21,3 @@ fill-more {old} {new} {base} {size} {n} {Right} v fits f l ok = record {
 
 pub fill-all : {old new : List ℕ} {base size n : ℕ} {Right : ℕ → ℕ → Type 0} → Filled old new base size n Right → size ≤ n → Filled old new base size size Right
 fill-all f l = record { low = omega arith; long = f .long; same = λ k h. f .same k (omega arith); others = f .others }
-
-pub located-none : {m : List ℕ} → length m ≡ 1620 → Located m m
-located-none l = record { long = l; others = λ j h. refl }
-
-pub located-more : {old new : List ℕ} (at v : ℕ) → 1588 ≤ at → Located old new → Located old (set new at v)
-located-more {old} {new} at v l f = record
-    { long = length-set new at v ∙ f .long; others = λ j h. getD-set-other new at j v 0 (λ s. omega (arith, s, h)) ∙ f .others j h }

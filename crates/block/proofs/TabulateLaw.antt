@@ -13,7 +13,7 @@ use Rattle.model.specs.Mutant.{slots, startSlot}
 use Rattle.model.specs.laws.SuspectLaw.{slot-count}
 use Rattle.block.specs.declared.sites.Sites.{Sites}
 use Rattle.block.specs.Sites.{wakingFirst, openChoices, Numbered}
-use Rattle.block.specs.Packing.{Copied, FirstCopied, ChoicesCopied, WakingsCopied, Located}
+use Rattle.block.specs.Packing.{Copied, FirstCopied, ChoicesCopied}
 use Rattle.block.specs.Tabled.{Read, Tabled}
 use Rattle.block.specs.laws.TabledLaw.{getD-default, first-less, slot-few, slot-some}
 use Rattle.block.proofs.SlotLaw.{Sited, first, few-slots, sited}
@@ -59,10 +59,11 @@ module _ {sh : Sheet} {size : Summary} {tables : Tables} (rd : Read sh size tabl
   few = rw (en ∙ states-are, ek ∙ inputs-are, first-are) (rd .formed .size .states .few, few-slots sh (rd .formed) (tables .choices) choices-are)
 
   -- all of it, in the order of the code
-  module _ {m₀ m₁ m₂ m₃ m₄ m₅ m₆ m₇ m₈ m₉ : List ℕ} (r : Sites) (num : Numbered (wakingFirst (tables .waking)) n k (tables .choices) r) (site : ℕ) (waked : site ≡ cond (ltb 1 (tables .waking)) 0 255)
-      (a : Copied m₀ m₁ 0 (tables .output) 256) (b : Copied m₁ m₂ 256 (tables .target) 256) (c : FirstCopied m₂ m₃ (tables .first) 256)
-      (d : Copied m₃ m₄ 768 (tables .mutated) 256) (e : Copied m₄ m₅ 1024 (tables .diverted) 256) (f : ChoicesCopied m₅ m₆ (r .slots) 32)
-      (g : Copied m₆ m₇ 1315 (r .site) 256) (h : WakingsCopied m₇ m₈ (tables .wakings) 16) (i : Located m₈ m₉) where
+  module _ {m₀ m₁ m₂ m₃ m₄ m₅ m₆ m₇ m₈ m₉ : List ℕ} (r : Sites) (lo : length (tables .output) ≡ 256) (lt : length (tables .target) ≡ 256) (lm : length (tables .mutated) ≡ 256) (ld : length (tables .diverted) ≡ 256) (ls : length (r .site) ≡ 256) (lw : length (tables .wakings) ≡ 16)
+      (num : Numbered (wakingFirst (tables .waking)) n k (tables .choices) r) (site : ℕ) (waked : site ≡ cond (ltb 1 (tables .waking)) 0 255)
+      (a : Copied m₀ m₁ 0 (tables .output) (length (tables .output))) (b : Copied m₁ m₂ 256 (tables .target) (length (tables .target))) (c : FirstCopied m₂ m₃ (tables .first) 256)
+      (d : Copied m₃ m₄ 768 (tables .mutated) (length (tables .mutated))) (e : Copied m₄ m₅ 1024 (tables .diverted) (length (tables .diverted))) (f : ChoicesCopied m₅ m₆ (r .slots) 32)
+      (g : Copied m₆ m₇ 1315 (r .site) (length (r .site))) (h : Copied m₇ m₈ 1572 (tables .wakings) (length (tables .wakings))) (i : Copied m₈ m₉ 1588 (r .pairs) (length (r .pairs))) where
     abbrev sized : List ℕ
     sized = set (set (set m₉ 1312 (size .states)) 1313 (size .inputs)) 1314 (r .count)
 
@@ -81,7 +82,7 @@ module _ {sh : Sheet} {size : Summary} {tables : Tables} (rd : Read sh size tabl
         out t lt s = ⊎-elim (λ x. omega (arith, s, x)) (λ x. omega (arith, s, x, lt)) l
 
     from₈ : (j : ℕ) → (j < 1312) ⊎ (1315 ≤ j) → (j ≡ 1571 → ⊥) → j < 1588 → getD end j 0 ≡ getD m₈ j 0
-    from₈ j l n h = from₉ j l n ∙ i .others j h
+    from₈ j l n h = from₉ j l n ∙ i .others j (inl h)
 
     from₇ : (j : ℕ) → (j < 1312) ⊎ (1315 ≤ j) → j < 1571 → getD end j 0 ≡ getD m₇ j 0
     from₇ j l k = from₈ j l (λ s. omega (arith, s, k)) (omega (arith, k)) ∙ h .others j (inl (omega (arith, k)))
@@ -116,14 +117,14 @@ module _ {sh : Sheet} {size : Summary} {tables : Tables} (rd : Read sh size tabl
     tabled =
         record {
           formed = rd .formed;
-          outputs = λ j l. let z : 0 + j ≡ j = omega arith in from₁ j l ∙ rw z at (a .same j l) ∙ rw (rd .tabled) (table-at _ j l);
-          targets = λ j l. from₂ (256 + j) (omega arith) ∙ b .same j l ∙ rw (rd .tabled) (table-at _ j l);
-          sites = λ j l. from₇ (1315 + j) (inr (omega arith)) (omega arith) ∙ g .same j l ∙ numbers .placed j l;
+          outputs = λ j l. let z : 0 + j ≡ j = omega arith in from₁ j l ∙ rw z at (a .same j (rw lo l)) ∙ rw (rd .tabled) (table-at _ j l);
+          targets = λ j l. from₂ (256 + j) (omega arith) ∙ b .same j (rw lt l) ∙ rw (rd .tabled) (table-at _ j l);
+          sites = λ j l. from₇ (1315 + j) (inr (omega arith)) (omega arith) ∙ g .same j (rw ls l) ∙ numbers .placed j l;
           firsts = λ j l.
               let is : getD (tables .first) j 0 ≡ firstFault (sh .faults) (j / 16) (j % 16) = rw (rd .tabled) (table-at _ j l) in
               from₃ (512 + j) (omega arith) ∙ c .same j l (rw is (first-less sh (rd .formed) (j / 16) (j % 16))) ∙ is;
-          fault-outputs = λ j l. from₄ (768 + j) (omega arith) ∙ d .same j l ∙ rw (rd .tabled) (table-at _ j l);
-          fault-targets = λ j l. from₅ (1024 + j) (omega arith) ∙ e .same j l ∙ rw (rd .tabled) (table-at _ j l);
+          fault-outputs = λ j l. from₄ (768 + j) (omega arith) ∙ d .same j (rw lm l) ∙ rw (rd .tabled) (table-at _ j l);
+          fault-targets = λ j l. from₅ (1024 + j) (omega arith) ∙ e .same j (rw ld l) ∙ rw (rd .tabled) (table-at _ j l);
           choices = λ j l.
               let is : getD (r .slots) j 0 ≡ getD (slots sh) j 1 = rw (numbers .sizes) (slots-at (slots sh) j (omega (arith, slot-count sh, rd .formed .few-open)) l) in
               ap (λ (v : ℕ). v + 1) (from₆ (1280 + j) (omega arith)) ∙ f .same j l (rw is (slot-some sh (rd .formed) j)) (rw is (slot-few sh (rd .formed) j)) ∙ is;
@@ -141,5 +142,5 @@ module _ {sh : Sheet} {size : Summary} {tables : Tables} (rd : Read sh size tabl
               ∙ getD-set-same (set (set m₉ 1312 (size .states)) 1313 (size .inputs)) 1314 (r .count) 0 (simp length-set (omega (arith, i .long)))
               ∙ numbers .many;
           waking-site = getD-set-same sized 1571 site 0 (simp length-set (omega (arith, i .long))) ∙ waked ∙ rw waking-are (site-of (ltb 1 (wakingChoices sh)));
-          wakings = λ j l. from₈ (1572 + j) (inr (omega arith)) (λ s. omega (arith, s)) (omega arith) ∙ h .same j l ∙ rw (rd .tabled) (wakings-at sh j l);
+          wakings = λ j l. from₈ (1572 + j) (inr (omega arith)) (λ s. omega (arith, s)) (omega arith) ∙ h .same j (rw lw l) ∙ rw (rd .tabled) (wakings-at sh j l);
         }

@@ -13,18 +13,10 @@ pub record Filled (old new : List ℕ) (base size n : ℕ) (Right : ℕ → ℕ 
   pub others : (j : ℕ) → (j < base) ⊎ (base + size ≤ j) → getD new j 0 ≡ getD old j 0
 
 abbrev pub Copied : List ℕ → List ℕ → ℕ → List ℕ → ℕ → Type 0
-Copied old new base from n = Filled old new base 256 n (λ k v. v ≡ getD from k 0)
+Copied old new base from n = Filled old new base (length from) n (λ k v. v ≡ getD from k 0)
 
 abbrev pub FirstCopied : List ℕ → List ℕ → List ℕ → ℕ → Type 0
 FirstCopied old new first n = Filled old new 512 256 n (λ k v. getD first k 0 < 256 → v ≡ getD first k 0)
 
 abbrev pub ChoicesCopied : List ℕ → List ℕ → List ℕ → ℕ → Type 0
 ChoicesCopied old new choices n = Filled old new 1280 32 n (λ i v. 1 ≤ getD choices i 0 → getD choices i 0 ≤ 256 → v + 1 ≡ getD choices i 0)
-
-abbrev pub WakingsCopied : List ℕ → List ℕ → List ℕ → ℕ → Type 0
-WakingsCopied old new states n = Filled old new 1572 16 n (λ c v. v ≡ getD states c 0)
-
--- the pairs of the suspects are kept past the other tables
-pub record Located (old new : List ℕ) : Type 0 where
-  pub long : length new ≡ 1620
-  pub others : (j : ℕ) → j < 1588 → getD new j 0 ≡ getD old j 0

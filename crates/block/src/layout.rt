@@ -9,6 +9,8 @@ ghost use Rattle.block.specs.Tabulated.{Wf, StepIs, choicesAt, chosen, s
 // How many bytes the block has, and where its tables stand in it (specs/Layout.antt).
 pub const BLOCK: usize = 1620;
 
+pub type Block = [u8; BLOCK];
+
 pub(crate) const TARGETS: usize = 256;
 
 pub(crate) const FIRST_FAULTS: usize = 512;
@@ -52,6 +54,19 @@ pub fn wide32(x: u16) -> u32
     x as u32
 }
 
+// The input and the output of an observation.
+pub fn input_of(v: u16) -> u8
+    ensures { λ r. ⌜ (r ≡ v / 16 % 16) × (r < 16) ⌝ }
+{
+    (v / 16 % 16) as u8
+}
+
+pub fn output_of(v: u16) -> u8
+    ensures { λ r. ⌜ (r ≡ v % 16) × (r < 16) ⌝ }
+{
+    (v % 16) as u8
+}
+
 // The place of a state and an input, or of two states.
 pub fn place(s: u8, x: u8) -> usize
     requires { ⌜ (s < 16) × (x < 16) ⌝ }
@@ -67,7 +82,7 @@ pub fn some_place(s: u8, x: u8) -> usize
     ((s % 16) as usize) * 16 + ((x % 16) as usize)
 }
 
-pub fn rule_output(block: &[u8; BLOCK], k: usize) -> u8
+pub fn rule_output(block: &Block, k: usize) -> u8
     requires { ⌜ k < 256 ⌝ }
     ensures { λ r. ⌜ r ≡ ruleOutput (now (block .entry)) k ⌝ }
 {
@@ -75,7 +90,7 @@ pub fn rule_output(block: &[u8; BLOCK], k: usize) -> u8
 }
 
 // The rule's next state, 255 where there is no rule.
-pub fn rule_target(block: &[u8; BLOCK], k: usize) -> u8
+pub fn rule_target(block: &Block, k: usize) -> u8
     requires { ⌜ k < 256 ⌝ }
     ensures { λ r. ⌜ r ≡ ruleTarget (now (block .entry)) k ⌝ }
 {
@@ -83,7 +98,7 @@ pub fn rule_target(block: &[u8; BLOCK], k: usize) -> u8
 }
 
 // Which suspect a pair is, 255 for none.
-pub fn site(block: &[u8; BLOCK], k: usize) -> u8
+pub fn site(block: &Block, k: usize) -> u8
     requires { ⌜ k < 257 ⌝ }
     ensures { λ r. ⌜ r ≡ siteAt (now (block .entry)) k ⌝ }
 {
@@ -97,34 +112,34 @@ fn more(x: u8) -> u16
 }
 
 // How many choices a suspect has.
-pub fn choices(block: &[u8; BLOCK], i: u8) -> u16
+pub fn choices(block: &Block, i: u8) -> u16
     requires { ⌜ i < 32 ⌝ }
     ensures { λ r. ⌜ r ≡ choicesOf (now (block .entry)) i ⌝ }
 {
     more(block[CHOICES + wide(i)])
 }
 
-pub fn states(block: &[u8; BLOCK]) -> u8
+pub fn states(block: &Block) -> u8
     ensures { λ r. ⌜ r ≡ statesOf (now (block .entry)) ⌝ }
 {
     block[STATES]
 }
 
-pub fn inputs(block: &[u8; BLOCK]) -> u8
+pub fn inputs(block: &Block) -> u8
     ensures { λ r. ⌜ r ≡ inputsOf (now (block .entry)) ⌝ }
 {
     block[INPUTS]
 }
 
 // How many choices a mutant has (01: the length of a board).
-pub fn slots(block: &[u8; BLOCK]) -> u8
+pub fn slots(block: &Block) -> u8
     ensures { λ r. ⌜ r ≡ slotsOf (now (block .entry)) ⌝ }
 {
     block[SLOTS]
 }
 
 // The pair of a suspect. That it is the right one is not promised: who relies on it asks `site`.
-pub fn pair_of(block: &[u8; BLOCK], i: u8) -> usize
+pub fn pair_of(block: &Block, i: u8) -> usize
     requires { ⌜ i < 32 ⌝ }
     ensures { λ r. ⌜ r < 257 ⌝ }
 {
@@ -139,21 +154,21 @@ pub struct Step {
     pub target: u8,
 }
 
+// What is answered where there is no such choice.
+const IDLE: Step = Step {
+    output: 0,
+    target: 0,
+};
+
 // Choice c of a suspect without a rule.
 fn unruled(states: u8, c: u16) -> Step
     ensures { λ r. ⌜ (1 ≤ states → c < 256 → (r .output ≡ c / states) × (r .target ≡ c % states)) ⌝ }
 {
     if states == 0 {
-        return Step {
-            output: 0,
-            target: 0,
-        };
+        return IDLE;
     }
     if c >= 256 {
-        return Step {
-            output: 0,
-            target: 0,
-        };
+        return IDLE;
     }
     let n = states as u16;
     Step {
@@ -167,21 +182,15 @@ fn stay(states: u8, k: usize) -> Step
     requires { ⌜ k < 256 ⌝ }
     ensures { λ r. ⌜ (r .output ≡ 0) × (r .target ≡ cond (ltb (k / 16) states) (k / 16) 0) ⌝ }
 {
-    let s = (k / 16) as u8;
-    if s < states {
-        return Step {
-            output: 0,
-            target: s,
-        };
+    let target = (k / 16) as u8;
+    if target < states {
+        return Step { output: 0, target };
     }
-    Step {
-        output: 0,
-        target: 0,
-    }
+    IDLE
 }
 
 // Choice c of the pair k, where it has no rule: any transition if it is a suspect, else it stays (02: QUIET).
-fn unspecified(block: &[u8; BLOCK], k: usize, c: u16) -> Step
+fn unspecified(block: &Block, k: usize, c: u16) -> Step
     requires { ⌜ k < 256 ⌝ }
     ensures { λ r. ⌜ (ruleTarget (now (block .entry)) k ≡ 255 → StepIs (now (block .entry)) k c r) ⌝ }
 {
@@ -192,23 +201,18 @@ fn unspecified(block: &[u8; BLOCK], k: usize, c: u16) -> Step
 }
 
 // The transition of choice c into the waking state.
-fn wake(block: &[u8; BLOCK], c: u16) -> Step
+fn wake(block: &Block, c: u16) -> Step
     ensures { λ r. ⌜ (r .output ≡ 0) × (c < 16 → r .target ≡ wakeAt (now (block .entry)) c) ⌝ }
 {
     if c >= 16 {
-        return Step {
-            output: 0,
-            target: 0,
-        };
+        return IDLE;
     }
-    Step {
-        output: 0,
-        target: block[WAKES + wide16(c)],
-    }
+    let target = block[WAKES + wide16(c)];
+    Step { output: 0, target }
 }
 
 // The transition of choice c at the pair k. Any number c is taken, as guesses may name one that there is not.
-pub fn transition(block: &[u8; BLOCK], k: usize, c: u16) -> Step
+pub fn transition(block: &Block, k: usize, c: u16) -> Step
     requires { ⌜ k < 257 ⌝ }
     ensures { λ r. ⌜ StepIs (now (block .entry)) k c r ⌝ }
 {
@@ -220,17 +224,12 @@ pub fn transition(block: &[u8; BLOCK], k: usize, c: u16) -> Step
         return unspecified(block, k, c);
     }
     if c == 0 {
-        return Step {
-            output: rule_output(block, k),
-            target,
-        };
+        let output = rule_output(block, k);
+        return Step { output, target };
     }
     let f = wide(block[FIRST_FAULTS + k]) + wide16(c) - 1;
     if f >= 256 {
-        return Step {
-            output: 0,
-            target: 0,
-        };
+        return IDLE;
     }
     Step {
         output: block[MUTATED + f],
@@ -239,7 +238,7 @@ pub fn transition(block: &[u8; BLOCK], k: usize, c: u16) -> Step
 }
 
 // The choice of p at a pair, 0 where it is no suspect.
-pub fn choice_at(block: &[u8; BLOCK], p: &[u16; 32], k: usize) -> u16
+pub fn choice_at(block: &Block, p: &[u16; 32], k: usize) -> u16
     requires { ⌜ Wf (now block) × (k < 257) ⌝ }
     ensures { λ r. ⌜ r ≡ chosen (now (block .entry)) (now (p .entry)) k ⌝ }
 {
@@ -251,7 +250,7 @@ pub fn choice_at(block: &[u8; BLOCK], p: &[u16; 32], k: usize) -> u16
 }
 
 // The state of the mutant with the choices p after a reset.
-pub fn initial(block: &[u8; BLOCK], p: &[u16; 32]) -> u8
+pub fn initial(block: &Block, p: &[u16; 32]) -> u8
     requires { ⌜ Wf (now block) ⌝ }
     ensures { λ r. ⌜ (chosen (now (block .entry)) (now (p .entry)) waking < choicesAt (now (block .entry)) waking → r ≡ startOf (now (block .entry)) (now (p .entry))) ⌝ }
 {

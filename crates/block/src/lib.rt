@@ -6,12 +6,15 @@ mod packing;
 mod sites;
 
 pub use layout::BLOCK;
+pub use layout::Block;
 pub use layout::Step;
 pub use layout::WAKING;
 pub use layout::choice_at;
 pub use layout::choices;
 pub use layout::initial;
+pub use layout::input_of;
 pub use layout::inputs;
+pub use layout::output_of;
 pub use layout::pair_of;
 pub use layout::place;
 pub use layout::rule_output;

@@ -8,22 +8,9 @@ ghost use lib.ListN.{length};
 ghost use Rattle.sheet.specs.Sheet.{Sheet};
 ghost use Rattle.sheet.specs.Reading.{reading, accepted};
 ghost use Rattle.sheet.specs.Tables.{readAnswer, tablesIn};
-ghost use Rattle.block.specs.Packing.{Copied, FirstCopied, ChoicesCopied, WakingsCopied, Located};
+ghost use Rattle.block.specs.Packing.{Copied, FirstCopied, ChoicesCopied};
 ghost use Rattle.block.specs.Tabled.{Read, Tabled, Loads};
-use crate::layout::BLOCK;
-use crate::layout::CHOICES;
-use crate::layout::DIVERTED;
-use crate::layout::FIRST_FAULTS;
-use crate::layout::INPUTS;
-use crate::layout::MUTATED;
-use crate::layout::PAIRS;
-use crate::layout::SITES;
-use crate::layout::SLOTS;
-use crate::layout::STATES;
-use crate::layout::TARGETS;
-use crate::layout::WAKES;
-use crate::layout::WAKING;
-use crate::layout::wide;
+use crate::layout::*;
 use crate::sites::number;
 use sheet::Loaded;
 use sheet::Reading;
@@ -49,17 +36,19 @@ fn last(x: u16) -> u8
     narrow(x - 1)
 }
 
-fn copy(block: &mut [u8; BLOCK], base: usize, from: &[u8; 256])
-    requires { ⌜ (length (now block) ≡ 1620) × (base ≤ 1315) ⌝ }
-    ensures { λ r. ⌜ Copied (now (block .entry)) (now (block .exit)) base (now (from .entry)) 256 ⌝ }
+// Copies bytes into the block from a place on.
+fn copy(block: &mut Block, base: usize, from: &[u8])
+    requires { ⌜ (length (now block) ≡ 1620) × (base + length (now from) ≤ 1620) ⌝ }
+    ensures { λ r. ⌜ Copied (now (block .entry)) (now (block .exit)) base (now (from .entry)) (length (now (from .entry))) ⌝ }
 {
-    for k in 0..256 {
+    let end = from.len();
+    for k in 0..end {
         let x = from[k];
         block[base + k] = x;
     }
 }
 
-fn copy_first(block: &mut [u8; BLOCK], first: &[u16; 256])
+fn copy_first(block: &mut Block, first: &[u16; 256])
     requires { ⌜ length (now block) ≡ 1620 ⌝ }
     ensures { λ r. ⌜ FirstCopied (now (block .entry)) (now (block .exit)) (now (first .entry)) 256 ⌝ }
 {
@@ -69,35 +58,13 @@ fn copy_first(block: &mut [u8; BLOCK], first: &[u16; 256])
     }
 }
 
-fn copy_choices(block: &mut [u8; BLOCK], choices: &[u16; 32])
+fn copy_choices(block: &mut Block, choices: &[u16; 32])
     requires { ⌜ length (now block) ≡ 1620 ⌝ }
     ensures { λ r. ⌜ ChoicesCopied (now (block .entry)) (now (block .exit)) (now (choices .entry)) 32 ⌝ }
 {
     for i in 0..32 {
         let x = last(choices[i]);
         block[CHOICES + i] = x;
-    }
-}
-
-// The waking states by choice.
-fn copy_wakings(block: &mut [u8; BLOCK], states: &[u8; 16])
-    requires { ⌜ length (now block) ≡ 1620 ⌝ }
-    ensures { λ r. ⌜ WakingsCopied (now (block .entry)) (now (block .exit)) (now (states .entry)) 16 ⌝ }
-{
-    for c in 0..16 {
-        let t = states[c];
-        block[WAKES + c] = t;
-    }
-}
-
-// The pair of each suspect.
-fn locate(block: &mut [u8; BLOCK], pairs: &[u8; 32])
-    requires { ⌜ length (now block) ≡ 1620 ⌝ }
-    ensures { λ r. ⌜ Located (now (block .entry)) (now (block .exit)) ⌝ }
-{
-    for i in 0..32 {
-        let k = pairs[i];
-        block[PAIRS + i] = k;
     }
 }
 
@@ -112,7 +79,7 @@ fn waking_site(waking: u8) -> u8
 }
 
 // A block to be filled.
-pub fn fresh() -> [u8; BLOCK]
+pub fn fresh() -> Block
     ensures { λ r. ⌜ length r ≡ 1620 ⌝ }
 {
     [0u8; BLOCK]
@@ -128,7 +95,7 @@ fn tabulate<'a>(
     first: &'a [u16; 256],
     mutated: &'a [u8; 256],
     diverted: &'a [u8; 256],
-    block: &mut [u8; BLOCK],
+    block: &mut Block,
 )
     requires { ⌜ length (now block) ≡ 1620 ⌝ }
     requires { ⌜ ((sh : Sheet) × (starts : List ℕ) × (lengths : List ℕ) × Read sh size (tablesIn loaded (now output) (now target) (now choices) (now first) (now mutated) (now diverted) starts lengths)) ⌝ }
@@ -145,8 +112,8 @@ fn tabulate<'a>(
     copy(block, DIVERTED, diverted);
     copy_choices(block, &sites.slots);
     copy(block, SITES, &sites.site);
-    copy_wakings(block, &loaded.wakings);
-    locate(block, &sites.pairs);
+    copy(block, WAKES, &loaded.wakings);
+    copy(block, PAIRS, &sites.pairs);
     block[STATES] = size.states;
     block[INPUTS] = size.inputs;
     block[SLOTS] = sites.count;
@@ -156,7 +123,7 @@ fn tabulate<'a>(
 // Reads a sheet. The tables of an accepted one are then in the block; and by test, where its PRESS commands start, and how many they are.
 pub fn load(
     sheet: &[u8],
-    block: &mut [u8; BLOCK],
+    block: &mut Block,
     starts: &mut [u16; 256],
     lengths: &mut [u16; 256],
 ) -> Reading

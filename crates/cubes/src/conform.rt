@@ -1,27 +1,26 @@
 // Whether a set of pairs of states is closed under a cube without a wrong output: then every mutant in the cube conforms.
+use crate::literals::Cube;
 use crate::literals::going;
 use crate::literals::sounds;
 use crate::starts::starts;
-use crate::tables::FACTS;
+use crate::tables::Facts;
+use crate::words::Sets;
 use crate::words::holds;
 use crate::words::within;
-use block::BLOCK;
-use block::place;
-use block::states;
-use block::wide;
+use block::*;
 ghost use mathlib.Core.Path.{_≡_};
 ghost use mathlib.Core.Bool.{true};
 ghost use Prim.Native.Nat.{_<_};
-ghost use Rattle.block.specs.Layout.{pair, siteAt, statesOf, inputsOf};
+ghost use Rattle.block.specs.Layout.{siteAt, statesOf, inputsOf};
 ghost use Rattle.block.specs.Tabulated.{Wf};
 ghost use Rattle.cubes.specs.Cube.{In, Given, LoneOk, FreedOk, CellOk, RowOk, LineOk, AllConform};
 
 // A pair that is no suspect: its output is o, and its next state is in the row.
-fn lone(block: &[u8; BLOCK], k: usize, o: u8, row: u16) -> bool
+fn lone(block: &Block, k: usize, o: u8, row: u16) -> bool
     requires { ⌜ Wf (now block) × (k < 256) × (siteAt (now block) k ≡ 255) ⌝ }
     ensures { λ r. ⌜ (r ≡ true → LoneOk (now (block .entry)) k o row) ⌝ }
 {
-    let step = block::transition(block, k, 0);
+    let step = transition(block, k, 0);
     if step.output != o {
         return false;
     }
@@ -29,7 +28,7 @@ fn lone(block: &[u8; BLOCK], k: usize, o: u8, row: u16) -> bool
 }
 
 // A suspect: every choice that the literal means has the output o, and its next state is in the row.
-fn freed(facts: &[u16; FACTS], l: u32, i: u8, o: u8, row: u16) -> bool
+fn freed(facts: &Facts, l: u32, i: u8, o: u8, row: u16) -> bool
     requires { ⌜ i < 32 ⌝ }
     ensures { λ r. ⌜ (r ≡ true → FreedOk (now (facts .entry)) l i o row) ⌝ }
 {
@@ -43,27 +42,19 @@ fn freed(facts: &[u16; FACTS], l: u32, i: u8, o: u8, row: u16) -> bool
 }
 
 // One input at a pair of states.
-fn cell_closed(
-    block: &[u8; BLOCK],
-    facts: &[u16; FACTS],
-    cube: &[u32; 32],
-    pairs: &[u16; 16],
-    a: u8,
-    b: u8,
-    x: u8,
-) -> bool
+fn cell_closed(block: &Block, facts: &Facts, cube: &Cube, pairs: &Sets, a: u8, b: u8, x: u8) -> bool
     requires { ⌜ Given (now block) (now facts) × (a < 16) × (b < statesOf (now block)) × (x < inputsOf (now block)) ⌝ }
     ensures { λ r. ⌜ (r ≡ true → CellOk (now (block .entry)) (In (now (block .entry)) (now (cube .entry))) (now (pairs .entry)) a b x) ⌝ }
 {
     let k = place(a, x);
-    let next = block::rule_target(block, k);
+    let next = rule_target(block, k);
     if next == 255 {
         return true;
     }
-    let o = block::rule_output(block, k);
+    let o = rule_output(block, k);
     let row = pairs[wide(next)];
     let at = place(b, x);
-    let i = block::site(block, at);
+    let i = site(block, at);
     if i == 255 {
         return lone(block, at, o, row);
     }
@@ -72,14 +63,7 @@ fn cell_closed(
 }
 
 // Every input at a pair of states, if it is in the set.
-fn row_closed(
-    block: &[u8; BLOCK],
-    facts: &[u16; FACTS],
-    cube: &[u32; 32],
-    pairs: &[u16; 16],
-    a: u8,
-    b: u8,
-) -> bool
+fn row_closed(block: &Block, facts: &Facts, cube: &Cube, pairs: &Sets, a: u8, b: u8) -> bool
     requires { ⌜ Given (now block) (now facts) × (a < 16) × (b < statesOf (now block)) ⌝ }
     ensures { λ r. ⌜ (r ≡ true → RowOk (now (block .entry)) (In (now (block .entry)) (now (cube .entry))) (now (pairs .entry)) a b) ⌝ }
 {
@@ -87,7 +71,7 @@ fn row_closed(
     if !holds(row, b) {
         return true;
     }
-    let end = block::inputs(block);
+    let end = inputs(block);
     for x in 0..end {
         if !cell_closed(block, facts, cube, pairs, a, b, x) {
             return false;
@@ -97,13 +81,7 @@ fn row_closed(
 }
 
 // Every state of the mutant beside a state of the specification.
-fn line_closed(
-    block: &[u8; BLOCK],
-    facts: &[u16; FACTS],
-    cube: &[u32; 32],
-    pairs: &[u16; 16],
-    a: u8,
-) -> bool
+fn line_closed(block: &Block, facts: &Facts, cube: &Cube, pairs: &Sets, a: u8) -> bool
     requires { ⌜ Given (now block) (now facts) × (a < 16) ⌝ }
     ensures { λ r. ⌜ (r ≡ true → LineOk (now (block .entry)) (In (now (block .entry)) (now (cube .entry))) (now (pairs .entry)) a) ⌝ }
 {
@@ -117,12 +95,7 @@ fn line_closed(
 }
 
 // Whether the pairs of states have every start and are closed under the cube without a wrong output.
-pub fn closed(
-    block: &[u8; BLOCK],
-    facts: &[u16; FACTS],
-    cube: &[u32; 32],
-    pairs: &[u16; 16],
-) -> bool
+pub fn closed(block: &Block, facts: &Facts, cube: &Cube, pairs: &Sets) -> bool
     requires { ⌜ Given (now block) (now facts) ⌝ }
     ensures { λ r. ⌜ (r ≡ true → AllConform (now (block .entry)) (now (cube .entry))) ⌝ }
 {

@@ -1,14 +1,17 @@
 // Literals: which transitions of a suspect are meant. 4294967295: every one; else an output and a set of next states.
-use crate::tables::FACTS;
+use crate::tables::Facts;
 use crate::tables::OUTPUTS;
 use crate::words::holds;
 use crate::words::one;
 use crate::words::shared;
-use block::wide;
+use block::*;
 ghost use mathlib.Core.Path.{_≡_};
 ghost use mathlib.Core.Bool.{true};
 ghost use Prim.Native.Nat.{_<_, _/_, _%_};
 ghost use Rattle.cubes.specs.Cube.{MeansStep, GoingOk, SoundsOk, BothOk};
+
+// By suspect its literal.
+pub type Cube = [u32; 32];
 
 pub fn lit_out(l: u32) -> usize
     ensures { λ r. ⌜ r ≡ l / 65536 ⌝ }
@@ -37,7 +40,7 @@ pub fn means(l: u32, o: u8, t: u8) -> bool
 }
 
 // Where the choices of suspect i that the literal means and that have the output o lead.
-pub fn going(facts: &[u16; FACTS], l: u32, i: u8, o: u8) -> u16
+pub fn going(facts: &Facts, l: u32, i: u8, o: u8) -> u16
     requires { ⌜ (i < 32) × (o < 16) ⌝ }
     ensures { λ r. ⌜ GoingOk (now (facts .entry)) l i o r ⌝ }
 {
@@ -53,7 +56,7 @@ pub fn going(facts: &[u16; FACTS], l: u32, i: u8, o: u8) -> u16
 }
 
 // Whether every choice of suspect i that the literal means has the output o.
-pub fn sounds(facts: &[u16; FACTS], l: u32, i: u8, o: u8) -> bool
+pub fn sounds(facts: &Facts, l: u32, i: u8, o: u8) -> bool
     requires { ⌜ (i < 32) × (o < 16) ⌝ }
     ensures { λ r. ⌜ (r ≡ true → SoundsOk (now (facts .entry)) l i o) ⌝ }
 {

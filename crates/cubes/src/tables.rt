@@ -1,8 +1,7 @@
 // The facts of a block: by suspect and output the next states, by suspect the outputs.
 use crate::words::one;
 use crate::words::union;
-use block::BLOCK;
-use block::wide;
+use block::*;
 ghost use mathlib.Core.Path.{_≡_};
 ghost use mathlib.Core.Bool.{true};
 ghost use Prim.Native.Nat.{_<_};
@@ -27,7 +26,7 @@ pub const TESTS: usize = 560;
 
 pub const TEST_COUNT: usize = 816;
 
-fn put(facts: &mut [u16; FACTS], at: usize, s: u8)
+fn put(facts: &mut Facts, at: usize, s: u8)
     requires { ⌜ (length (now facts) ≡ 832) × (at < 832) × (s < 16) ⌝ }
     ensures { λ r. ⌜ Put (now (facts .entry)) (now (facts .exit)) at s ⌝ }
 {
@@ -36,11 +35,11 @@ fn put(facts: &mut [u16; FACTS], at: usize, s: u8)
 }
 
 // One choice of a suspect; false where its output is none of the sheet's.
-fn enter(block: &[u8; BLOCK], facts: &mut [u16; FACTS], k: usize, i: u8, c: u16) -> bool
+fn enter(block: &Block, facts: &mut Facts, k: usize, i: u8, c: u16) -> bool
     requires { ⌜ Wf (now block) × (k < 257) × (i ≡ siteAt (now block) k) × (i < 32) × (c < choicesOf (now block) i) × (length (now facts) ≡ 832) ⌝ }
     ensures { λ r. ⌜ Entered (now (block .entry)) (now (facts .entry)) (now (facts .exit)) k c r ⌝ }
 {
-    let step = block::transition(block, k, c);
+    let step = transition(block, k, c);
     let o = step.output;
     if o >= 16 {
         return false;
@@ -52,15 +51,15 @@ fn enter(block: &[u8; BLOCK], facts: &mut [u16; FACTS], k: usize, i: u8, c: u16)
 }
 
 // Every choice of a pair.
-fn enter_pair(block: &[u8; BLOCK], facts: &mut [u16; FACTS], k: usize) -> bool
+fn enter_pair(block: &Block, facts: &mut Facts, k: usize) -> bool
     requires { ⌜ Wf (now block) × (k < 257) × (length (now facts) ≡ 832) ⌝ }
     ensures { λ r. ⌜ PairEntered (now (block .entry)) (now (facts .entry)) (now (facts .exit)) k r ⌝ }
 {
-    let i = block::site(block, k);
+    let i = site(block, k);
     if i == 255 {
         return true;
     }
-    let end = block::choices(block, i);
+    let end = choices(block, i);
     for c in 0..end {
         if !enter(block, facts, k, i, c) {
             return false;
@@ -70,7 +69,7 @@ fn enter_pair(block: &[u8; BLOCK], facts: &mut [u16; FACTS], k: usize) -> bool
 }
 
 // Every choice of every suspect; false where an output is none of the sheet's.
-pub fn enter_all(block: &[u8; BLOCK], facts: &mut [u16; FACTS]) -> bool
+pub fn enter_all(block: &Block, facts: &mut Facts) -> bool
     requires { ⌜ Wf (now block) × (length (now facts) ≡ 832) ⌝ }
     ensures { λ r. ⌜ AllEntered (now (block .entry)) (now (facts .exit)) r ⌝ }
 {

@@ -5,6 +5,9 @@ ghost use Prim.Native.Nat.{_<_, _^_};
 ghost use Rattle.cubes.specs.Sets.{Has, HasAll, Joined};
 ghost use Rattle.cubes.specs.Cube.{Shared};
 
+// By state, or by output, such a set.
+pub type Sets = [u16; 16];
+
 pub fn holds(set: u16, s: u8) -> bool
     requires { ⌜ s < 16 ⌝ }
     ensures { λ r. ⌜ (r ≡ true → Has set s) × (r ≡ false → Has set s → ⊥) ⌝ }

@@ -1,5 +1,5 @@
 -- Cursors that go on, notes of what is refuted, and the suspect that is picked.
-use Rattle.lists.specs.Proving.{arith, ℕ, _+_, _/_, _%_, _^_, _<_, _≤_, _≡_, refl, sym, _∙_, ap, subst, _⊎_, inl, inr, ⊎-elim, List, length, getD, set, length-set, getD-set-same, getD-set-other, ℕ-discrete}
+use Rattle.lists.specs.Proving.{arith, ℕ, _+_, _/_, _%_, _^_, _<_, _≤_, _≡_, refl, sym, _∙_, ap, subst, _⊎_, inl, inr, List, length, getD, set, length-set, getD-set-same, getD-set-other, ℕ-discrete}
 use Rattle.block.specs.Layout.{slotsOf}
 use Rattle.cubes.specs.Sets.{Has, Joined}
 use Rattle.cubes.specs.laws.SetLaw.{nothing}

@@ -3,7 +3,7 @@ use Rattle.lists.specs.Proving.{arith, ℕ, _^_, _<_, _≡_, refl, sym, _∙_, 
 use Rattle.cubes.specs.Sets.{Has, HasAll, Joined}
 use Rattle.cubes.specs.laws.SetLaw.{nothing, alone}
 use Rattle.leaves.specs.Members.{Exact}
-use Rattle.leaves.specs.laws.MembersLaw.{literals-set, literals-free}
+use Rattle.leaves.specs.laws.MembersLaw.{literals-set}
 use Rattle.cursors.specs.Steering.{SpeaksOf, Narrowed}
 
 pub speaks-exact : {p cube : List ℕ} {settled : ℕ} → Exact 32 p settled cube → SpeaksOf settled cube

@@ -1,6 +1,6 @@
 // The tests of a log: where they begin, and what they observe.
-use block::wide16;
-use cubes::tables::FACTS;
+use block::*;
+use cubes::tables::Facts;
 use cubes::tables::TEST_COUNT;
 use cubes::tables::TESTS;
 ghost use mathlib.Core.Path.{_≡_};
@@ -9,7 +9,7 @@ ghost use lib.ListN.{length, getD};
 ghost use Rattle.cursors.specs.FactsKept.{FactsKept};
 
 // Notes an observation where it is a reset: the next test begins there. How many tests there are.
-fn enter_test(facts: &mut [u16; FACTS], tests: usize, v: u16, at: usize) -> usize
+fn enter_test(facts: &mut Facts, tests: usize, v: u16, at: usize) -> usize
     requires { ⌜ (length (now facts) ≡ 832) × (tests ≤ 256) ⌝ }
     ensures { λ r. ⌜ FactsKept (now (facts .entry)) (now (facts .exit)) × (r ≤ 256) ⌝ }
 {
@@ -24,7 +24,7 @@ fn enter_test(facts: &mut [u16; FACTS], tests: usize, v: u16, at: usize) -> usiz
 }
 
 // Notes where the tests of a log begin, and how many there are (the first 256 of them).
-pub fn find_tests(log: &[u16], facts: &mut [u16; FACTS])
+pub fn find_tests(log: &[u16], facts: &mut Facts)
     requires { ⌜ length (now facts) ≡ 832 ⌝ }
     ensures { λ r. ⌜ FactsKept (now (facts .entry)) (now (facts .exit)) ⌝ }
 {
@@ -38,7 +38,7 @@ pub fn find_tests(log: &[u16], facts: &mut [u16; FACTS])
 }
 
 // Notes one test more, whose reset stands at a place of the log.
-pub fn add_test(facts: &mut [u16; FACTS], at: usize)
+pub fn add_test(facts: &mut Facts, at: usize)
     requires { ⌜ length (now facts) ≡ 832 ⌝ }
     ensures { λ r. ⌜ FactsKept (now (facts .entry)) (now (facts .exit)) ⌝ }
 {
@@ -51,14 +51,14 @@ pub fn add_test(facts: &mut [u16; FACTS], at: usize)
 }
 
 // Where the reset of a test stands.
-pub fn test_at(facts: &[u16; FACTS], t: usize) -> usize
+pub fn test_at(facts: &Facts, t: usize) -> usize
     ensures { λ r. ⌜ (r ≡ getD (now (facts .entry)) (560 + t % 256) 0) × (r < 65536) ⌝ }
 {
     wide16(facts[TESTS + t % 256])
 }
 
 // How many tests there are.
-pub fn tests_of(facts: &[u16; FACTS]) -> usize
+pub fn tests_of(facts: &Facts) -> usize
     ensures { λ r. ⌜ r ≡ getD (now (facts .entry)) 816 0 ⌝ }
 {
     wide16(facts[TEST_COUNT])
@@ -70,16 +70,4 @@ pub fn observed(log: &[u16], at: usize) -> u16 {
         return 256;
     }
     log[at]
-}
-
-pub fn input_of(v: u16) -> u8
-    ensures { λ r. ⌜ r < 16 ⌝ }
-{
-    (v / 16 % 16) as u8
-}
-
-pub fn output_of(v: u16) -> u8
-    ensures { λ r. ⌜ r < 16 ⌝ }
-{
-    (v % 16) as u8
 }

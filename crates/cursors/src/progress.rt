@@ -1,12 +1,9 @@
 // How far each test has come under a settled part.
-use crate::observed::input_of;
-use crate::observed::output_of;
 use crate::observed::test_at;
 use crate::observed::tests_of;
-use block::BLOCK;
-use block::WAKING;
-use cubes::tables::FACTS;
-use leaves::among;
+use block::*;
+use cubes::tables::Facts;
+use leaves::*;
 ghost use mathlib.Core.Path.{_≡_};
 ghost use Prim.Native.Nat.{_+_, _*_, _%_, _<_, _≤_};
 ghost use lib.ListN.{getD};
@@ -44,14 +41,14 @@ pub fn wait_of(c: u32) -> u8
 }
 
 // A test before its reset.
-pub fn begun(facts: &[u16; FACTS], t: usize) -> u32
+pub fn begun(facts: &Facts, t: usize) -> u32
     ensures { λ r. ⌜ r ≡ begin (now (facts .entry)) (t % 256) ⌝ }
 {
     cursor(test_at(facts, t), ASLEEP, NOT_BEGUN)
 }
 
 // Every test before its reset.
-pub fn start_cursors(facts: &[u16; FACTS], cursors: &mut [u32; 256])
+pub fn start_cursors(facts: &Facts, cursors: &mut [u32; 256])
     ensures { λ r. ⌜ Begun 256 (now (facts .entry)) (now (cursors .exit)) ⌝ }
 {
     for t in 0..256 {
@@ -68,21 +65,21 @@ fn go(step: u8, o: u8) -> u16 {
 }
 
 // The same at a pair; 256 + its suspect where that is not settled.
-fn go_at(block: &[u8; BLOCK], p: &[u8; 32], settled: u32, k: usize, o: u8) -> u16
+fn go_at(block: &Block, p: &[u8; 32], settled: u32, k: usize, o: u8) -> u16
     requires { ⌜ k < 257 ⌝ }
 {
-    let i = block::site(block, k);
+    let i = site(block, k);
     if i >= 32 {
-        return go(leaves::lone(block, k), o);
+        return go(lone(block, k), o);
     }
     if !among(settled, i) {
         return 256 + (i as u16);
     }
-    go(p[block::wide(i)], o)
+    go(p[wide(i)], o)
 }
 
 // The waking state at a test's own reset; through at the next one.
-fn wake(block: &[u8; BLOCK], p: &[u8; 32], settled: u32, state: u8) -> u16 {
+fn wake(block: &Block, p: &[u8; 32], settled: u32, state: u8) -> u16 {
     if state != ASLEEP {
         return 256 + (THROUGH as u16);
     }
@@ -90,21 +87,16 @@ fn wake(block: &[u8; BLOCK], p: &[u8; 32], settled: u32, state: u8) -> u16 {
 }
 
 // The next state on an observation; 256 + what the test waits for where it does not go on.
-fn go_on(block: &[u8; BLOCK], p: &[u8; 32], settled: u32, state: u8, v: u16) -> u16 {
+fn go_on(block: &Block, p: &[u8; 32], settled: u32, state: u8, v: u16) -> u16 {
     if v >= 256 {
         return wake(block, p, settled, state);
     }
-    go_at(
-        block,
-        p,
-        settled,
-        block::some_place(state, input_of(v)),
-        output_of(v),
-    )
+    let k = some_place(state, input_of(v));
+    go_at(block, p, settled, k, output_of(v))
 }
 
 // A test as far as the settled part goes.
-fn advance(block: &[u8; BLOCK], log: &[u16], p: &[u8; 32], settled: u32, from: u32) -> u32 {
+fn advance(block: &Block, log: &[u16], p: &[u8; 32], settled: u32, from: u32) -> u32 {
     let mut state = state_of(from);
     let mut at = at_of(from);
     while at < log.len() {
@@ -119,14 +111,7 @@ fn advance(block: &[u8; BLOCK], log: &[u16], p: &[u8; 32], settled: u32, from: u
 }
 
 // The same if it waits for `last`.
-fn advance_if(
-    block: &[u8; BLOCK],
-    log: &[u16],
-    p: &[u8; 32],
-    settled: u32,
-    from: u32,
-    last: u8,
-) -> u32
+fn advance_if(block: &Block, log: &[u16], p: &[u8; 32], settled: u32, from: u32, last: u8) -> u32
     ensures { λ r. ⌜ ((from % 256 ≡ last → ⊥) → r ≡ from) ⌝ }
 {
     if wait_of(from) != last {
@@ -137,8 +122,8 @@ fn advance_if(
 
 // Takes the tests that wait for `last` on; the first that fails, or 256.
 pub fn advance_all(
-    block: &[u8; BLOCK],
-    facts: &[u16; FACTS],
+    block: &Block,
+    facts: &Facts,
     log: &[u16],
     p: &[u8; 32],
     settled: u32,
@@ -162,7 +147,7 @@ pub fn advance_all(
 }
 
 // The settled suspects that a test meets, up to its wrong output.
-pub fn met(block: &[u8; BLOCK], log: &[u16], p: &[u8; 32], settled: u32, from: u32) -> u32
+pub fn met(block: &Block, log: &[u16], p: &[u8; 32], settled: u32, from: u32) -> u32
     ensures { λ r. ⌜ HasAll r settled ⌝ }
 {
     let mut used: u32 = 0;
@@ -176,7 +161,7 @@ pub fn met(block: &[u8; BLOCK], log: &[u16], p: &[u8; 32], settled: u32, from: u
         if !among(settled, i) {
             return used;
         }
-        used = leaves::joined(used, i);
+        used = joined(used, i);
     }
     used
 }

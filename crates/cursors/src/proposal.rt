@@ -1,21 +1,12 @@
 // A wide cube all of whose mutants may fail a test.
-use crate::observed::input_of;
 use crate::observed::observed;
-use crate::observed::output_of;
 use crate::observed::test_at;
 use crate::progress::begun;
 use crate::progress::met;
-use block::BLOCK;
-use block::WAKING;
-use block::site;
-use block::some_place;
-use block::wide;
-use cubes::tables::FACTS;
-use leaves::ANY;
-use leaves::add;
-use leaves::exact;
-use leaves::less;
-use leaves::literal;
+use block::*;
+use cubes::literals::Cube;
+use cubes::tables::Facts;
+use leaves::*;
 ghost use Prim.Native.Nat.{_<_, _≤_};
 ghost use Rattle.leaves.specs.Members.{Literals};
 ghost use Rattle.cursors.specs.Steering.{SpeaksOf, Narrowed};
@@ -34,14 +25,14 @@ fn length_of(log: &[u16], from: usize) -> usize
 }
 
 // The states to which a mutant of the cube can go at a pair, or after a reset, if it gives the output o.
-fn arrive(block: &[u8; BLOCK], facts: &[u16; FACTS], cube: &[u32; 32], k: usize, o: u8) -> u16
+fn arrive(block: &Block, facts: &Facts, cube: &Cube, k: usize, o: u8) -> u16
     requires { ⌜ (k < 257) × (o < 16) ⌝ }
 {
     let i = site(block, k);
     if i < 32 {
         return cubes::literals::going(facts, cube[wide(i)], i, o);
     }
-    let step = leaves::lone(block, k);
+    let step = lone(block, k);
     if step / 16 != o {
         return 0;
     }
@@ -49,8 +40,8 @@ fn arrive(block: &[u8; BLOCK], facts: &[u16; FACTS], cube: &[u32; 32], k: usize,
 }
 
 // The states in which an observation fails every mutant of the cube at once, or leads into `bad` only.
-fn backward(block: &[u8; BLOCK], facts: &[u16; FACTS], cube: &[u32; 32], bad: u16, v: u16) -> u16 {
-    let end = block::states(block);
+fn backward(block: &Block, facts: &Facts, cube: &Cube, bad: u16, v: u16) -> u16 {
+    let end = states(block);
     let mut set: u16 = 0;
     for s in 0..end {
         let go = arrive(block, facts, cube, some_place(s, input_of(v)), output_of(v));
@@ -63,9 +54,9 @@ fn backward(block: &[u8; BLOCK], facts: &[u16; FACTS], cube: &[u32; 32], bad: u1
 
 // By place of a test the states from which every mutant of the cube fails it, the last place first.
 fn fill_bad(
-    block: &[u8; BLOCK],
-    facts: &[u16; FACTS],
-    cube: &[u32; 32],
+    block: &Block,
+    facts: &Facts,
+    cube: &Cube,
     log: &[u16],
     from: usize,
     length: usize,
@@ -82,13 +73,13 @@ fn fill_bad(
 }
 
 // What a suspect is narrowed to, so that it gives its own wrong output, or leads where it may.
-fn narrowed(facts: &[u16; FACTS], own: u8, i: u8, o: u8, into: u16) -> u32
+fn narrowed(facts: &Facts, own: u8, i: u8, o: u8, into: u16) -> u32
     ensures { λ r. ⌜ r < 1048576 ⌝ }
 {
     if own == o {
         return literal(o, into);
     }
-    literal(own, facts[leaves::cell(i, own)])
+    literal(own, facts[cell(i, own)])
 }
 
 // The output that a literal means.
@@ -96,17 +87,13 @@ fn own_output(l: u32) -> u8 {
     (l / 65536 % 16) as u8
 }
 
-fn wide32(x: u16) -> u32 {
-    x as u32
-}
-
 // A pair with an observed output: where the cube leads; 65536 where it left the states that are bad after it, and was narrowed. Only
 // what the base settles is narrowed.
 fn narrow_step(
-    block: &[u8; BLOCK],
-    facts: &[u16; FACTS],
-    base: &[u32; 32],
-    cube: &mut [u32; 32],
+    block: &Block,
+    facts: &Facts,
+    base: &Cube,
+    cube: &mut Cube,
     k: usize,
     o: u8,
     bad: u16,
@@ -126,16 +113,16 @@ fn narrow_step(
     if less(go, bad) == 0 {
         return wide32(go);
     }
-    cube[wide(i)] = narrowed(facts, own_output(l), i, o, leaves::common(go, bad));
+    cube[wide(i)] = narrowed(facts, own_output(l), i, o, cubes::words::shared(go, bad));
     65536
 }
 
 // The same from each of a set of states.
 fn narrow_states(
-    block: &[u8; BLOCK],
-    facts: &[u16; FACTS],
-    base: &[u32; 32],
-    cube: &mut [u32; 32],
+    block: &Block,
+    facts: &Facts,
+    base: &Cube,
+    cube: &mut Cube,
     set: u16,
     v: u16,
     bad: u16,
@@ -148,19 +135,19 @@ fn narrow_states(
         if left == 0 {
             return next;
         }
-        let k = some_place(leaves::least(left), input_of(v));
+        let k = some_place(least(left), input_of(v));
         next = next | narrow_step(block, facts, base, cube, k, output_of(v), bad);
-        left = leaves::without_least(left);
+        left = without_least(left);
     }
     next
 }
 
 // The test from its reset up to where the cube is narrowed. True if it was.
 fn narrow_once<'a>(
-    block: &[u8; BLOCK],
-    facts: &[u16; FACTS],
-    base: &'a [u32; 32],
-    cube: &mut [u32; 32],
+    block: &Block,
+    facts: &Facts,
+    base: &'a Cube,
+    cube: &mut Cube,
     log: &[u16],
     from: usize,
     bad: &'a [u16; 257],
@@ -177,25 +164,18 @@ fn narrow_once<'a>(
         if next == 0 {
             return false;
         }
-        next = narrow_states(
-            block,
-            facts,
-            base,
-            cube,
-            next as u16,
-            observed(log, from + l),
-            bad[l + 1],
-        );
+        let v = observed(log, from + l);
+        next = narrow_states(block, facts, base, cube, next as u16, v, bad[l + 1]);
     }
     next >= 65536
 }
 
 // Narrows the cube until nothing is left to narrow.
 fn narrow_all<'a>(
-    block: &[u8; BLOCK],
-    facts: &[u16; FACTS],
-    base: &'a [u32; 32],
-    cube: &mut [u32; 32],
+    block: &Block,
+    facts: &Facts,
+    base: &'a Cube,
+    cube: &mut Cube,
     log: &[u16],
     from: usize,
     bad: &'a [u16; 257],
@@ -213,13 +193,13 @@ fn narrow_all<'a>(
 
 // A wide cube around the settled part all of whose mutants fail a test: it speaks only of suspects that the test meets.
 pub fn propose_fail(
-    block: &[u8; BLOCK],
-    facts: &[u16; FACTS],
+    block: &Block,
+    facts: &Facts,
     log: &[u16],
     p: &[u8; 32],
     settled: u32,
     t: usize,
-    cube: &mut [u32; 32],
+    cube: &mut Cube,
 )
     ensures { λ r. ⌜ Literals (now (cube .exit)) × SpeaksOf settled (now (cube .exit)) ⌝ }
 {

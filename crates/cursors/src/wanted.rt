@@ -1,22 +1,12 @@
 // What the waiting tests refute, and which suspect is settled next.
 use crate::observed::observed;
-use crate::observed::output_of;
 use crate::observed::tests_of;
 use crate::progress::at_of;
 use crate::progress::wait_of;
-use block::BLOCK;
-use block::wide;
-use block::wide16;
-use cubes::tables::FACTS;
+use block::*;
+use cubes::tables::Facts;
 use cubes::tables::OUTPUTS;
-use leaves::DEAD;
-use leaves::HINTS;
-use leaves::cell;
-use leaves::least;
-use leaves::less;
-use leaves::note;
-use leaves::set_note;
-use leaves::without_least;
+use leaves::*;
 ghost use mathlib.Core.Path.{_≡_};
 ghost use mathlib.Core.Logic.{_⊎_};
 ghost use Prim.Native.Nat.{_+_, _*_, _%_, _<_};
@@ -52,19 +42,19 @@ pub fn mark(notes: &mut [u16], j: u8, o: u8, next: u16, h: u16)
         return;
     }
     set_hints(notes, k, new, h);
-    set_note(notes, DEAD + k, leaves::either(old, next));
+    set_note(notes, DEAD + k, cubes::words::union(old, next));
 }
 
 // The outputs that a suspect has.
-fn outputs_of(facts: &[u16; FACTS], j: u8) -> u16 {
+fn outputs_of(facts: &Facts, j: u8) -> u16 {
     facts[OUTPUTS + wide(j % 32)]
 }
 
 // Notes the choices of a suspect with another output than a test wants.
-fn mark_test(facts: &[u16; FACTS], notes: &mut [u16], j: u8, want: u8, h: u16)
+fn mark_test(facts: &Facts, notes: &mut [u16], j: u8, want: u8, h: u16)
     ensures { λ r. ⌜ Changed 64 8768 (now (notes .entry)) (now (notes .exit)) ⌝ }
 {
-    let mut left = less(outputs_of(facts, j), leaves::add(0, want));
+    let mut left = less(outputs_of(facts, j), add(0, want));
     for n in 0..16u8 {
         if left == 0 {
             return;
@@ -84,14 +74,7 @@ fn one_more(waiting: &mut [u16; 32], j: u8) {
 
 // Notes the choices that a test refutes, if it waits, and counts it. One that waits at its reset refutes none: a reset reads as the
 // output 0, which every choice of the waking state has.
-fn mark_want(
-    facts: &[u16; FACTS],
-    log: &[u16],
-    c: u32,
-    notes: &mut [u16],
-    waiting: &mut [u16; 32],
-    h: u16,
-)
+fn mark_want(facts: &Facts, log: &[u16], c: u32, notes: &mut [u16], waiting: &mut [u16; 32], h: u16)
     ensures { λ r. ⌜ Changed 64 8768 (now (notes .entry)) (now (notes .exit)) ⌝ }
 {
     let j = wait_of(c);
@@ -104,7 +87,7 @@ fn mark_want(
 
 // Notes the choices that waiting tests refute, and counts the tests that wait for each suspect.
 pub fn mark_wants(
-    facts: &[u16; FACTS],
+    facts: &Facts,
     log: &[u16],
     cursors: &[u32; 256],
     notes: &mut [u16],
@@ -117,19 +100,13 @@ pub fn mark_wants(
         if wide16(t) >= end {
             return;
         }
-        mark_want(
-            facts,
-            log,
-            cursors[wide16(t)],
-            notes,
-            waiting,
-            FROM_TEST + t,
-        );
+        let c = cursors[wide16(t)];
+        mark_want(facts, log, c, notes, waiting, FROM_TEST + t);
     }
 }
 
 // How many choices of a suspect are not known to be refuted.
-fn alive(facts: &[u16; FACTS], notes: &[u16], j: u8) -> u32
+fn alive(facts: &Facts, notes: &[u16], j: u8) -> u32
     ensures { λ r. ⌜ r < 512 ⌝ }
 {
     let mut sum: u32 = 0;
@@ -139,7 +116,7 @@ fn alive(facts: &[u16; FACTS], notes: &[u16], j: u8) -> u32
             return sum;
         }
         let k = cell(j, least(left));
-        sum += leaves::size(less(facts[k], note(notes, DEAD + k)));
+        sum += size(less(facts[k], note(notes, DEAD + k)));
         left = without_least(left);
     }
     sum
@@ -159,7 +136,7 @@ struct Best {
 }
 
 // The better one: fewer choices left for each test that waits for it.
-fn better(facts: &[u16; FACTS], notes: &[u16], best: Best, j: u8, tests: u16) -> Best
+fn better(facts: &Facts, notes: &[u16], best: Best, j: u8, tests: u16) -> Best
     ensures { λ r. ⌜ (r .at ≡ best .at) ⊎ ((r .at ≡ j) × (tests ≡ 0 → ⊥)) ⌝ }
 {
     if tests == 0 {
@@ -175,10 +152,10 @@ fn better(facts: &[u16; FACTS], notes: &[u16], best: Best, j: u8, tests: u16) ->
 }
 
 // The suspect with the fewest choices left for each test that waits for it, or 255.
-pub fn pick(block: &[u8; BLOCK], facts: &[u16; FACTS], notes: &[u16], waiting: &[u16; 32]) -> u8
+pub fn pick(block: &Block, facts: &Facts, notes: &[u16], waiting: &[u16; 32]) -> u8
     ensures { λ r. ⌜ Picked (now (block .entry)) (now (waiting .entry)) r ⌝ }
 {
-    let end = block::slots(block);
+    let end = slots(block);
     let mut best = Best {
         at: 255,
         left: 0,

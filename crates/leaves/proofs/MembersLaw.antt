@@ -4,7 +4,6 @@ use Prim.Native.Nat.{min}
 use native.Mathlib.Nat.{le-of-suc-le-suc}
 use lib.Bits.{bitAnd, bitXor, differ, and-step, xor-step, and-shr, xor-shr, and-self}
 use lib.Pow.{shr-shr}
-use Rattle.model.specs.Machine.{Move}
 use Rattle.cubes.specs.Sets.{Has, Joined}
 use Rattle.cubes.specs.Cube.{Means}
 use Rattle.cubes.specs.laws.SetLaw.{nothing, alone, one-same, shared-and}

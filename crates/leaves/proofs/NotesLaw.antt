@@ -1,5 +1,5 @@
 -- Counting nodes and keeping a witness, in the notes.
-use Rattle.lists.specs.Proving.{arith, ℕ, _+_, _%_, _<_, _≤_, _≡_, refl, _∙_, ap, List, [], _∷_, length, getD, set, length-set, getD-set-same, getD-set-other, ℕ-discrete}
+use Rattle.lists.specs.Proving.{arith, ℕ, _+_, _%_, _<_, _≤_, _≡_, _∙_, List, [], _∷_, length, getD, set, getD-set-same, getD-set-other, ℕ-discrete}
 use Rattle.leaves.specs.Noted.{Changed, Keeps, nodesOf}
 use Rattle.leaves.specs.laws.NotedLaw.{changed-none, changed-set, changed-more, changed-wider}
 

@@ -3,9 +3,8 @@
 // Called by `walks`, `cursors`, `pairs`, `store`, `refutation` and `search`.
 mod notes;
 
-use block::BLOCK;
-use block::wide;
-use cubes::words::union;
+use block::*;
+use cubes::literals::Cube;
 pub use notes::DEAD;
 pub use notes::FILLED;
 pub use notes::HAND;
@@ -30,7 +29,6 @@ ghost use lib.ListN.{length};
 ghost use Rattle.block.specs.Layout.{siteAt};
 ghost use Rattle.block.specs.Tabulated.{Wf, choiceOf};
 ghost use Rattle.cubes.specs.Sets.{Has, Joined};
-ghost use Rattle.cubes.specs.Cube.{Shared};
 ghost use Rattle.leaves.specs.Members.{Without, Later, Settles, Exact};
 
 // A literal that means every choice.
@@ -52,7 +50,7 @@ pub fn in_set(set: u16, s: u8) -> bool
 pub fn add(set: u16, s: u8) -> u16
     ensures { λ r. ⌜ Joined set (2 ^ (s % 16)) r ⌝ }
 {
-    union(set, cubes::words::one(low(s)))
+    cubes::words::union(set, cubes::words::one(low(s)))
 }
 
 // The states of the one set that are not in the other.
@@ -60,18 +58,6 @@ pub fn less(a: u16, b: u16) -> u16
     ensures { λ r. ⌜ Without a b r ⌝ }
 {
     a ^ (a & b)
-}
-
-pub fn either(a: u16, b: u16) -> u16
-    ensures { λ r. ⌜ Joined a b r ⌝ }
-{
-    union(a, b)
-}
-
-pub fn common(a: u16, b: u16) -> u16
-    ensures { λ r. ⌜ Shared a b r ⌝ }
-{
-    cubes::words::shared(a, b)
 }
 
 // The least state of a set that has one.
@@ -124,11 +110,11 @@ pub fn packed(output: u8, target: u8) -> u8
 }
 
 // The transition of a pair that is no suspect.
-pub fn lone(block: &[u8; BLOCK], k: usize) -> u8
+pub fn lone(block: &Block, k: usize) -> u8
     requires { ⌜ k < 257 ⌝ }
     ensures { λ r. ⌜ (Wf (now (block .entry)) → siteAt (now (block .entry)) k ≡ 255 → r ≡ choiceOf (now (block .entry)) k 0 .output % 16 * 16 + choiceOf (now (block .entry)) k 0 .target % 16) ⌝ }
 {
-    let step = block::transition(block, k, 0);
+    let step = transition(block, k, 0);
     packed(step.output, step.target)
 }
 
@@ -149,7 +135,7 @@ fn high(o: u8) -> u32
 pub fn literal(o: u8, next: u16) -> u32
     ensures { λ r. ⌜ (r ≡ o % 16 * 65536 + next) × (r < 1048576) ⌝ }
 {
-    high(o) * 65536 + block::wide32(next)
+    high(o) * 65536 + wide32(next)
 }
 
 // What the settled part says of a suspect.
@@ -163,7 +149,7 @@ fn exactly(step: u8, settled: u32, j: u8) -> u32
 }
 
 // The settled part as a cube.
-pub fn exact(p: &[u8; 32], settled: u32, cube: &mut [u32; 32])
+pub fn exact(p: &[u8; 32], settled: u32, cube: &mut Cube)
     ensures { λ r. ⌜ (length (now (cube .exit)) ≡ length (now (cube .entry))) × Exact 32 (now (p .entry)) settled (now (cube .exit)) ⌝ }
 {
     for j in 0..32 {

@@ -1,7 +1,7 @@
 // Notes that steer a search, in a lent slice of numbers. How many nodes were looked at (low and
 // high half), how many entries of the store are filled, which entry is next to go, whether there is a witness (choices of a
 // mutant that is sought), how much a quick attempt has spent.
-use block::wide32;
+use block::*;
 ghost use mathlib.Core.Path.{_≡_};
 ghost use mathlib.Core.Bool.{true, false};
 ghost use Prim.Native.Nat.{_+_, _<_, _%_};

@@ -1,6 +1,5 @@
 // The test suite of a sheet as a log: 256 for a reset, an input * 16 + the specified output.
-use block::BLOCK;
-use block::wide16;
+use block::*;
 ghost use mathlib.Core.Path.{_≡_};
 ghost use Prim.Native.Nat.{_+_, _<_, _≤_};
 ghost use mathlib.Core.List.{[], _∷_};
@@ -26,7 +25,7 @@ pub fn record_test(
     sheet: &[u8],
     start: usize,
     inputs: usize,
-    block: &[u8; BLOCK],
+    block: &Block,
     log: &mut [u16],
     from: usize,
 ) -> usize
@@ -41,9 +40,9 @@ pub fn record_test(
     let mut s: u8 = 0;
     while left > 0 {
         let x = sheet[at + 1];
-        let k = block::place(s, x);
-        log[to] = observed(x, block::rule_output(block, k));
-        s = block::rule_target(block, k);
+        let k = place(s, x);
+        log[to] = observed(x, rule_output(block, k));
+        s = rule_target(block, k);
         to += 1;
         at += 2;
         left -= 1;
@@ -57,7 +56,7 @@ fn record_suite(
     starts: &[u16; 256],
     lengths: &[u16; 256],
     tests: usize,
-    block: &[u8; BLOCK],
+    block: &Block,
     log: &mut [u16],
 ) -> usize
     requires { ⌜ TestsAt (ruleOf (now block)) (now sheet) (now starts) (now lengths) tests ⌝ }
@@ -79,7 +78,7 @@ pub fn log_suite<'a>(
     starts: &'a [u16; 256],
     lengths: &'a [u16; 256],
     tests: usize,
-    block: &[u8; BLOCK],
+    block: &Block,
     log: &mut [u16],
 ) -> usize
     requires { ⌜ ((sh : Sheet) × SuiteIn sh (now sheet) (now starts) (now lengths) tests (now block) (length (now log))) ⌝ }

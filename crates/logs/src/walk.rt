@@ -1,6 +1,7 @@
 // A tabulated mutant along a log.
+use block::*;
 ghost use mathlib.Core.Path.{_≡_};
-ghost use Prim.Native.Nat.{_/_, _%_, _-_};
+ghost use Prim.Native.Nat.{_-_};
 ghost use Rattle.model.specs.Log.{failedIn};
 ghost use Rattle.block.specs.Logged.{observations};
 ghost use Rattle.logs.specs.Walked.{movesIn, wrongOf};
@@ -9,18 +10,6 @@ ghost use Rattle.logs.specs.Walked.{movesIn, wrongOf};
 pub enum Wrong {
     Nothing,
     At(usize, usize),
-}
-
-fn input_of(v: u16) -> u8
-    ensures { λ r. ⌜ r ≡ v / 16 % 16 ⌝ }
-{
-    (v / 16 % 16) as u8
-}
-
-fn output_of(v: u16) -> u8
-    ensures { λ r. ⌜ r ≡ v % 16 ⌝ }
-{
-    (v % 16) as u8
 }
 
 // The test before the next; 0 where none has begun.
@@ -50,7 +39,7 @@ pub fn first_wrong(log: &[u16], outputs: &[u8; 256], targets: &[u8; 256], start:
             position = 0;
             continue;
         }
-        let k = block::some_place(s, input_of(v));
+        let k = some_place(s, input_of(v));
         if outputs[k] != output_of(v) {
             return Wrong::At(last(begun), position);
         }

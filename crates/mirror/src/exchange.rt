@@ -1,11 +1,7 @@
 // Which states can be exchanged: with them exchanged every mutant is another mutant, with the same outputs.
-use block::BLOCK;
-use block::place;
-use block::site;
-use block::states;
-use block::transition;
+use block::*;
 use cubes::tables::EXCHANGES;
-use cubes::tables::FACTS;
+use cubes::tables::Facts;
 use cubes::words::holds;
 use cubes::words::one;
 use cubes::words::union;
@@ -32,7 +28,7 @@ fn other(s: u8, a: u8, b: u8) -> u8
 }
 
 // How many choices a pair has.
-fn choices_at(block: &[u8; BLOCK], k: usize) -> u16
+fn choices_at(block: &Block, k: usize) -> u16
     requires { ⌜ Wf (now block) × (k < 257) ⌝ }
     ensures { λ r. ⌜ r ≡ choicesAt (now (block .entry)) k ⌝ }
 {
@@ -40,11 +36,11 @@ fn choices_at(block: &[u8; BLOCK], k: usize) -> u16
     if i == 255 {
         return 1;
     }
-    block::choices(block, i)
+    choices(block, i)
 }
 
 // Whether choice d of the pair j is the transition.
-fn is_choice(block: &[u8; BLOCK], j: usize, d: u16, o: u8, t: u8) -> bool
+fn is_choice(block: &Block, j: usize, d: u16, o: u8, t: u8) -> bool
     requires { ⌜ Wf (now block) × (j < 256) × (d < choicesAt (now block) j) ⌝ }
     ensures { λ r. ⌜ (r ≡ true → OffersStep (now (block .entry)) j o t) ⌝ }
 {
@@ -66,7 +62,7 @@ fn clipped(d: u16, end: u16) -> u16
 }
 
 // Whether a choice of the pair j is the transition. They are tried in a circle from `first` on.
-fn offered(block: &[u8; BLOCK], j: usize, o: u8, t: u8, first: u16) -> bool
+fn offered(block: &Block, j: usize, o: u8, t: u8, first: u16) -> bool
     requires { ⌜ Wf (now block) × (j < 256) ⌝ }
     ensures { λ r. ⌜ (r ≡ true → OffersStep (now (block .entry)) j o t) ⌝ }
 {
@@ -96,7 +92,7 @@ fn near(c: u16, target: u8, image: u8) -> u16 {
 }
 
 // Whether choice c of the pair k, exchanged, is one of the pair j.
-fn answered(block: &[u8; BLOCK], k: usize, j: usize, a: u8, b: u8, c: u16) -> bool
+fn answered(block: &Block, k: usize, j: usize, a: u8, b: u8, c: u16) -> bool
     requires { ⌜ Wf (now block) × (k < 256) × (j < 256) × (c < choicesAt (now block) k) ⌝ }
     ensures { λ r. ⌜ (r ≡ true → Answered (now (block .entry)) a b k j c) ⌝ }
 {
@@ -106,7 +102,7 @@ fn answered(block: &[u8; BLOCK], k: usize, j: usize, a: u8, b: u8, c: u16) -> bo
 }
 
 // Whether this holds of every choice of the pair k.
-fn all_answered(block: &[u8; BLOCK], k: usize, j: usize, a: u8, b: u8) -> bool
+fn all_answered(block: &Block, k: usize, j: usize, a: u8, b: u8) -> bool
     requires { ⌜ Wf (now block) × (k < 256) × (j < 256) ⌝ }
     ensures { λ r. ⌜ (r ≡ true → Exchanges (now (block .entry)) a b k j) ⌝ }
 {
@@ -120,7 +116,7 @@ fn all_answered(block: &[u8; BLOCK], k: usize, j: usize, a: u8, b: u8) -> bool
 }
 
 // The same of two suspects without a rule, which have every next state with each output.
-fn unruled_alike(block: &[u8; BLOCK], k: usize, j: usize) -> bool
+fn unruled_alike(block: &Block, k: usize, j: usize) -> bool
     requires { ⌜ Wf (now block) × (k < 256) × (j < 256) ⌝ }
     ensures { λ r. ⌜ (r ≡ true → (choicesAt (now (block .entry)) k ≡ choicesAt (now (block .entry)) j) × (choicesAt (now (block .entry)) k % statesOf (now (block .entry)) ≡ 0)) ⌝ }
 {
@@ -132,17 +128,17 @@ fn unruled_alike(block: &[u8; BLOCK], k: usize, j: usize) -> bool
 }
 
 // Whether a pair is a suspect without a rule.
-fn is_free(block: &[u8; BLOCK], k: usize) -> bool
+fn is_free(block: &Block, k: usize) -> bool
     requires { ⌜ k < 256 ⌝ }
     ensures { λ r. ⌜ (r ≡ true → (ruleTarget (now (block .entry)) k ≡ 255) × (siteAt (now (block .entry)) k ≡ 255 → ⊥)) ⌝ }
 {
     if site(block, k) == 255 {
         return false;
     }
-    block::rule_target(block, k) == 255
+    rule_target(block, k) == 255
 }
 
-fn pair_exchanges(block: &[u8; BLOCK], k: usize, j: usize, a: u8, b: u8) -> bool
+fn pair_exchanges(block: &Block, k: usize, j: usize, a: u8, b: u8) -> bool
     requires { ⌜ Wf (now block) × (k < 256) × (j < 256) × (a < statesOf (now block)) × (b < statesOf (now block)) ⌝ }
     ensures { λ r. ⌜ (r ≡ true → Exchanges (now (block .entry)) a b k j) ⌝ }
 {
@@ -156,12 +152,12 @@ fn pair_exchanges(block: &[u8; BLOCK], k: usize, j: usize, a: u8, b: u8) -> bool
 }
 
 // Every pair of the state s and its image.
-fn row_exchanges(block: &[u8; BLOCK], s: u8, a: u8, b: u8) -> bool
+fn row_exchanges(block: &Block, s: u8, a: u8, b: u8) -> bool
     requires { ⌜ Wf (now block) × (s < statesOf (now block)) × (a < statesOf (now block)) × (b < statesOf (now block)) ⌝ }
     ensures { λ r. ⌜ (r ≡ true → RowExchanges (now (block .entry)) a b s) ⌝ }
 {
     let q = other(s, a, b);
-    let end = block::inputs(block);
+    let end = inputs(block);
     for x in 0..end {
         if !pair_exchanges(block, place(s, x), place(q, x), a, b) {
             return false;
@@ -171,7 +167,7 @@ fn row_exchanges(block: &[u8; BLOCK], s: u8, a: u8, b: u8) -> bool
 }
 
 // Every pair and its image; those of a first, as most states differ there.
-fn all_exchange(block: &[u8; BLOCK], a: u8, b: u8) -> bool
+fn all_exchange(block: &Block, a: u8, b: u8) -> bool
     requires { ⌜ Wf (now block) × (a < statesOf (now block)) × (b < statesOf (now block)) ⌝ }
     ensures { λ r. ⌜ (r ≡ true → Below (λ s. RowExchanges (now (block .entry)) a b s) (statesOf (now (block .entry)))) ⌝ }
 {
@@ -188,7 +184,7 @@ fn all_exchange(block: &[u8; BLOCK], a: u8, b: u8) -> bool
 }
 
 // The states that no exchange may move: where mutants start, and 0.
-fn fixed(block: &[u8; BLOCK], facts: &[u16; FACTS]) -> u16
+fn fixed(block: &Block, facts: &Facts) -> u16
     requires { ⌜ Given (now block) (now facts) ⌝ }
     ensures { λ r. ⌜ FixedOk (now (block .entry)) r ⌝ }
 {
@@ -197,7 +193,7 @@ fn fixed(block: &[u8; BLOCK], facts: &[u16; FACTS]) -> u16
 }
 
 // The state b, if it can be exchanged with a.
-fn partner(block: &[u8; BLOCK], fixed: u16, a: u8, b: u8) -> u16
+fn partner(block: &Block, fixed: u16, a: u8, b: u8) -> u16
     requires { ⌜ Wf (now block) × FixedOk (now block) fixed × (a < statesOf (now block)) × (b < statesOf (now block)) × Movable (now block) a ⌝ }
     ensures { λ r. ⌜ Each (λ t. Exchangeable (now (block .entry)) a t) r ⌝ }
 {
@@ -214,7 +210,7 @@ fn partner(block: &[u8; BLOCK], fixed: u16, a: u8, b: u8) -> u16
 }
 
 // The states that can be exchanged with a.
-fn partners(block: &[u8; BLOCK], fixed: u16, a: u8) -> u16
+fn partners(block: &Block, fixed: u16, a: u8) -> u16
     requires { ⌜ Wf (now block) × FixedOk (now block) fixed × (a < 16) ⌝ }
     ensures { λ r. ⌜ Each (λ t. Exchangeable (now (block .entry)) a t) r ⌝ }
 {
@@ -233,13 +229,13 @@ fn partners(block: &[u8; BLOCK], fixed: u16, a: u8) -> u16
 }
 
 // Fills in, by state a at 544 + a of the facts, the states that can be exchanged with it.
-pub fn exchange_all(block: &[u8; BLOCK], facts: &mut [u16; FACTS])
+pub fn exchange_all(block: &Block, facts: &mut Facts)
     requires { ⌜ Given (now block) (now facts) × (length (now facts) ≡ 832) ⌝ }
     ensures { λ r. ⌜ Exchanged (now (block .entry)) (now (facts .entry)) (now (facts .exit)) ⌝ }
 {
     let keep = fixed(block, facts);
     for a in 0..16 {
         let set = partners(block, keep, a);
-        facts[EXCHANGES + block::wide(a)] = set;
+        facts[EXCHANGES + wide(a)] = set;
     }
 }

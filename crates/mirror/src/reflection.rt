@@ -1,9 +1,9 @@
 // What a cube without a mutant sought tells of the states that can be exchanged with the one in hand.
-use block::BLOCK;
-use block::site;
-use block::wide;
+use block::*;
+use cubes::literals::Cube;
 use cubes::tables::EXCHANGES;
-use cubes::tables::FACTS;
+use cubes::tables::Facts;
+use cubes::words::Sets;
 use cubes::words::holds;
 ghost use mathlib.Core.Path.{_≡_};
 ghost use mathlib.Core.Bool.{true};
@@ -15,7 +15,7 @@ ghost use Rattle.mirror.specs.Mirror.{Each, Exchangeable, SwapsOk};
 ghost use Rattle.mirror.specs.Reflect.{Quiet, Silent, Blind, BlindBut, Mirrors, ReflectedOk};
 
 // Whether the cube does not speak of the pair k.
-fn quiet(block: &[u8; BLOCK], cube: &[u32; 32], k: usize) -> bool
+fn quiet(block: &Block, cube: &Cube, k: usize) -> bool
     requires { ⌜ Wf (now block) × (k < 257) ⌝ }
     ensures { λ r. ⌜ (r ≡ true → Quiet (now (block .entry)) (now (cube .entry)) k) ⌝ }
 {
@@ -27,13 +27,13 @@ fn quiet(block: &[u8; BLOCK], cube: &[u32; 32], k: usize) -> bool
 }
 
 // Nor of any pair of the state s.
-fn silent(block: &[u8; BLOCK], cube: &[u32; 32], s: u8) -> bool
+fn silent(block: &Block, cube: &Cube, s: u8) -> bool
     requires { ⌜ Wf (now block) × (s < 16) ⌝ }
     ensures { λ r. ⌜ (r ≡ true → Silent (now (block .entry)) (now (cube .entry)) s) ⌝ }
 {
-    let end = block::inputs(block);
+    let end = inputs(block);
     for x in 0..end {
-        if !quiet(block, cube, block::place(s, x)) {
+        if !quiet(block, cube, place(s, x)) {
             return false;
         }
     }
@@ -56,7 +56,7 @@ fn blind(l: u32, a: u8, b: u8) -> bool
 }
 
 // The same of the literal of j, unless it is i.
-fn blind_at(cube: &[u32; 32], i: u8, a: u8, b: u8, j: usize) -> bool
+fn blind_at(cube: &Cube, i: u8, a: u8, b: u8, j: usize) -> bool
     requires { ⌜ (a < 16) × (b < 16) × (j < 32) ⌝ }
     ensures { λ r. ⌜ (r ≡ true → (j ≡ i → ⊥) → Blind a b (getD (now (cube .entry)) j 0)) ⌝ }
 {
@@ -67,7 +67,7 @@ fn blind_at(cube: &[u32; 32], i: u8, a: u8, b: u8, j: usize) -> bool
 }
 
 // Every literal but that of i.
-fn blind_but(cube: &[u32; 32], i: u8, a: u8, b: u8) -> bool
+fn blind_but(cube: &Cube, i: u8, a: u8, b: u8) -> bool
     requires { ⌜ (a < 16) × (b < 16) ⌝ }
     ensures { λ r. ⌜ (r ≡ true → BlindBut (now (cube .entry)) i a b) ⌝ }
 {
@@ -80,7 +80,7 @@ fn blind_but(cube: &[u32; 32], i: u8, a: u8, b: u8) -> bool
 }
 
 // The state b, if it is in the set and the cube does not tell it from a.
-fn image(block: &[u8; BLOCK], cube: &[u32; 32], i: u8, set: u16, a: u8, b: u8) -> u16
+fn image(block: &Block, cube: &Cube, i: u8, set: u16, a: u8, b: u8) -> u16
     requires { ⌜ Wf (now block) × Each (λ t. Exchangeable (now block) a t) set × (a < 16) × (b < 16) ⌝ }
     ensures { λ r. ⌜ Each (λ t. Mirrors (now (block .entry)) (now (cube .entry)) i a t) r ⌝ }
 {
@@ -97,7 +97,7 @@ fn image(block: &[u8; BLOCK], cube: &[u32; 32], i: u8, set: u16, a: u8, b: u8) -
 }
 
 // The states of the set that the cube does not tell from a.
-fn images(block: &[u8; BLOCK], cube: &[u32; 32], i: u8, set: u16, a: u8) -> u16
+fn images(block: &Block, cube: &Cube, i: u8, set: u16, a: u8) -> u16
     requires { ⌜ Wf (now block) × Each (λ t. Exchangeable (now block) a t) set × (a < 16) ⌝ }
     ensures { λ r. ⌜ Each (λ t. Mirrors (now (block .entry)) (now (cube .entry)) i a t) r ⌝ }
 {
@@ -116,15 +116,7 @@ fn literal(o: u8, set: u16) -> u32
 
 // Adds to `done` the transitions of the pair k with the output o to states that the cube, in which no mutant is sought and which
 // means the transition to a, does not tell from a.
-pub fn reflect(
-    block: &[u8; BLOCK],
-    facts: &[u16; FACTS],
-    cube: &[u32; 32],
-    k: usize,
-    a: u8,
-    o: u8,
-    done: &mut [u16; 16],
-)
+pub fn reflect(block: &Block, facts: &Facts, cube: &Cube, k: usize, a: u8, o: u8, done: &mut Sets)
     requires { ⌜ Wf (now block) × SwapsOk (now block) (now facts) × (k < 257) × (siteAt (now block) k ≡ 255 → ⊥) × (length (now done) ≡ 16) ⌝ }
     ensures { λ r. ⌜ ReflectedOk (now (block .entry)) (now (cube .entry)) (now (done .entry)) (now (done .exit)) k ⌝ }
 {

@@ -1,8 +1,8 @@
 // What the mutants of a cube do on an input at a pair of states: specification's * 16 + mutant's.
-use block::BLOCK;
-use block::site;
-use block::some_place;
-use cubes::tables::FACTS;
+use block::*;
+use cubes::literals::Cube;
+use cubes::tables::Facts;
+use leaves::*;
 
 // The specification's next state (255: no rule) and output, the suspect met (255: none), whether every output is right, and
 // the next states after the right one.
@@ -14,9 +14,9 @@ pub struct Cell {
     pub go: u16,
 }
 
-pub fn look(block: &[u8; BLOCK], facts: &[u16; FACTS], cube: &[u32; 32], z: u8, x: u8) -> Cell {
+pub fn look(block: &Block, facts: &Facts, cube: &Cube, z: u8, x: u8) -> Cell {
     let k = some_place(z / 16, x);
-    let next = block::rule_target(block, k);
+    let next = rule_target(block, k);
     if next == 255 {
         return Cell {
             next,
@@ -26,20 +26,20 @@ pub fn look(block: &[u8; BLOCK], facts: &[u16; FACTS], cube: &[u32; 32], z: u8, 
             go: 0,
         };
     }
-    let output = leaves::low(block::rule_output(block, k));
+    let output = low(rule_output(block, k));
     let q = some_place(z, x);
     let i = site(block, q);
     if i >= 32 {
-        let s = leaves::lone(block, q);
+        let s = lone(block, q);
         return Cell {
             next,
             output,
             site: 255,
             sound: s / 16 == output,
-            go: leaves::add(0, s),
+            go: add(0, s),
         };
     }
-    let l = cube[block::wide(i)];
+    let l = cube[wide(i)];
     Cell {
         next,
         output,

@@ -1,32 +1,17 @@
 // A wide cube that may conform, and the pairs of states that may be closed under it.
 use crate::cells::Cell;
 use crate::cells::look;
-use block::BLOCK;
-use block::WAKING;
-use block::inputs;
-use block::states;
-use block::wide;
-use cubes::tables::FACTS;
-use leaves::add;
-use leaves::common;
-use leaves::exact;
-use leaves::least;
-use leaves::less;
-use leaves::literal;
-use leaves::low;
+use block::*;
+use cubes::literals::Cube;
+use cubes::tables::Facts;
+use cubes::words::Sets;
+use leaves::*;
 ghost use mathlib.Core.Path.{_≡_};
 ghost use mathlib.Core.Bool.{true};
 ghost use Rattle.leaves.specs.Members.{Literals};
 
 // Whether no wrong output and only safe pairs follow a pair on an input.
-fn cell_safe(
-    block: &[u8; BLOCK],
-    facts: &[u16; FACTS],
-    cube: &[u32; 32],
-    safe: &[u16; 16],
-    z: u8,
-    x: u8,
-) -> bool {
+fn cell_safe(block: &Block, facts: &Facts, cube: &Cube, safe: &Sets, z: u8, x: u8) -> bool {
     let cell = look(block, facts, cube, z, x);
     if !cell.sound {
         return false;
@@ -35,13 +20,7 @@ fn cell_safe(
 }
 
 // The same on every input.
-fn pair_safe(
-    block: &[u8; BLOCK],
-    facts: &[u16; FACTS],
-    cube: &[u32; 32],
-    safe: &[u16; 16],
-    z: u8,
-) -> bool {
+fn pair_safe(block: &Block, facts: &Facts, cube: &Cube, safe: &Sets, z: u8) -> bool {
     let end = inputs(block);
     for x in 0..end {
         if !cell_safe(block, facts, cube, safe, z, x) {
@@ -52,18 +31,12 @@ fn pair_safe(
 }
 
 // Takes a pair of states that is not safe away; whether it did.
-fn sift_pair(
-    block: &[u8; BLOCK],
-    facts: &[u16; FACTS],
-    cube: &[u32; 32],
-    safe: &mut [u16; 16],
-    z: u8,
-) -> bool {
+fn sift_pair(block: &Block, facts: &Facts, cube: &Cube, safe: &mut Sets, z: u8) -> bool {
     let row = wide(z / 16);
     if z % 16 >= states(block) {
         return false;
     }
-    if !leaves::in_set(safe[row], z) {
+    if !in_set(safe[row], z) {
         return false;
     }
     if pair_safe(block, facts, cube, safe, z) {
@@ -77,12 +50,12 @@ fn pair_at(h: u16) -> u8 {
     (h % 256) as u8
 }
 
-fn rows_end(block: &[u8; BLOCK]) -> u16 {
+fn rows_end(block: &Block) -> u16 {
     (states(block) as u16) * 16
 }
 
 // Takes pairs that are not safe away, each looked at once; whether there was one.
-fn sift(block: &[u8; BLOCK], facts: &[u16; FACTS], cube: &[u32; 32], safe: &mut [u16; 16]) -> bool {
+fn sift(block: &Block, facts: &Facts, cube: &Cube, safe: &mut Sets) -> bool {
     let end = rows_end(block);
     let mut changed = false;
     for h in 0..end {
@@ -94,7 +67,7 @@ fn sift(block: &[u8; BLOCK], facts: &[u16; FACTS], cube: &[u32; 32], safe: &mut 
 }
 
 // Of some pairs of states the most that are closed under the cube without a wrong output.
-fn safe_pairs(block: &[u8; BLOCK], facts: &[u16; FACTS], cube: &[u32; 32], safe: &mut [u16; 16]) {
+fn safe_pairs(block: &Block, facts: &Facts, cube: &Cube, safe: &mut Sets) {
     for rounds in 0..300u16 {
         if !sift(block, facts, cube, safe) {
             return;
@@ -119,7 +92,7 @@ fn narrows(cell: Cell, go: u16) -> bool {
 }
 
 // Narrows the cube at such a suspect; whether it stayed as it was.
-fn narrow_cell(cube: &mut [u32; 32], cell: Cell, go: u16) -> bool
+fn narrow_cell(cube: &mut Cube, cell: Cell, go: u16) -> bool
     ensures { λ r. ⌜ (Literals (now (cube .entry)) → Literals (now (cube .exit))) ⌝ }
 {
     if !narrows(cell, go) {
@@ -131,11 +104,11 @@ fn narrow_cell(cube: &mut [u32; 32], cell: Cell, go: u16) -> bool
 
 // Spreads over one input, and narrows the cube where it would leave the safe pairs.
 fn spread_cell(
-    block: &[u8; BLOCK],
-    facts: &[u16; FACTS],
-    safe: &[u16; 16],
-    cube: &mut [u32; 32],
-    pairs: &mut [u16; 16],
+    block: &Block,
+    facts: &Facts,
+    safe: &Sets,
+    cube: &mut Cube,
+    pairs: &mut Sets,
     w: Rows,
     z: u8,
     x: u8,
@@ -154,9 +127,9 @@ fn spread_cell(
         };
     }
     let next = low(cell.next);
-    let go = common(cell.go, safe[wide(next)]);
+    let go = cubes::words::shared(cell.go, safe[wide(next)]);
     let stayed = narrow_cell(cube, cell, go);
-    pairs[wide(next)] = leaves::either(pairs[wide(next)], go);
+    pairs[wide(next)] = cubes::words::union(pairs[wide(next)], go);
     Rows {
         rows: add(w.rows, next),
         good: w.good & stayed,
@@ -166,11 +139,11 @@ fn spread_cell(
 
 // Spreads over the inputs at a pair.
 fn spread_pair(
-    block: &[u8; BLOCK],
-    facts: &[u16; FACTS],
-    safe: &[u16; 16],
-    cube: &mut [u32; 32],
-    pairs: &mut [u16; 16],
+    block: &Block,
+    facts: &Facts,
+    safe: &Sets,
+    cube: &mut Cube,
+    pairs: &mut Sets,
     from: Rows,
     z: u8,
 ) -> Rows
@@ -189,12 +162,12 @@ fn spread_pair(
 
 // Spreads over the next pair that is new; a row without one is done with.
 fn spread_next(
-    block: &[u8; BLOCK],
-    facts: &[u16; FACTS],
-    safe: &[u16; 16],
-    cube: &mut [u32; 32],
-    pairs: &mut [u16; 16],
-    done: &mut [u16; 16],
+    block: &Block,
+    facts: &Facts,
+    safe: &Sets,
+    cube: &mut Cube,
+    pairs: &mut Sets,
+    done: &mut Sets,
     w: Rows,
 ) -> Rows
     ensures { λ r. ⌜ (Literals (now (cube .entry)) → Literals (now (cube .exit))) ⌝ }
@@ -203,32 +176,26 @@ fn spread_next(
     let new = less(pairs[wide(a)], done[wide(a)]);
     if new == 0 {
         return Rows {
-            rows: leaves::without_least(w.rows),
+            rows: without_least(w.rows),
             good: w.good,
             strict: w.strict,
         };
     }
     let b = least(new);
     done[wide(a)] = add(done[wide(a)], b);
-    spread_pair(block, facts, safe, cube, pairs, w, leaves::packed(a, b))
+    spread_pair(block, facts, safe, cube, pairs, w, packed(a, b))
 }
 
 // Begins with the pairs after a reset, and narrows the literal of the waking state where these would not be safe; false if it was
 // narrowed.
-fn start(
-    block: &[u8; BLOCK],
-    facts: &[u16; FACTS],
-    safe: &[u16; 16],
-    cube: &mut [u32; 32],
-    pairs: &mut [u16; 16],
-) -> bool
+fn start(block: &Block, facts: &Facts, safe: &Sets, cube: &mut Cube, pairs: &mut Sets) -> bool
     ensures { λ r. ⌜ (Literals (now (cube .entry)) → Literals (now (cube .exit))) ⌝ }
 {
     *pairs = [0u16; 16];
     let all = cubes::starts::starts(block, facts, cube);
     pairs[0] = all;
-    let i = block::site(block, WAKING);
-    let go = common(all, safe[0]);
+    let i = site(block, WAKING);
+    let go = cubes::words::shared(all, safe[0]);
     if i >= 32 || go == all {
         return true;
     }
@@ -240,11 +207,11 @@ fn start(
 // Spreads over the pairs of states reachable under a cube, and narrows it where they would leave the safe ones; false if it
 // was narrowed. Strict: false as soon as an output can be wrong.
 fn spread(
-    block: &[u8; BLOCK],
-    facts: &[u16; FACTS],
-    safe: &[u16; 16],
-    cube: &mut [u32; 32],
-    pairs: &mut [u16; 16],
+    block: &Block,
+    facts: &Facts,
+    safe: &Sets,
+    cube: &mut Cube,
+    pairs: &mut Sets,
     strict: bool,
 ) -> bool
     ensures { λ r. ⌜ (Literals (now (cube .entry)) → Literals (now (cube .exit))) ⌝ }
@@ -265,13 +232,7 @@ fn spread(
 }
 
 // Narrows the cube until the pairs reachable under it are safe.
-fn narrow(
-    block: &[u8; BLOCK],
-    facts: &[u16; FACTS],
-    safe: &[u16; 16],
-    cube: &mut [u32; 32],
-    pairs: &mut [u16; 16],
-)
+fn narrow(block: &Block, facts: &Facts, safe: &Sets, cube: &mut Cube, pairs: &mut Sets)
     ensures { λ r. ⌜ (Literals (now (cube .entry)) → Literals (now (cube .exit))) ⌝ }
 {
     for rounds in 0..600u16 {
@@ -283,12 +244,12 @@ fn narrow(
 
 // A wide cube that has the settled part, and its pairs, if the settled part conforms whatever the unsettled suspects do.
 pub fn propose(
-    block: &[u8; BLOCK],
-    facts: &[u16; FACTS],
+    block: &Block,
+    facts: &Facts,
     p: &[u8; 32],
     settled: u32,
-    cube: &mut [u32; 32],
-    pairs: &mut [u16; 16],
+    cube: &mut Cube,
+    pairs: &mut Sets,
 ) -> bool
     ensures { λ r. ⌜ (r ≡ true → Literals (now (cube .exit))) ⌝ }
 {

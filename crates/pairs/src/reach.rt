@@ -2,12 +2,11 @@
 use crate::cells::Cell;
 use crate::cells::look;
 use crate::witness::keep;
-use block::BLOCK;
-use block::WAKING;
-use block::wide;
-use cubes::tables::FACTS;
-use leaves::ANY;
-use leaves::least;
+use block::*;
+use cubes::literals::Cube;
+use cubes::tables::Facts;
+use cubes::words::Sets;
+use leaves::*;
 ghost use mathlib.Core.Path.{_≡_};
 ghost use mathlib.Core.Bool.{true};
 ghost use mathlib.Core.Logic.{_⊎_};
@@ -24,59 +23,46 @@ struct Reach {
 }
 
 // A wrong output is in reach.
-fn wrong(w: Reach, cell: Cell) -> Reach
+fn wrong(mut w: Reach, cell: Cell) -> Reach
     ensures { λ r. ⌜ r .first ≡ w .first ⌝ }
 {
-    Reach {
-        end: w.end,
-        first: w.first,
-        wrong: true,
-        at: cell.site,
-        want: cell.output,
-    }
+    w.wrong = true;
+    w.at = cell.site;
+    w.want = cell.output;
+    w
 }
 
 // An unsettled suspect; the first one stays.
-fn wait(w: Reach, i: u8) -> Reach
+fn wait(mut w: Reach, i: u8) -> Reach
     ensures { λ r. ⌜ (r .first ≡ w .first) ⊎ (r .first ≡ i) ⌝ }
 {
     if w.first != 255 {
         return w;
     }
-    Reach {
-        end: w.end,
-        first: i,
-        wrong: false,
-        at: 255,
-        want: 0,
-    }
+    w.first = i;
+    w
 }
 
 // Lists a pair of states, if it is not listed.
-fn list_pair(seen: &mut [u16; 16], list: &mut [u8; 256], w: Reach, a: u8, b: u8) -> Reach
+fn list_pair(seen: &mut Sets, list: &mut [u8; 256], mut w: Reach, a: u8, b: u8) -> Reach
     ensures { λ r. ⌜ r .first ≡ w .first ⌝ }
 {
-    let row = wide(leaves::low(a));
-    if leaves::in_set(seen[row], b) {
+    let row = wide(low(a));
+    if in_set(seen[row], b) {
         return w;
     }
     let end = w.end;
     if end >= 256 {
         return w;
     }
-    seen[row] = leaves::add(seen[row], b);
-    list[end] = leaves::packed(a, b);
-    Reach {
-        end: end + 1,
-        first: w.first,
-        wrong: false,
-        at: 255,
-        want: 0,
-    }
+    seen[row] = add(seen[row], b);
+    list[end] = packed(a, b);
+    w.end = end + 1;
+    w
 }
 
 // Whether it is a suspect all of whose transitions the cube means.
-fn unsettled(cube: &[u32; 32], i: u8) -> bool
+fn unsettled(cube: &Cube, i: u8) -> bool
     ensures { λ r. ⌜ (r ≡ true → Free (now (cube .entry)) i) ⌝ }
 {
     if i >= 32 {
@@ -87,10 +73,10 @@ fn unsettled(cube: &[u32; 32], i: u8) -> bool
 
 // One input at a pair of states.
 fn walk_cell(
-    block: &[u8; BLOCK],
-    facts: &[u16; FACTS],
-    cube: &[u32; 32],
-    seen: &mut [u16; 16],
+    block: &Block,
+    facts: &Facts,
+    cube: &Cube,
+    seen: &mut Sets,
     list: &mut [u8; 256],
     w: Reach,
     z: u8,
@@ -113,17 +99,17 @@ fn walk_cell(
 
 // Every input at a pair of states.
 fn walk_pair(
-    block: &[u8; BLOCK],
-    facts: &[u16; FACTS],
-    cube: &[u32; 32],
-    seen: &mut [u16; 16],
+    block: &Block,
+    facts: &Facts,
+    cube: &Cube,
+    seen: &mut Sets,
     list: &mut [u8; 256],
     from: Reach,
     z: u8,
 ) -> Reach
     ensures { λ r. ⌜ (Free (now (cube .entry)) (from .first) → Free (now (cube .entry)) (r .first)) ⌝ }
 {
-    let end = block::inputs(block);
+    let end = inputs(block);
     let mut w = from;
     for x in 0..end {
         w = walk_cell(block, facts, cube, seen, list, w, z, x);
@@ -135,13 +121,7 @@ fn walk_pair(
 }
 
 // Every pair of states in reach.
-fn walk(
-    block: &[u8; BLOCK],
-    facts: &[u16; FACTS],
-    cube: &[u32; 32],
-    seen: &mut [u16; 16],
-    list: &mut [u8; 256],
-) -> Reach
+fn walk(block: &Block, facts: &Facts, cube: &Cube, seen: &mut Sets, list: &mut [u8; 256]) -> Reach
     ensures { λ r. ⌜ Free (now (cube .entry)) (r .first) ⌝ }
 {
     let mut w = Reach {
@@ -151,13 +131,8 @@ fn walk(
         at: 255,
         want: 0,
     };
-    w = list_pair(
-        seen,
-        list,
-        w,
-        0,
-        least(cubes::starts::starts(block, facts, cube)),
-    );
+    let b = least(cubes::starts::starts(block, facts, cube));
+    w = list_pair(seen, list, w, 0, b);
     for h in 0..256 {
         if h >= w.end {
             return w;
@@ -173,20 +148,14 @@ fn walk(
 
 // The first unsettled suspect on the walk of the settled part, the waking state before all; 255 if there is none, or if a wrong
 // output is in reach: then a witness is kept.
-pub fn meet(
-    block: &[u8; BLOCK],
-    facts: &[u16; FACTS],
-    p: &[u8; 32],
-    settled: u32,
-    notes: &mut [u16],
-) -> u8
+pub fn meet(block: &Block, facts: &Facts, p: &[u8; 32], settled: u32, notes: &mut [u16]) -> u8
     ensures { λ r. ⌜ Meets settled (now (notes .entry)) (now (notes .exit)) r ⌝ }
 {
     let mut cube = [ANY; 32];
     let mut seen = [0u16; 16];
     let mut list = [0u8; 256];
-    leaves::exact(p, settled, &mut cube);
-    let i = block::site(block, WAKING);
+    exact(p, settled, &mut cube);
+    let i = site(block, WAKING);
     if unsettled(&cube, i) {
         return i;
     }

@@ -3,17 +3,13 @@ use crate::node::Node;
 use crate::node::UNHINTED;
 use crate::node::child;
 use crate::tell::look;
-use block::BLOCK;
-use block::Step;
-use block::site;
-use block::transition;
-use block::wide;
+use block::*;
 use cubes::gather::note as add;
 use cubes::goal::Goal;
-use cubes::tables::FACTS;
-use leaves::ANY;
-use leaves::DEAD;
-use leaves::HINTS;
+use cubes::literals::Cube;
+use cubes::tables::Facts;
+use cubes::words::Sets;
+use leaves::*;
 use store::Told;
 ghost use mathlib.Core.Path.{_≡_};
 ghost use mathlib.Core.Bool.{true, false};
@@ -27,8 +23,8 @@ ghost use Rattle.refutation.specs.Branching.{Found, SplitOk, TurnOk, Joi
 
 // The suspect to settle next: one for which tests wait, else one on the way of the settled part; 255 if there is none.
 fn next_suspect(
-    block: &[u8; BLOCK],
-    facts: &[u16; FACTS],
+    block: &Block,
+    facts: &Facts,
     log: &[u16],
     notes: &mut [u16],
     node: Node,
@@ -58,7 +54,7 @@ fn recall_hints(notes: &[u16], i: u8, known: &mut [u16; 272]) {
 fn recall_dead(notes: &[u16], i: u8, known: &mut [u16; 272]) {
     let base = DEAD + wide(i % 32) * 16;
     for o in 0..16 {
-        known[256 + o] = leaves::note(notes, base + o);
+        known[256 + o] = note(notes, base + o);
     }
 }
 
@@ -78,7 +74,7 @@ pub(crate) struct Split {
     pub n: u16,
 }
 
-fn split_at(block: &[u8; BLOCK], i: u8, left: u8) -> Split
+fn split_at(block: &Block, i: u8, left: u8) -> Split
     ensures { λ r. ⌜ (r .k < 257 → SplitOk (now (block .entry)) left r) ⌝ }
 {
     if i >= 32 {
@@ -95,7 +91,7 @@ fn split_at(block: &[u8; BLOCK], i: u8, left: u8) -> Split
             n: 0,
         };
     }
-    let k = block::pair_of(block, i);
+    let k = pair_of(block, i);
     if site(block, k) != i {
         return Split {
             i,
@@ -106,14 +102,14 @@ fn split_at(block: &[u8; BLOCK], i: u8, left: u8) -> Split
     Split {
         i,
         k,
-        n: block::choices(block, i),
+        n: choices(block, i),
     }
 }
 
 // The suspect to settle next, and what is said of its choices.
 fn next_split(
-    block: &[u8; BLOCK],
-    facts: &[u16; FACTS],
+    block: &Block,
+    facts: &Facts,
     log: &[u16],
     notes: &mut [u16],
     node: Node,
@@ -135,7 +131,7 @@ pub(crate) struct Turn {
     pub hint: u16,
 }
 
-fn has_step(sets: &[u16; 16], step: Step) -> bool
+fn has_step(sets: &Sets, step: Step) -> bool
     ensures { λ r. ⌜ (r ≡ true → Has (getD (now (sets .entry)) (step .output) 0) (step .target)) ⌝ }
 {
     let o = step.output;
@@ -150,11 +146,11 @@ fn has_step(sets: &[u16; 16], step: Step) -> bool
 }
 
 // In the first round a choice of which something is said is passed over.
-fn first_turn(block: &[u8; BLOCK], k: usize, c: u16, done: &[u16; 16], known: &[u16; 272]) -> Turn
+fn first_turn(block: &Block, k: usize, c: u16, done: &Sets, known: &[u16; 272]) -> Turn
     requires { ⌜ k < 257 ⌝ }
 {
     let step = transition(block, k, c);
-    let dead = leaves::in_set(known[256 + wide(leaves::low(step.output))], step.target);
+    let dead = in_set(known[256 + wide(low(step.output))], step.target);
     Turn {
         step,
         skip: dead | has_step(done, step),
@@ -162,7 +158,7 @@ fn first_turn(block: &[u8; BLOCK], k: usize, c: u16, done: &[u16; 16], known: &[
     }
 }
 
-fn second_turn(block: &[u8; BLOCK], k: usize, c: u16, done: &[u16; 16], known: &[u16; 272]) -> Turn
+fn second_turn(block: &Block, k: usize, c: u16, done: &Sets, known: &[u16; 272]) -> Turn
     requires { ⌜ k < 257 ⌝ }
     ensures { λ r. ⌜ TurnOk (now (block .entry)) (now (done .entry)) k c r ⌝ }
 {
@@ -170,11 +166,11 @@ fn second_turn(block: &[u8; BLOCK], k: usize, c: u16, done: &[u16; 16], known: &
     Turn {
         step,
         skip: has_step(done, step),
-        hint: known[wide(leaves::packed(step.output, step.target))],
+        hint: known[wide(packed(step.output, step.target))],
     }
 }
 
-fn at_turn(block: &[u8; BLOCK], split: Split, r: u16, done: &[u16; 16], known: &[u16; 272]) -> Turn
+fn at_turn(block: &Block, split: Split, r: u16, done: &Sets, known: &[u16; 272]) -> Turn
     requires { ⌜ split .k < 257 ⌝ }
     ensures { λ t. ⌜ (split .n ≤ r → TurnOk (now (block .entry)) (now (done .entry)) (split .k) (r - split .n) t) ⌝ }
 {
@@ -185,7 +181,7 @@ fn at_turn(block: &[u8; BLOCK], split: Split, r: u16, done: &[u16; 16], known: &
 }
 
 // Whether nothing is told, or a cube that does not speak of the suspect.
-fn final_at(ok: bool, cube: &[u32; 32], i: u8) -> bool
+fn final_at(ok: bool, cube: &Cube, i: u8) -> bool
     ensures { λ r. ⌜ (r ≡ false → ok ≡ true) ⌝ }
 {
     if !ok {
@@ -196,13 +192,13 @@ fn final_at(ok: bool, cube: &[u32; 32], i: u8) -> bool
 
 // Joins a cube that has a choice to the others; false if it has not, or does not speak of its suspect.
 fn join(
-    block: &[u8; BLOCK],
-    facts: &[u16; FACTS],
-    cube: &[u32; 32],
+    block: &Block,
+    facts: &Facts,
+    cube: &Cube,
     k: usize,
     step: Step,
-    all: &mut [u32; 32],
-    done: &mut [u16; 16],
+    all: &mut Cube,
+    done: &mut Sets,
 ) -> bool
     requires { ⌜ Ready (now block) (now facts) × (k < 257) × (siteAt (now block) k < 32) × (length (now all) ≡ 32) × (length (now done) ≡ 16) ⌝ }
     ensures { λ r. ⌜ (r ≡ true → JoinedOk (now (block .entry)) (now (cube .entry)) (now (all .entry)) (now (done .entry)) (now (all .exit)) (now (done .exit)) k step) ⌝ }
@@ -229,7 +225,7 @@ fn join(
 }
 
 // Keeps and tells what the cubes have in common, the suspect free.
-fn finish(store: &mut [u32], notes: &mut [u16], all: &[u32; 32], i: u8) -> Told
+fn finish(store: &mut [u32], notes: &mut [u16], all: &Cube, i: u8) -> Told
     requires { ⌜ i < 32 ⌝ }
     ensures { λ r. ⌜ (r .cube ≡ set (now (all .entry)) i 4294967295) × Learns (now (store .entry)) (now (store .exit)) (r .cube) (r .ok) ⌝ }
 {
@@ -241,8 +237,8 @@ fn finish(store: &mut [u32], notes: &mut [u16], all: &[u32; 32], i: u8) -> Told
 
 // Refutes a node. First the choices of which nothing is said, then the others.
 pub(crate) fn explore(
-    block: &[u8; BLOCK],
-    facts: &[u16; FACTS],
+    block: &Block,
+    facts: &Facts,
     log: &[u16],
     goal: Goal,
     store: &mut [u32],

@@ -6,9 +6,10 @@ mod node;
 mod prefix;
 mod tell;
 
-use block::BLOCK;
+use block::*;
 use cubes::goal::Goal;
-use cubes::tables::FACTS;
+use cubes::tables::Facts;
+use leaves::*;
 pub use store::Told;
 pub use store::fresh_store;
 pub use store::no_store;
@@ -26,7 +27,7 @@ ghost use Rattle.refutation.specs.Refuting.{Ready};
 ghost use Rattle.refutation.specs.Branching.{Found, PrefixIn};
 
 // Fills the facts of a block and a log; false where it has none.
-pub fn prepare(block: &[u8; BLOCK], log: &[u16], facts: &mut [u16; FACTS]) -> bool
+pub fn prepare(block: &Block, log: &[u16], facts: &mut Facts) -> bool
     requires { ⌜ Wf (now block) × (length (now facts) ≡ 832) ⌝ }
     ensures { λ r. ⌜ (length (now (facts .exit)) ≡ 832) × (r ≡ true → Ready (now (block .entry)) (now (facts .exit))) ⌝ }
 {
@@ -39,7 +40,7 @@ pub fn prepare(block: &[u8; BLOCK], log: &[u16], facts: &mut [u16; FACTS]) -> bo
 }
 
 // Notes one test more, whose reset stands at a place of the log.
-pub fn note_test(facts: &mut [u16; FACTS], at: usize)
+pub fn note_test(facts: &mut Facts, at: usize)
     requires { ⌜ length (now facts) ≡ 832 ⌝ }
     ensures { λ r. ⌜ (length (now (facts .exit)) ≡ 832) × ((m : List ℕ) → Ready m (now (facts .entry)) → Ready m (now (facts .exit))) ⌝ }
 {
@@ -48,8 +49,8 @@ pub fn note_test(facts: &mut [u16; FACTS], at: usize)
 
 // A cube in which no mutant is sought and that has every mutant with all the choices of the prefix; or nothing.
 pub fn told_from(
-    block: &[u8; BLOCK],
-    facts: &[u16; FACTS],
+    block: &Block,
+    facts: &Facts,
     log: &[u16],
     goal: Goal,
     store: &mut [u32],
@@ -75,8 +76,8 @@ pub fn told_from(
 
 // Whether no mutant with all the choices of the prefix is sought; false promises nothing.
 pub fn none_from(
-    block: &[u8; BLOCK],
-    facts: &[u16; FACTS],
+    block: &Block,
+    facts: &Facts,
     log: &[u16],
     goal: Goal,
     store: &mut [u32],
@@ -86,7 +87,7 @@ pub fn none_from(
     requires { ⌜ Ready (now block) (now facts) × StoreOk goal (now block) (now log) (now store) ⌝ }
     ensures { λ r. ⌜ NoneIf goal (now (block .entry)) (now (log .entry)) (now (prefix .entry)) r × StoreOk goal (now (block .entry)) (now (log .entry)) (now (store .exit)) ⌝ }
 {
-    if leaves::witnessed(notes, prefix) {
+    if witnessed(notes, prefix) {
         return false;
     }
     let told = told_from(block, facts, log, goal, store, notes, prefix);

@@ -1,10 +1,6 @@
 // Nodes of the search: settled parts of mutants.
-use block::BLOCK;
-use block::Step;
-use block::pair_of;
-use block::wide;
-use leaves::joined;
-use leaves::packed;
+use block::*;
+use leaves::*;
 ghost use mathlib.Core.Path.{_≡_};
 ghost use Prim.Native.Nat.{_+_, _<_};
 
@@ -38,28 +34,28 @@ pub(crate) fn child(node: Node, i: u8, step: Step, hint: u16) -> Node
 }
 
 // The transition of a choice of a suspect.
-fn step_of(block: &[u8; BLOCK], j: u8, c: u16) -> u8
+fn step_of(block: &Block, j: u8, c: u16) -> u8
     requires { ⌜ j < 32 ⌝ }
 {
-    let step = block::transition(block, pair_of(block, j), c);
+    let step = transition(block, pair_of(block, j), c);
     packed(step.output, step.target)
 }
 
 // The set with a slot of the prefix, if it is a suspect that is settled.
-fn settled_with(block: &[u8; BLOCK], set: u32, j: u8, c: u16) -> u32
+fn settled_with(block: &Block, set: u32, j: u8, c: u16) -> u32
     requires { ⌜ j < 32 ⌝ }
 {
     if c == 256 {
         return set;
     }
-    if block::site(block, pair_of(block, j)) != j {
+    if site(block, pair_of(block, j)) != j {
         return set;
     }
     joined(set, j)
 }
 
 // The node of a prefix.
-pub(crate) fn root(block: &[u8; BLOCK], prefix: &[u16; 32]) -> Node {
+pub(crate) fn root(block: &Block, prefix: &[u16; 32]) -> Node {
     let mut p = [0u8; 32];
     let mut settled: u32 = 0;
     for j in 0..32 {

@@ -1,7 +1,7 @@
 // Whether a cube has every mutant with the choices of a prefix.
-use block::BLOCK;
-use block::wide;
-use leaves::ANY;
+use block::*;
+use cubes::literals::Cube;
+use leaves::*;
 ghost use mathlib.Core.Path.{_≡_};
 ghost use mathlib.Core.Bool.{true};
 ghost use Prim.Native.Nat.{_<_};
@@ -9,11 +9,11 @@ ghost use Rattle.block.specs.Tabulated.{Wf};
 ghost use Rattle.refutation.specs.Branching.{PairHas, PrefixIn};
 
 // One pair.
-fn pair_has(block: &[u8; BLOCK], cube: &[u32; 32], prefix: &[u16; 32], k: usize) -> bool
+fn pair_has(block: &Block, cube: &Cube, prefix: &[u16; 32], k: usize) -> bool
     requires { ⌜ Wf (now block) × (k < 257) ⌝ }
     ensures { λ r. ⌜ (r ≡ true → PairHas (now (block .entry)) (now (cube .entry)) (now (prefix .entry)) k) ⌝ }
 {
-    let i = block::site(block, k);
+    let i = site(block, k);
     if i == 255 {
         return true;
     }
@@ -28,7 +28,7 @@ fn pair_has(block: &[u8; BLOCK], cube: &[u32; 32], prefix: &[u16; 32], k: usize)
     if c == 256 {
         return false;
     }
-    let step = block::transition(block, k, c);
+    let step = transition(block, k, c);
     let t = step.target;
     if t >= 16 {
         return false;
@@ -36,7 +36,7 @@ fn pair_has(block: &[u8; BLOCK], cube: &[u32; 32], prefix: &[u16; 32], k: usize)
     cubes::literals::means(l, step.output, t)
 }
 
-pub(crate) fn has_prefix(block: &[u8; BLOCK], cube: &[u32; 32], prefix: &[u16; 32]) -> bool
+pub(crate) fn has_prefix(block: &Block, cube: &Cube, prefix: &[u16; 32]) -> bool
     requires { ⌜ Wf (now block) ⌝ }
     ensures { λ r. ⌜ (r ≡ true → PrefixIn (now (block .entry)) (now (cube .entry)) (now (prefix .entry))) ⌝ }
 {

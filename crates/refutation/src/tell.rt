@@ -1,11 +1,10 @@
 // What is known of a settled part: by a test, by an entry of the store, or by pairs of states.
 use crate::node::Node;
-use block::BLOCK;
-use block::wide16;
+use block::*;
 use cubes::goal::Goal;
-use cubes::tables::FACTS;
+use cubes::tables::Facts;
 use cursors::FROM_TEST;
-use leaves::ANY;
+use leaves::*;
 use store::Told;
 use store::learn;
 use store::unknown;
@@ -20,7 +19,7 @@ ghost use Rattle.refutation.specs.Refuting.{Ready};
 ghost use Rattle.refutation.specs.Branching.{Found};
 
 // That no mutant of a proposal gives a test's part of the log.
-fn by_test(block: &[u8; BLOCK], facts: &[u16; FACTS], log: &[u16], node: Node, t: usize) -> Told
+fn by_test(block: &Block, facts: &Facts, log: &[u16], node: Node, t: usize) -> Told
     requires { ⌜ Ready (now block) (now facts) ⌝ }
     ensures { λ r. ⌜ ((goal : Sort) → ToldOk goal (now (block .entry)) (now (log .entry)) r) ⌝ }
 {
@@ -31,7 +30,7 @@ fn by_test(block: &[u8; BLOCK], facts: &[u16; FACTS], log: &[u16], node: Node, t
 }
 
 // That every mutant of a proposal conforms.
-fn by_conforming(block: &[u8; BLOCK], facts: &[u16; FACTS], node: Node) -> Told
+fn by_conforming(block: &Block, facts: &Facts, node: Node) -> Told
     requires { ⌜ Ready (now block) (now facts) ⌝ }
     ensures { λ r. ⌜ (r .ok ≡ true → AllConform (now (block .entry)) (r .cube)) ⌝ }
 {
@@ -45,7 +44,7 @@ fn by_conforming(block: &[u8; BLOCK], facts: &[u16; FACTS], node: Node) -> Told
 }
 
 // The same, where a nonconforming mutant is sought.
-fn by_pairs(block: &[u8; BLOCK], facts: &[u16; FACTS], goal: Goal, node: Node) -> Told
+fn by_pairs(block: &Block, facts: &Facts, goal: Goal, node: Node) -> Told
     requires { ⌜ Ready (now block) (now facts) ⌝ }
     ensures { λ r. ⌜ ((log : List ℕ) → ToldOk goal (now (block .entry)) log r) ⌝ }
 {
@@ -56,13 +55,7 @@ fn by_pairs(block: &[u8; BLOCK], facts: &[u16; FACTS], goal: Goal, node: Node) -
 }
 
 // What the node's hint says: a test, or an entry of the store.
-fn by_hint(
-    block: &[u8; BLOCK],
-    facts: &[u16; FACTS],
-    log: &[u16],
-    store: &mut [u32],
-    node: Node,
-) -> Told
+fn by_hint(block: &Block, facts: &Facts, log: &[u16], store: &mut [u32], node: Node) -> Told
     requires { ⌜ Ready (now block) (now facts) ⌝ }
     ensures { λ r. ⌜ ((goal : Sort) → StoreOk goal (now (block .entry)) (now (log .entry)) (now (store .entry)) → Found goal (now (block .entry)) (now (log .entry)) (now (store .exit)) r) ⌝ }
 {
@@ -75,8 +68,8 @@ fn by_hint(
 
 // What the store and the pairs of states say, where no test fails.
 fn consult(
-    block: &[u8; BLOCK],
-    facts: &[u16; FACTS],
+    block: &Block,
+    facts: &Facts,
     goal: Goal,
     store: &mut [u32],
     notes: &mut [u16],
@@ -96,8 +89,8 @@ fn consult(
 
 // What its hint, the tests, the store and the pairs of states say of a node.
 pub(crate) fn look(
-    block: &[u8; BLOCK],
-    facts: &[u16; FACTS],
+    block: &Block,
+    facts: &Facts,
     log: &[u16],
     goal: Goal,
     store: &mut [u32],
@@ -112,7 +105,7 @@ pub(crate) fn look(
     if hinted.ok {
         return hinted;
     }
-    leaves::count_node(notes);
+    count_node(notes);
     let t = cursors::advance_all(block, facts, log, &node.p, node.settled, cursors, node.last);
     if t >= 256 {
         return consult(block, facts, goal, store, notes, node);

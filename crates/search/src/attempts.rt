@@ -3,11 +3,11 @@ use crate::check::show;
 use crate::settle::Attempt;
 use crate::settle::Found;
 use crate::settle::search;
-use block::BLOCK;
+use block::*;
 use cubes::goal::Goal;
 use cubes::tables::FACTS;
-use leaves::LONG;
-use leaves::SHORT;
+use cubes::tables::Facts;
+use leaves::*;
 use machine::Difference;
 ghost use mathlib.Core.Path.{_≡_};
 ghost use mathlib.Core.Bool.{cond};
@@ -29,7 +29,7 @@ fn unsettled() -> [u16; 32]
     [256u16; 32]
 }
 
-fn no_facts() -> [u16; FACTS]
+fn no_facts() -> Facts
     ensures { λ r. ⌜ r ≡ replicate 832 0 ⌝ }
 {
     [0u16; FACTS]
@@ -52,7 +52,7 @@ fn long_notes() -> [u16; LONG] {
 }
 
 // The first wanted mutant by a search with a store of refutations.
-fn find_thoroughly(block: &[u8; BLOCK], log: &[u16], goal: Goal, nodes: &mut u32) -> Attempt
+fn find_thoroughly(block: &Block, log: &[u16], goal: Goal, nodes: &mut u32) -> Attempt
     requires { ⌜ ((sh : Sheet) × ForSheet sh (now block) (now log)) ⌝ }
     ensures { λ r. ⌜ ((sh : Sheet) → ForSheet sh (now (block .entry)) (now (log .entry)) → Answers goal sh nothingSettled 0 (r .found) (r .choices)) ⌝ }
     ensures { λ r. ⌜ (r .found ≡ GaveUp → ⊥) ⌝ }
@@ -78,7 +78,7 @@ fn find_thoroughly(block: &[u8; BLOCK], log: &[u16], goal: Goal, nodes: &mut u32
 
 // The same; first by a quick search, which needs no facts, keeps no refutations and may give up. It tells nothing of a log with something
 // before its first reset.
-fn find(block: &[u8; BLOCK], log: &[u16], goal: Goal, nodes: &mut u32) -> Attempt
+fn find(block: &Block, log: &[u16], goal: Goal, nodes: &mut u32) -> Attempt
     requires { ⌜ ((sh : Sheet) × ForSheet sh (now block) (now log)) ⌝ }
     ensures { λ r. ⌜ ((sh : Sheet) → ForSheet sh (now (block .entry)) (now (log .entry)) → Answers goal sh nothingSettled 0 (r .found) (r .choices)) ⌝ }
     ensures { λ r. ⌜ (r .found ≡ GaveUp → ⊥) ⌝ }
@@ -87,7 +87,7 @@ fn find(block: &[u8; BLOCK], log: &[u16], goal: Goal, nodes: &mut u32) -> Attemp
     if !walks::begins(log) {
         return find_thoroughly(block, log, goal, nodes);
     }
-    let facts: [[u16; FACTS]; 0] = [];
+    let facts: [Facts; 0] = [];
     let mut store = refutation::no_store();
     let mut notes = short_notes();
     let quick = search(
@@ -111,7 +111,7 @@ fn find(block: &[u8; BLOCK], log: &[u16], goal: Goal, nodes: &mut u32) -> Attemp
 // The first mutant in dictionary order that gives the log and meets the goal, with what tells it from the specification, at the
 // buffers' fronts; and how many nodes the engine looked at, which is free.
 pub fn first(
-    block: &[u8; BLOCK],
+    block: &Block,
     log: &[u16],
     goal: Goal,
     board: &mut [u8],

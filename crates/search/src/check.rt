@@ -1,5 +1,5 @@
 // A mutant with all its choices: whether it is wanted, and what is shown of it.
-use block::BLOCK;
+use block::*;
 use cubes::goal::Goal;
 use logs::Wrong;
 use machine::Difference;
@@ -19,7 +19,7 @@ ghost use Rattle.search.specs.Shown.{Room, Showing, Written};
 
 // Whether the machine in the tables meets the goal.
 fn meets<'a>(
-    block: &[u8; BLOCK],
+    block: &Block,
     goal: Goal,
     outputs: &'a [u8; 256],
     targets: &'a [u8; 256],
@@ -41,14 +41,14 @@ fn meets<'a>(
 }
 
 // Whether the mutant with the choices p gives the log and meets the goal.
-pub(crate) fn wanted(block: &[u8; BLOCK], log: &[u16], goal: Goal, p: &[u16; 32]) -> bool
+pub(crate) fn wanted(block: &Block, log: &[u16], goal: Goal, p: &[u16; 32]) -> bool
     requires { ⌜ ((sh : Sheet) × Searching sh (now block) (now log) (now p) (length (slotsOf sh))) ⌝ }
     ensures { λ r. ⌜ ((sh : Sheet) → Searching sh (now (block .entry)) (now (log .entry)) (now (p .entry)) (length (slotsOf sh)) → Decides (Wanted goal sh (mutantIn sh (now (p .entry)))) r) ⌝ }
 {
     let mut outputs = blank();
     let mut targets = blank();
     machine::lay(block, p, &mut outputs, &mut targets);
-    let start = block::initial(block, p);
+    let start = initial(block, p);
     match logs::first_wrong(log, &outputs, &targets, start) {
         Wrong::Nothing => meets(block, goal, &outputs, &targets, start),
         Wrong::At(_, _) => false,
@@ -69,7 +69,7 @@ fn write_choices(p: &[u16; 32], n: usize, board: &mut [u8])
 
 // Writes the mutant with the choices p, and what tells it from the specification, at the buffers' fronts.
 pub(crate) fn show(
-    block: &[u8; BLOCK],
+    block: &Block,
     p: &[u16; 32],
     board: &mut [u8],
     sequence: &mut [u8],
@@ -77,7 +77,7 @@ pub(crate) fn show(
     requires { ⌜ ((sh : Sheet) × Showing sh (now block) (now p)) × Room (now block) (now board) (now sequence) ⌝ }
     ensures { λ r. ⌜ ((sh : Sheet) → Showing sh (now (block .entry)) (now (p .entry)) → Written sh (mutantIn sh (now (p .entry))) r (now (board .entry)) (now (board .exit)) (now (sequence .entry)) (now (sequence .exit))) ⌝ }
 {
-    let n = block::wide(block::slots(block));
+    let n = wide(slots(block));
     write_choices(p, n, board);
     let machine = machine::machine_of(block, &board[..n]);
     let start = machine.start;

@@ -1,9 +1,8 @@
 // The first wanted mutant in dictionary order: the slots are settled one after another.
 use crate::check::wanted;
-use block::BLOCK;
-use block::choices;
+use block::*;
 use cubes::goal::Goal;
-use cubes::tables::FACTS;
+use cubes::tables::Facts;
 ghost use mathlib.Core.Path.{_≡_};
 ghost use lib.ListN.{length};
 ghost use Rattle.sheet.specs.Sheet.{Sheet};
@@ -28,8 +27,8 @@ pub(crate) struct Attempt {
 
 // Whether the prefix is refuted: without a store by walks along the log, with one by the facts, where there are any.
 fn refuted(
-    block: &[u8; BLOCK],
-    facts: &[[u16; FACTS]],
+    block: &Block,
+    facts: &[Facts],
     log: &[u16],
     goal: Goal,
     store: &mut [u32],
@@ -67,8 +66,8 @@ fn settled(wanted: bool, p: [u16; 32]) -> Attempt
 // The first wanted mutant of those that begin as p's first i choices. Without a store it gives up where its notes are spent.
 // The number still unsettled falls.
 pub(crate) fn search(
-    block: &[u8; BLOCK],
-    facts: &[[u16; FACTS]],
+    block: &Block,
+    facts: &[Facts],
     log: &[u16],
     goal: Goal,
     store: &mut [u32],
@@ -88,7 +87,7 @@ pub(crate) fn search(
             choices: p,
         };
     }
-    if i == block::wide(block::slots(block)) {
+    if i == wide(slots(block)) {
         return settled(wanted(block, log, goal, &p), p);
     }
     if store.len() == 0 && walks::spent(notes) {

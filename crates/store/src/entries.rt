@@ -1,12 +1,9 @@
 // Entries of the store, read and written. Which entry is written, and what is noted of its age and of the suspects it speaks of,
 // steers only.
 use crate::live::admit;
-use block::wide16;
-use leaves::ANY;
-use leaves::FILLED;
-use leaves::HAND;
-use leaves::note;
-use leaves::set_note;
+use block::*;
+use cubes::literals::Cube;
+use leaves::*;
 ghost use mathlib.Core.Path.{_≡_};
 ghost use mathlib.Core.Bool.{false};
 ghost use mathlib.Core.List.{List};
@@ -18,7 +15,7 @@ ghost use Rattle.store.specs.Store.{Holds, StoreOk, Used, Written, Kept,
 // A cube in which no mutant is sought, if `ok`; else nothing is said.
 pub struct Told {
     pub ok: bool,
-    pub cube: [u32; 32],
+    pub cube: Cube,
 }
 
 pub fn unknown() -> Told
@@ -160,19 +157,19 @@ fn spoken(set: u32, l: u32, j: u8) -> u32 {
     if l == ANY {
         return set;
     }
-    leaves::joined(set, j)
+    joined(set, j)
 }
 
 // The suspects of which a cube speaks.
-fn speaks(cube: &[u32; 32]) -> u32 {
+fn speaks(cube: &Cube) -> u32 {
     let mut set: u32 = 0;
     for j in 0..32 {
-        set = spoken(set, cube[block::wide(j)], j);
+        set = spoken(set, cube[wide(j)], j);
     }
     set
 }
 
-fn write(store: &mut [u32], e: usize, cube: &[u32; 32])
+fn write(store: &mut [u32], e: usize, cube: &Cube)
     requires { ⌜ e * 34 + 34 ≤ length (now store) ⌝ }
     ensures { λ r. ⌜ Written (now (store .entry)) (now (store .exit)) e (now (cube .entry)) 32 ⌝ }
 {
@@ -185,7 +182,7 @@ fn write(store: &mut [u32], e: usize, cube: &[u32; 32])
 }
 
 // Keeps a cube, if `ok` and there is room.
-pub fn learn(store: &mut [u32], notes: &mut [u16], ok: bool, cube: &[u32; 32])
+pub fn learn(store: &mut [u32], notes: &mut [u16], ok: bool, cube: &Cube)
     ensures { λ r. ⌜ Learns (now (store .entry)) (now (store .exit)) (now (cube .entry)) ok ⌝ }
 {
     if !ok {
@@ -201,7 +198,7 @@ pub fn learn(store: &mut [u32], notes: &mut [u16], ok: bool, cube: &[u32; 32])
 }
 
 // The literals of an entry in use.
-fn literals(store: &[u32], e: usize) -> [u32; 32]
+fn literals(store: &[u32], e: usize) -> Cube
     requires { ⌜ Used (now store) e ⌝ }
     ensures { λ r. ⌜ Holds (now (store .entry)) e r ⌝ }
 {

@@ -1,7 +1,6 @@
 // Which entries may agree with a settled part: those that agreed with the part from which it came by one more suspect, and those
 // written since. Noted by how many suspects are settled. This steers only.
-use leaves::LIVE;
-use leaves::set_note;
+use leaves::*;
 ghost use mathlib.Core.Path.{_≡_};
 ghost use Prim.Native.Nat.{_+_, _*_, _%_, _<_};
 ghost use lib.Count.{ones};
@@ -38,7 +37,7 @@ pub(crate) fn admit(notes: &mut [u16], e: usize)
 {
     for n in 0..34 {
         let at = noted_at(n, e / 16);
-        let set = leaves::note(notes, at);
-        set_note(notes, at, leaves::add(set, (e % 16) as u8));
+        let set = note(notes, at);
+        set_note(notes, at, add(set, (e % 16) as u8));
     }
 }

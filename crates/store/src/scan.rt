@@ -6,10 +6,8 @@ use crate::entries::spot;
 use crate::entries::unknown;
 use crate::live::level;
 use crate::live::noted_at;
-use leaves::DEAD;
-use leaves::FILLED;
-use leaves::HINTS;
-use leaves::note;
+use block::*;
+use leaves::*;
 ghost use Prim.Native.Nat.{_+_, _*_, _<_, _≤_};
 ghost use lib.ListN.{length};
 ghost use Rattle.store.specs.Store.{Kept, Tells};
@@ -57,7 +55,7 @@ fn agrees(store: &[u32], e: usize, p: &[u8; 32], settled: u32) -> bool
     while left > 0 {
         let j = least(left);
         let step = p[j];
-        if !cubes::literals::means(literal_of(store, e, j), step / 16, leaves::low(step)) {
+        if !cubes::literals::means(literal_of(store, e, j), step / 16, low(step)) {
             return false;
         }
         left = without_least(left);
@@ -70,20 +68,16 @@ fn mark_entry(store: &[u32], notes: &mut [u16], e: usize, j: usize)
     requires { ⌜ (e * 34 + 34 ≤ length (now store)) × (j < 32) ⌝ }
 {
     let l = literal_of(store, e, j);
-    cursors::mark(
-        notes,
-        j as u8,
-        (cubes::literals::lit_out(l) % 16) as u8,
-        cubes::literals::lit_next(l),
-        (e % 32768) as u16,
-    );
+    let o = (cubes::literals::lit_out(l) % 16) as u8;
+    let next = cubes::literals::lit_next(l);
+    cursors::mark(notes, j as u8, o, next, (e % 32768) as u16);
 }
 
 // How many entries are filled.
 fn filled(store: &[u32], notes: &[u16]) -> usize
     ensures { λ r. ⌜ r * 34 ≤ length (now (store .entry)) ⌝ }
 {
-    let n = block::wide16(note(notes, FILLED));
+    let n = wide16(note(notes, FILLED));
     let end = room(store);
     if n < end {
         return n;
@@ -122,7 +116,7 @@ fn scan_word(store: &[u32], notes: &mut [u16], p: &[u8; 32], settled: u32, w: us
     requires { ⌜ w < 32 ⌝ }
 {
     let n = level(settled);
-    let mut left = block::wide32(note(notes, noted_at(n, w)));
+    let mut left = wide32(note(notes, noted_at(n, w)));
     let mut live: u16 = 0;
     while left > 0 {
         let e = w * 16 + least(left);
@@ -131,13 +125,13 @@ fn scan_word(store: &[u32], notes: &mut [u16], p: &[u8; 32], settled: u32, w: us
                 return e;
             }
             Fit::Agrees => {
-                live = leaves::add(live, (e % 16) as u8);
+                live = add(live, (e % 16) as u8);
             }
             Fit::Disagrees => {}
         }
         left = without_least(left);
     }
-    leaves::set_note(notes, noted_at(n + 1, w), live);
+    set_note(notes, noted_at(n + 1, w), live);
     room(store)
 }
 

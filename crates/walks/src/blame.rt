@@ -7,7 +7,7 @@ use crate::refute::unknown;
 use crate::walk::Halt;
 use crate::walk::Place;
 use crate::walk::walk;
-use block::BLOCK;
+use block::*;
 ghost use mathlib.Core.List.{List};
 ghost use mathlib.Core.Path.{_≡_};
 ghost use mathlib.Core.Bool.{true};
@@ -19,7 +19,7 @@ ghost use Rattle.cubes.specs.declared.goal.Goal.the-variants.{Nonconforming};
 ghost use Rattle.walks.specs.Walks.{Halts, Starts, ToldOk};
 
 // Where a walk from the reset at a place of the log halts; it is lost where no reset stands there.
-fn walk_from(block: &[u8; BLOCK], log: &[u16], p: &[u16; 32], at: usize) -> Halt
+fn walk_from(block: &Block, log: &[u16], p: &[u16; 32], at: usize) -> Halt
     requires { ⌜ Wf (now block) ⌝ }
     ensures { λ r. ⌜ ((goal : Goal) → Halts goal (now (block .entry)) (now (log .entry)) (now (p .entry)) r) × Starts (now (log .entry)) at r ⌝ }
 {
@@ -29,16 +29,13 @@ fn walk_from(block: &[u8; BLOCK], log: &[u16], p: &[u16; 32], at: usize) -> Halt
     if log[at] != 256 {
         return Halt::Lost;
     }
-    let start = Place {
-        at,
-        state: 0,
-        used: 0,
-    };
-    walk(block, log, p, start)
+    let state = 0;
+    let used = 0;
+    walk(block, log, p, Place { at, state, used })
 }
 
 // By a wrong output in the log from the reset at a place on; `ok` only if there is one.
-pub fn by_log(block: &[u8; BLOCK], log: &[u16], p: &[u16; 32], at: usize) -> Told
+pub fn by_log(block: &Block, log: &[u16], p: &[u16; 32], at: usize) -> Told
     requires { ⌜ Wf (now block) ⌝ }
     ensures { λ r. ⌜ ((goal : Goal) → ToldOk goal (now (block .entry)) (now (log .entry)) (now (p .entry)) r) ⌝ }
 {
@@ -46,7 +43,7 @@ pub fn by_log(block: &[u8; BLOCK], log: &[u16], p: &[u16; 32], at: usize) -> Tol
 }
 
 // As it conforms; `ok` only if it does.
-pub fn by_reach(block: &[u8; BLOCK], p: &[u16; 32]) -> Told
+pub fn by_reach(block: &Block, p: &[u16; 32]) -> Told
     requires { ⌜ Wf (now block) ⌝ }
     ensures { λ r. ⌜ ((log : List ℕ) → ToldOk Nonconforming (now (block .entry)) log (now (p .entry)) r) ⌝ }
 {
@@ -54,14 +51,12 @@ pub fn by_reach(block: &[u8; BLOCK], p: &[u16; 32]) -> Told
     if reach.stop != CLOSED {
         return unknown();
     }
-    Told {
-        ok: true,
-        used: reach.used,
-    }
+    let used = reach.used;
+    Told { ok: true, used }
 }
 
 // Whether the log from the reset at a place on is given by a mutant with the settled choices, which it does not leave.
-pub fn gives_from(block: &[u8; BLOCK], log: &[u16], p: &[u16; 32], at: usize) -> bool
+pub fn gives_from(block: &Block, log: &[u16], p: &[u16; 32], at: usize) -> bool
     requires { ⌜ Wf (now block) ⌝ }
     ensures { λ r. ⌜ (r ≡ true → (at < length (now (log .entry))) × (getD (now (log .entry)) at 0 ≡ 256)) ⌝ }
 {

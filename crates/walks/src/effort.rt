@@ -1,5 +1,5 @@
 // How much an attempt may spend: one for each node that it looks at, one for each pair of states that it meets.
-use leaves::SPENT;
+use leaves::*;
 ghost use mathlib.Core.Path.{_≡_};
 ghost use mathlib.Core.Bool.{true, false};
 ghost use Prim.Native.Nat.{_<_, _≤_};
@@ -19,11 +19,11 @@ pub fn spent(notes: &[u16]) -> bool
 
 // Spends n, which is below the budget.
 pub(crate) fn spend(notes: &mut [u16], n: u16) {
-    let before = leaves::note(notes, SPENT);
+    let before = note(notes, SPENT);
     if before >= BUDGET {
         return;
     }
-    leaves::set_note(notes, SPENT, before + n % BUDGET);
+    set_note(notes, SPENT, before + n % BUDGET);
 }
 
 // Whether one node more may be looked at, which is counted.
@@ -31,7 +31,7 @@ pub(crate) fn enter_node(notes: &mut [u16]) -> bool {
     if spent(notes) {
         return false;
     }
-    leaves::count_node(notes);
+    count_node(notes);
     spend(notes, 1);
     true
 }

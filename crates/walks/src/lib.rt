@@ -11,9 +11,10 @@ mod walk;
 pub use blame::by_log;
 pub use blame::by_reach;
 pub use blame::gives_from;
-use block::BLOCK;
+use block::*;
 use cubes::goal::Goal;
 pub use effort::spent;
+use leaves::*;
 pub use refute::Told;
 use refute::refute;
 use walk::Place;
@@ -22,14 +23,6 @@ ghost use mathlib.Core.Bool.{true};
 ghost use Rattle.block.specs.Tabulated.{Wf};
 ghost use Rattle.cubes.specs.Cube.{NoneIf};
 ghost use Rattle.walks.specs.Walks.{Begins};
-
-// Whether to try is of no use.
-fn hopeless(notes: &[u16], prefix: &[u16; 32]) -> bool {
-    if spent(notes) {
-        return true;
-    }
-    leaves::witnessed(notes, prefix)
-}
 
 // Whether a log has nothing before its first reset: then any state will do to begin with.
 pub fn begins(log: &[u16]) -> bool
@@ -43,7 +36,7 @@ pub fn begins(log: &[u16]) -> bool
 
 // Whether no mutant with all the choices of the prefix is sought; false promises nothing.
 pub fn none_from(
-    block: &[u8; BLOCK],
+    block: &Block,
     log: &[u16],
     goal: Goal,
     notes: &mut [u16],
@@ -52,17 +45,16 @@ pub fn none_from(
     requires { ⌜ Wf (now block) ⌝ }
     ensures { λ r. ⌜ NoneIf goal (now (block .entry)) (now (log .entry)) (now (prefix .entry)) r ⌝ }
 {
-    if hopeless(notes, prefix) {
+    if spent(notes) || witnessed(notes, prefix) {
         return false;
     }
     if !begins(log) {
         return false;
     }
-    let start = Place {
-        at: 0,
-        state: 0,
-        used: 0,
-    };
+    let at = 0;
+    let state = 0;
+    let used = 0;
+    let start = Place { at, state, used };
     let told = refute(block, log, goal, notes, prefix, start, 33);
     told.ok
 }

@@ -1,11 +1,8 @@
 // The pairs of states, the specification's and the mutant's, that are in reach with the settled choices.
 use crate::steps::Taken;
 use crate::steps::take;
-use block::BLOCK;
-use block::WAKING;
-use block::place;
-use block::wide;
-use block::wide16;
+use block::*;
+use cubes::words::Sets;
 use cubes::words::one;
 use cubes::words::union;
 ghost use mathlib.Core.Path.{_≡_};
@@ -35,7 +32,7 @@ pub(crate) struct Reach {
 }
 
 // Adds a pair to the rows, by state of the specification a set of states, and to the queue.
-fn meet(rows: &mut [u16; 16], queue: &mut [u8; 256], s: u8, q: u8, count: u16) -> u16
+fn meet(rows: &mut Sets, queue: &mut [u8; 256], s: u8, q: u8, count: u16) -> u16
     requires { ⌜ (length (now rows) ≡ 16) × (s < 16) ⌝ }
     ensures { λ r. ⌜ Met (now (rows .entry)) (now (rows .exit)) s q × (count ≤ 256 → r ≤ 256) ⌝ }
 {
@@ -56,26 +53,23 @@ fn meet(rows: &mut [u16; 16], queue: &mut [u8; 256], s: u8, q: u8, count: u16) -
 }
 
 // The first unsettled suspect stops the pairs, unless something stops them already.
-fn stopped(reach: Reach, i: u8) -> Reach
+fn stopped(mut reach: Reach, i: u8) -> Reach
     ensures { λ r. ⌜ (r .used ≡ reach .used) × (r .count ≡ reach .count) × (r .stop ≡ 255 → ⊥) ⌝ }
 {
     if reach.stop != CLOSED {
         return reach;
     }
-    Reach {
-        used: reach.used,
-        count: reach.count,
-        stop: i % 32,
-    }
+    reach.stop = i % 32;
+    reach
 }
 
 // One input at the pair of states k / 16 and k % 16.
 fn cell(
-    block: &[u8; BLOCK],
+    block: &Block,
     p: &[u16; 32],
     k: u8,
     x: u8,
-    rows: &mut [u16; 16],
+    rows: &mut Sets,
     queue: &mut [u8; 256],
     reach: Reach,
 ) -> Reach
@@ -83,7 +77,7 @@ fn cell(
     ensures { λ r. ⌜ CellReached (now (block .entry)) (now (p .entry)) (now (rows .entry)) (now (rows .exit)) reach r k x ⌝ }
 {
     let at = place(k / 16, x);
-    let next = block::rule_target(block, at);
+    let next = rule_target(block, at);
     if next == 255 {
         return reach;
     }
@@ -91,24 +85,20 @@ fn cell(
     match taken {
         Taken::Waits(i) => stopped(reach, i),
         Taken::Takes(step, used) => {
-            if step.output != block::rule_output(block, at) {
-                return Reach {
-                    used,
-                    count: reach.count,
-                    stop: WRONG,
-                };
+            if step.output != rule_output(block, at) {
+                let count = reach.count;
+                let stop = WRONG;
+                return Reach { used, count, stop };
             }
-            Reach {
-                used,
-                count: meet(rows, queue, next, step.target, reach.count),
-                stop: reach.stop,
-            }
+            let count = meet(rows, queue, next, step.target, reach.count);
+            let stop = reach.stop;
+            Reach { used, count, stop }
         }
     }
 }
 
 // The pair of the states after a reset, or the unsettled suspect that stops it.
-fn start(block: &[u8; BLOCK], p: &[u16; 32], rows: &mut [u16; 16], queue: &mut [u8; 256]) -> Reach
+fn start(block: &Block, p: &[u16; 32], rows: &mut Sets, queue: &mut [u8; 256]) -> Reach
     requires { ⌜ Wf (now block) × (length (now rows) ≡ 16) ⌝ }
     ensures { λ r. ⌜ StartReached (now (block .entry)) (now (p .entry)) (now (rows .entry)) (now (rows .exit)) r ⌝ }
 {
@@ -130,17 +120,17 @@ fn start(block: &[u8; BLOCK], p: &[u16; 32], rows: &mut [u16; 16], queue: &mut [
 
 // Every input at a pair of states, up to a wrong output.
 fn row(
-    block: &[u8; BLOCK],
+    block: &Block,
     p: &[u16; 32],
     k: u8,
-    rows: &mut [u16; 16],
+    rows: &mut Sets,
     queue: &mut [u8; 256],
     from: Reach,
 ) -> Reach
     requires { ⌜ Wf (now block) × (length (now rows) ≡ 16) ⌝ }
     ensures { λ r. ⌜ RowReached (now (block .entry)) (now (p .entry)) (now (rows .entry)) (now (rows .exit)) from r k (inputsOf (now (block .entry))) ⌝ }
 {
-    let end = block::inputs(block);
+    let end = inputs(block);
     let mut reach = from;
     for x in 0..end {
         reach = cell(block, p, k, x, rows, queue, reach);
@@ -152,11 +142,11 @@ fn row(
 }
 
 // Whether each row is within the other of its state.
-fn all_within(block: &[u8; BLOCK], rows: &[u16; 16], done: &[u16; 16]) -> bool
+fn all_within(block: &Block, rows: &Sets, done: &Sets) -> bool
     requires { ⌜ Wf (now block) ⌝ }
     ensures { λ r. ⌜ (r ≡ true → AllWithin (now (block .entry)) (now (rows .entry)) (now (done .entry))) ⌝ }
 {
-    let end = block::states(block);
+    let end = states(block);
     for s in 0..end {
         if !cubes::words::within(rows[wide(s)], done[wide(s)]) {
             return false;
@@ -173,7 +163,7 @@ fn row_of(k: u8) -> usize
 }
 
 // The pairs in reach, breadth first. Where nothing stops them, every mutant that has the choices of the suspects used conforms.
-pub(crate) fn spread(block: &[u8; BLOCK], p: &[u16; 32]) -> Reach
+pub(crate) fn spread(block: &Block, p: &[u16; 32]) -> Reach
     requires { ⌜ Wf (now block) ⌝ }
     ensures { λ r. ⌜ (r .stop ≡ 255 → Conform (now (block .entry)) (Agrees (now (p .entry)) (r .used))) ⌝ }
 {
@@ -193,11 +183,8 @@ pub(crate) fn spread(block: &[u8; BLOCK], p: &[u16; 32]) -> Reach
         n += 1;
     }
     if !all_within(block, &rows, &done) {
-        return Reach {
-            used: reach.used,
-            count: reach.count,
-            stop: LOST,
-        };
+        reach.stop = LOST;
+        return reach;
     }
     reach
 }

@@ -7,10 +7,9 @@ use crate::reach::spread;
 use crate::walk::Halt;
 use crate::walk::Place;
 use crate::walk::walk;
-use block::BLOCK;
-use block::wide;
+use block::*;
 use cubes::goal::Goal;
-use leaves::keep_witness;
+use leaves::*;
 ghost use mathlib.Core.Path.{_≡_};
 ghost use mathlib.Core.Bool.{true, false};
 ghost use mathlib.Core.List.{List};
@@ -34,7 +33,7 @@ pub(crate) fn unknown() -> Told
 }
 
 // By the pairs of states, at the end of the log.
-fn by_pairs(block: &[u8; BLOCK], notes: &mut [u16], p: &[u16; 32], place: Place) -> Halt
+fn by_pairs(block: &Block, notes: &mut [u16], p: &[u16; 32], place: Place) -> Halt
     requires { ⌜ Wf (now block) ⌝ }
     ensures { λ r. ⌜ ((log : List ℕ) → Stands (now (block .entry)) log (now (p .entry)) place → Halts Nonconforming (now (block .entry)) log (now (p .entry)) r) ⌝ }
 {
@@ -52,7 +51,7 @@ fn by_pairs(block: &[u8; BLOCK], notes: &mut [u16], p: &[u16; 32], place: Place)
 
 // By the log and then, where a nonconforming mutant is sought, by the pairs; nothing where the budget is spent.
 fn look(
-    block: &[u8; BLOCK],
+    block: &Block,
     log: &[u16],
     goal: Goal,
     notes: &mut [u16],
@@ -89,7 +88,7 @@ pub(crate) fn told_of(halt: Halt) -> Told
 }
 
 // How many choices an unsettled suspect has; 0 for any other number, and where no more may be settled.
-fn to_settle(block: &[u8; BLOCK], p: &[u16; 32], i: u8, left: u8) -> u16
+fn to_settle(block: &Block, p: &[u16; 32], i: u8, left: u8) -> u16
     ensures { λ r. ⌜ (0 < r → SplitOk (now (block .entry)) (now (p .entry)) i left r) ⌝ }
 {
     if i >= 32 {
@@ -101,7 +100,7 @@ fn to_settle(block: &[u8; BLOCK], p: &[u16; 32], i: u8, left: u8) -> u16
     if p[wide(i)] != 256 {
         return 0;
     }
-    block::choices(block, i)
+    choices(block, i)
 }
 
 // Whether nothing is told, or that which does not depend on the suspect.
@@ -112,12 +111,12 @@ fn is_final(told: Told, i: u8) -> bool
     if !told.ok {
         return true;
     }
-    !leaves::among(told.used, i)
+    !among(told.used, i)
 }
 
 // Refutes the settled part p, with the walk at a place. `left` falls: so many more may be settled.
 pub(crate) fn refute(
-    block: &[u8; BLOCK],
+    block: &Block,
     log: &[u16],
     goal: Goal,
     notes: &mut [u16],
@@ -144,7 +143,7 @@ pub(crate) fn refute(
         if is_final(told, i) {
             return told;
         }
-        used = leaves::united(used, told.used);
+        used = united(used, told.used);
     }
     Told { ok: true, used }
 }

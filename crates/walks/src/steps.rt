@@ -1,7 +1,6 @@
 // What the settled choices do at a pair of a state and an input, or into the waking state.
-use block::BLOCK;
-use block::Step;
-use block::transition;
+use block::*;
+use leaves::*;
 ghost use Prim.Native.Nat.{_<_};
 ghost use Rattle.block.specs.Tabulated.{Wf};
 ghost use Rattle.walks.specs.Walks.{TakenOk};
@@ -12,17 +11,17 @@ pub(crate) enum Taken {
     Waits(u8),
 }
 
-pub(crate) fn take(block: &[u8; BLOCK], p: &[u16; 32], k: usize, used: u32) -> Taken
+pub(crate) fn take(block: &Block, p: &[u16; 32], k: usize, used: u32) -> Taken
     requires { ⌜ Wf (now block) × (k < 257) ⌝ }
     ensures { λ r. ⌜ TakenOk (now (block .entry)) (now (p .entry)) k used r ⌝ }
 {
-    let i = block::site(block, k);
+    let i = site(block, k);
     if i == 255 {
         return Taken::Takes(transition(block, k, 0), used);
     }
-    let c = p[block::wide(i)];
+    let c = p[wide(i)];
     if c == 256 {
         return Taken::Waits(i);
     }
-    Taken::Takes(transition(block, k, c), leaves::joined(used, i))
+    Taken::Takes(transition(block, k, c), joined(used, i))
 }

@@ -1,8 +1,7 @@
 // The walk of the log with the settled choices.
 use crate::steps::Taken;
 use crate::steps::take;
-use block::BLOCK;
-use block::WAKING;
+use block::*;
 ghost use mathlib.Core.Path.{_≡_};
 ghost use Prim.Native.Nat.{_+_, _<_};
 ghost use lib.ListN.{length, getD};
@@ -26,7 +25,7 @@ pub(crate) enum Halt {
 }
 
 // A reset: what was before does not matter, but at an unsettled suspect the walk waits before it.
-fn reset(block: &[u8; BLOCK], log: &[u16], p: &[u16; 32], place: Place) -> Halt
+fn reset(block: &Block, log: &[u16], p: &[u16; 32], place: Place) -> Halt
     requires { ⌜ Wf (now block) × Stands (now block) (now log) (now p) place × (place .at < length (now log)) × (getD (now log) (place .at) 0 ≡ 256) ⌝ }
     ensures { λ r. ⌜ ((goal : Goal) → Halts goal (now (block .entry)) (now (log .entry)) (now (p .entry)) r) × GoesTo (place .at + 1) r ⌝ }
 {
@@ -42,7 +41,7 @@ fn reset(block: &[u8; BLOCK], log: &[u16], p: &[u16; 32], place: Place) -> Halt
 }
 
 // One observation: `Ends` tells where the walk stands after it.
-fn observe(block: &[u8; BLOCK], log: &[u16], p: &[u16; 32], place: Place) -> Halt
+fn observe(block: &Block, log: &[u16], p: &[u16; 32], place: Place) -> Halt
     requires { ⌜ Wf (now block) × Stands (now block) (now log) (now p) place × (place .at < length (now log)) ⌝ }
     ensures { λ r. ⌜ ((goal : Goal) → Halts goal (now (block .entry)) (now (log .entry)) (now (p .entry)) r) × GoesTo (place .at + 1) r ⌝ }
 {
@@ -54,15 +53,15 @@ fn observe(block: &[u8; BLOCK], log: &[u16], p: &[u16; 32], place: Place) -> Hal
     if v > 256 {
         return Halt::Lost;
     }
-    let x = cubes::failing::input_of(v);
-    if x >= block::inputs(block) {
+    let x = input_of(v);
+    if x >= inputs(block) {
         return Halt::Lost;
     }
-    let taken = take(block, p, block::some_place(place.state, x), place.used);
+    let taken = take(block, p, some_place(place.state, x), place.used);
     match taken {
         Taken::Waits(i) => Halt::Waits(i, place),
         Taken::Takes(step, used) => {
-            if step.output != cubes::failing::output_of(v) {
+            if step.output != output_of(v) {
                 return Halt::Fails(used);
             }
             Halt::Ends(Place {
@@ -75,7 +74,7 @@ fn observe(block: &[u8; BLOCK], log: &[u16], p: &[u16; 32], place: Place) -> Hal
 }
 
 // Walks the log from a place on.
-pub(crate) fn walk(block: &[u8; BLOCK], log: &[u16], p: &[u16; 32], from: Place) -> Halt
+pub(crate) fn walk(block: &Block, log: &[u16], p: &[u16; 32], from: Place) -> Halt
     requires { ⌜ Wf (now block) × Stands (now block) (now log) (now p) from ⌝ }
     ensures { λ r. ⌜ ((goal : Goal) → Halts goal (now (block .entry)) (now (log .entry)) (now (p .entry)) r) ⌝ }
 {

@@ -1,5 +1,5 @@
 -- The block that holds a sheet's tables has the sheet's specification and mutants.
-use Rattle.lists.specs.Proving.{arith, ℕ, zero, suc, _+_, _-_, _*_, _/_, _%_, _<_, _≤_, _≡_, refl, sym, _∙_, ap, Bool, true, false, cond, _&&_, by-cases, Option, some, none, List, [], _∷_, length, getD, replicate, List·getD-eq-default, eqb, ltb, ℕ-discrete, decLt, ne-eqb, ltb-true, lt-ltb, never}
+use Rattle.lists.specs.Proving.{arith, ℕ, zero, suc, _+_, _-_, _/_, _%_, _<_, _≤_, _≡_, refl, sym, _∙_, ap, Bool, true, false, cond, _&&_, by-cases, Option, some, none, List, [], _∷_, length, getD, replicate, List·getD-eq-default, eqb, ltb, ℕ-discrete, decLt, ne-eqb, ltb-true, lt-ltb, never}
 use mathlib.Core.Path.{fun-ext}
 use Rattle.sheet.specs.declared.Row.{Row}
 use Rattle.lists.specs.Lists.{maybe, isNone, first}

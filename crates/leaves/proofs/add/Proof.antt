@@ -1,4 +1,4 @@
-use Rattle.lists.specs.Proving.{needs, ℕ, _^_, sym, _∙_, ap, subst}
+use Rattle.lists.specs.Proving.{needs, ℕ, _^_, _∙_, ap, subst}
 use Rattle.cubes.specs.Sets.{Joined}
 use Rattle.leaves.proofs.add as own
 

@@ -1,4 +1,4 @@
-use Rattle.lists.specs.Proving.{needs, ℕ, _%_, _≡_, sym, subst, true, false}
+use Rattle.lists.specs.Proving.{needs, ℕ, _≡_, subst, true, false}
 use Rattle.cubes.specs.Sets.{Has}
 use Rattle.leaves.proofs.in_set as own
 

@@ -1,5 +1,5 @@
 -- Cubes that steer: their literals one by one, and which suspects are free in the cube of a settled part.
-use Rattle.lists.specs.Proving.{arith, ℕ, zero, suc, _+_, _*_, _%_, _<_, _≡_, sym, subst, _⊎_, inl, inr, List, [], _∷_, length, getD, set, List·getD-eq-default, decLt}
+use Rattle.lists.specs.Proving.{arith, ℕ, zero, suc, _+_, _<_, _≡_, _⊎_, inl, inr, List, [], _∷_, length, getD, set, List·getD-eq-default, decLt}
 use Rattle.cubes.specs.Sets.{Has}
 use Rattle.cubes.specs.Cube.{Means}
 use Rattle.cubes.specs.laws.SetLaw.{nothing}

@@ -1,5 +1,5 @@
 -- Notes that stay as they are: none changed, one, more.
-use Rattle.lists.specs.Proving.{arith, ℕ, _<_, _≤_, _≡_, refl, _∙_, List, length, set, length-set, getD-set-other}
+use Rattle.lists.specs.Proving.{arith, ℕ, _<_, _≤_, _≡_, refl, _∙_, List, set, length-set, getD-set-other}
 use Rattle.leaves.specs.Noted.{Changed}
 
 pub changed-none : {from to : ℕ} {notes : List ℕ} → Changed from to notes notes

@@ -1,4 +1,4 @@
-use Rattle.lists.specs.Proving.{needs, arith, _/_, refl, lt-ltb, le-ltb}
+use Rattle.lists.specs.Proving.{needs, _/_, refl, lt-ltb, le-ltb}
 use Rattle.block.proofs.layout.stay as own
 
 pub stay-spec : {M : Type 1} → own.Statement.statement M

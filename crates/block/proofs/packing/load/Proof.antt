@@ -5,7 +5,7 @@ use Rattle.block.proofs.LoadLaw.{refused-none, read, read-of, loads}
 use Rattle.block.proofs.packing.load as own
 
 abbrev entry : own.Tie.After-load → own.Tie.Start
-entry c = c .before .before .before .before .before .before .before .before .before .before
+entry c = let tables = c .before .before .before .before .before in tables .before .before .before .before .before
 
 pub load-spec : {M : Type 1} → own.Statement.statement M
 load-spec = own.Tie.close (own.Tie.spec
@@ -15,13 +15,15 @@ load-spec = own.Tie.close (own.Tie.spec
     let s = now (entry at-load .args .sheet) in
     (at-load .load .ensures .0, (entry at-load .pre, λ sh is. absurd (refused-none s (at-load .load .ensures .0) (c .enum-told .given .1) sh is))))
     (λ c κs.
-    let at-reading = c .before .before .before .before .before .before .before .before in
+    let lent = c .before .before .before .before in
+    let at-reading = lent .before .before .before .before in
     let at-load = at-reading .before .before in
     let s = now (entry at-load .args .sheet) in
     let r = read s (at-load .load .ensures .0) (at-reading .reading .given .1) (at-load .load .ensures .1) in
     (entry at-load .pre, (r .0, _, _, r .1)))
     (λ c.
-    let at-reading = c .before .before .before .before .before .before .before .before .before in
+    let lent = c .before .before .before .before .before in
+    let at-reading = lent .before .before .before .before in
     let at-load = at-reading .before .before in
     let s = now (entry at-load .args .sheet) in
     let e = at-reading .reading .given .1 in

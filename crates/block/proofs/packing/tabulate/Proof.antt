@@ -11,15 +11,15 @@ tabulate-spec = own.Tie.close (own.Tie.spec
     (λ c κs. search needs) (λ c κs. search needs) (λ c κs. search needs) (λ c κs. search needs) (λ c. search needs)
     (λ c. search needs) (λ c. search needs) (λ c κs. search needs) (λ c. search needs) (λ c. search needs)
     (λ c.
-    let at-locate = c .before in
-    let at-copy-wakings = at-locate .before .before .before .before in
-    let at-copy5 = at-copy-wakings .before .before .before .before in
-    let at-copy-choices = at-copy5 .before .before .before .before in
-    let at-copy4 = at-copy-choices .before .before .before .before in
-    let at-copy3 = at-copy4 .before .before in
-    let at-copy-first = at-copy3 .before .before in
-    let at-copy2 = at-copy-first .before .before in
-    let at-copy = at-copy2 .before .before in
-    let at-number = at-copy .before .before in
+    let at-pairs = c .before in
+    let at-wakings = at-pairs .before .before .before .before .before in
+    let at-site = at-wakings .before .before .before .before .before in
+    let at-choices = at-site .before .before .before .before .before in
+    let at-diverted = at-choices .before .before .before .before in
+    let at-mutated = at-diverted .before .before .before in
+    let at-first = at-mutated .before .before .before in
+    let at-target = at-first .before .before in
+    let at-output = at-target .before .before .before in
+    let at-number = at-output .before .before .before in
     let at-wide2 = at-number .before in
-    (simp length-set (at-locate .locate .ensures .long), λ sh starts lengths rd. tabled rd _ _ (at-wide2 .before .wide .ensures .0) (at-wide2 .wide2 .ensures .0) (at-number .number .result) (at-number .number .ensures) _ (c .waking-site .ensures) (at-copy .copy .ensures) (at-copy2 .copy2 .ensures) (at-copy-first .copy-first .ensures) (at-copy3 .copy3 .ensures) (at-copy4 .copy4 .ensures) (at-copy-choices .copy-choices .ensures) (at-copy5 .copy5 .ensures) (at-copy-wakings .copy-wakings .ensures) (at-locate .locate .ensures))))
+    (simp length-set (at-pairs .copy7 .ensures .long), λ sh starts lengths rd. tabled rd _ _ (at-wide2 .before .wide .ensures .0) (at-wide2 .wide2 .ensures .0) (at-number .number .result) (at-output .before .copy-arg2 .given .0) (at-target .before .copy-arg4 .given .0) (at-mutated .before .copy-arg6 .given .0) (at-diverted .before .copy-arg8 .given .0) (at-site .before .copy-arg11 .given .0) (at-wakings .before .copy-arg14 .given .0) (at-number .number .ensures) _ (c .waking-site .ensures) (at-output .copy .ensures) (at-target .copy2 .ensures) (at-first .copy-first .ensures) (at-mutated .copy3 .ensures) (at-diverted .copy4 .ensures) (at-choices .copy-choices .ensures) (at-site .copy5 .ensures) (at-wakings .copy6 .ensures) (at-pairs .copy7 .ensures))))

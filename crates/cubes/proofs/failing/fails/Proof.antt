@@ -24,7 +24,7 @@ fails-spec = own.Tie.close (own.Tie.spec
     let at-loop = at-loop-test .before in
     let earlier = at-loop .before .before .before .before .before in
     let at-entry = earlier .before in
-    λ e goal. walk-end (at-entry .pre .wf) (at-loop .loop .inv) (at-loop-test .loop-test .taken) (λ z. omega (arith, z, at-if3 .if3 .left)) (at-input-of .input-of .ensures) (c .before .before .output-of .ensures .0) (omega (arith, at-if4 .if4 .left, at-inputs .inputs .ensures)) (c .before .onward .ensures) (c .if5 .taken) goal)
+    λ e goal. walk-end (at-entry .pre .wf) (at-loop .loop .inv) (at-loop-test .loop-test .taken) (λ z. omega (arith, z, at-if3 .if3 .left)) (omega (arith, at-input-of .input-of .ensures, at-if3 .if3 .left)) (c .before .before .output-of .ensures .0) (omega (arith, at-if4 .if4 .left, at-inputs .inputs .ensures)) (c .before .onward .ensures) (c .if5 .taken) goal)
     (λ c. search needs) (λ c. search needs)
     (λ c.
     let at-if4 = c .before .before .before in
@@ -35,5 +35,5 @@ fails-spec = own.Tie.close (own.Tie.spec
     let at-loop = at-loop-test .before in
     let earlier = at-loop .before .before .before .before .before in
     let at-entry = earlier .before in
-    walk-more (at-entry .pre .wf) (at-loop .loop .inv) (at-loop-test .loop-test .taken) (λ z. omega (arith, z, at-if3 .if3 .left)) (at-input-of .input-of .ensures) (c .before .before .output-of .ensures .0) (omega (arith, at-if4 .if4 .left, at-inputs .inputs .ensures)) (c .before .onward .ensures))
+    walk-more (at-entry .pre .wf) (at-loop .loop .inv) (at-loop-test .loop-test .taken) (λ z. omega (arith, z, at-if3 .if3 .left)) (omega (arith, at-input-of .input-of .ensures, at-if3 .if3 .left)) (c .before .before .output-of .ensures .0) (omega (arith, at-if4 .if4 .left, at-inputs .inputs .ensures)) (c .before .onward .ensures))
     (λ c. λ e. never (cc)))

@@ -1,4 +1,4 @@
-use Rattle.lists.specs.Proving.{needs, arith, _-_, _≤_, sym}
+use Rattle.lists.specs.Proving.{needs, arith, _-_, _≤_}
 use Rattle.cursors.specs.Steering.{Advanced}
 use Rattle.cursors.proofs.MarkingLaw.{advanced-none, advanced-more}
 use Rattle.cursors.proofs.progress.advance_all as own

@@ -1,4 +1,4 @@
-use Rattle.lists.specs.Proving.{needs, arith, _-_, _≤_, _∙_}
+use Rattle.lists.specs.Proving.{needs, arith, _-_, _≤_}
 use Rattle.leaves.proofs.NotesLaw.{Kept, kept-none, kept-more, kept-all}
 use Rattle.leaves.proofs.notes.keep_witness as own
 

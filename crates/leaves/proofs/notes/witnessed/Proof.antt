@@ -1,4 +1,4 @@
-use Rattle.lists.specs.Proving.{needs, arith, ℕ, _+_, _-_, _<_, _≤_, _≡_, refl, sym, _∙_, getD, below-more}
+use Rattle.lists.specs.Proving.{needs, arith, ℕ, _+_, _-_, _<_, _≤_, refl, sym, _∙_, getD, below-more}
 use Rattle.lists.specs.laws.TestLaw.{clash}
 use Rattle.leaves.specs.Noted.{Clash}
 use Rattle.leaves.proofs.notes.witnessed as own

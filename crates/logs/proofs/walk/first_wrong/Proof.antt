@@ -17,7 +17,7 @@ first-wrong-spec = own.Tie.close (own.Tie.spec
     let at-if1 = at-input-of .before in
     let at-loop-test = at-if1 .before .before in
     let at-loop = at-loop-test .before in
-    rw (walk-wrong (at-loop .loop .inv) (at-loop-test .loop-test .taken) (at-if1 .if1 .left) (at-some-place .some-place .ensures .0) (at-input-of .input-of .ensures) (c .before .before .output-of .ensures) (c .before .if2 .taken), c .last .ensures))
+    rw (walk-wrong (at-loop .loop .inv) (at-loop-test .loop-test .taken) (at-if1 .if1 .left) (at-some-place .some-place .ensures .0) (at-input-of .input-of .ensures .0) (c .before .before .output-of .ensures .0) (c .before .if2 .taken), c .last .ensures))
     (λ c. search needs) (λ c. search needs) (λ c. search needs)
     (λ c.
     let at-some-place = c .before .before .before .before in
@@ -25,5 +25,5 @@ first-wrong-spec = own.Tie.close (own.Tie.spec
     let at-if1 = at-input-of .before in
     let at-loop-test = at-if1 .before .before in
     let at-loop = at-loop-test .before in
-    walk-right (at-loop .loop .inv) (at-loop-test .loop-test .taken) (at-if1 .if1 .left) (at-some-place .some-place .ensures .0) (at-input-of .input-of .ensures) (c .before .before .output-of .ensures) (c .before .if2 .left))
+    walk-right (at-loop .loop .inv) (at-loop-test .loop-test .taken) (at-if1 .if1 .left) (at-some-place .some-place .ensures .0) (at-input-of .input-of .ensures .0) (c .before .before .output-of .ensures .0) (c .before .if2 .left))
     (λ c. rw (walk-end (c .before .loop .inv) (c .loop-test .left))))

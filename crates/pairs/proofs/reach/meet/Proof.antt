@@ -1,4 +1,4 @@
-use Rattle.lists.specs.Proving.{needs, _∙_}
+use Rattle.lists.specs.Proving.{needs}
 use Rattle.pairs.proofs.MeetingLaw.{meets-free, meets-none}
 use Rattle.pairs.proofs.reach.meet as own
 

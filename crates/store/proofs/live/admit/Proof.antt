@@ -8,5 +8,5 @@ admit-spec = own.Tie.close (own.Tie.spec
     (λ notes₀ e n₀ notes n. (n ≤ 34) × Changed 8768 9856 notes₀ notes) (λ notes₀ e n₀ notes n. 34 - n)
     (λ c. (omega arith, changed-none)) (λ c κs. search needs) (λ c κs. search needs) (λ c. search needs)
     (λ c κs. search needs) (λ c κs. search needs) (λ c. search needs) (λ c. search needs)
-    (λ c. (omega arith, changed-more (c .before .before .before .before .before .before .before .before .before .loop .inv .1) (changed-set _ _ (omega arith) (omega arith) (c .before .before .set-note .ensures))))
+    (λ c. let at-note = c .before .before .before .before .before in (omega arith, changed-more (at-note .before .before .before .before .loop .inv .1) (changed-set _ _ (omega arith) (omega arith) (c .before .before .set-note .ensures))))
     (λ c. search needs) (λ c. c .before .loop .inv .1))

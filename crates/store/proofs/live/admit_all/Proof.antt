@@ -9,5 +9,5 @@ admit-all-spec = own.Tie.close (own.Tie.spec
     (λ notes₀ settled n w₀ notes w. (w ≤ 32) × Admitted w (ones settled % 64 % 34) notes₀ notes)
     (λ notes₀ settled n w₀ notes w. 32 - w) (λ c κs. search needs) (λ c. (omega arith, admitted-none)) (λ c κs. search needs)
     (λ c κs. search needs) (λ c. search needs) (λ c. search needs)
-    (λ c. (omega arith, admitted-more _ (c .before .before .before .before .before .loop-test .taken) (omega (arith, c .before .before .before .before .before .before .before .level .ensures .0)) (c .before .before .before .before .before .before .loop .inv .1) (c .before .before .set-note .ensures)))
+    (λ c. let at-test = c .before .before .before .before .before in (omega arith, admitted-more _ (at-test .loop-test .taken) (omega (arith, at-test .before .before .level .ensures .0)) (at-test .before .loop .inv .1) (c .before .before .set-note .ensures)))
     (λ c. search needs) (λ c. admitted-all (omega arith) (c .before .loop .inv .1)))
