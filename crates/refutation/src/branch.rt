@@ -13,7 +13,7 @@ use leaves::*;
 use store::Told;
 ghost use mathlib.Core.Path.{_≡_};
 ghost use mathlib.Core.Bool.{true, false};
-ghost use Prim.Native.Nat.{_-_, _<_, _≤_};
+ghost use Prim.Native.Nat.{_+_, _-_, _<_, _≤_};
 ghost use lib.ListN.{length, getD, set};
 ghost use Rattle.block.specs.Layout.{siteAt};
 ghost use Rattle.cubes.specs.Sets.{Has};
@@ -39,29 +39,24 @@ fn next_suspect(
     pairs::meet(block, facts, &node.p, node.settled, notes)
 }
 
-// By transition of a suspect what is said to refute it.
-fn recall_hints(notes: &[u16], i: u8, known: &mut [u16; 272]) {
-    let base = HINTS + wide(i % 32) * 256;
-    if notes.len() < base + 256 {
+// Copies notes from a place on.
+fn copy_notes(notes: &[u16], from: usize, known: &mut [u16; 272], to: usize, n: usize)
+    requires { ⌜ (from ≤ 16384) × (to + n ≤ 272) ⌝ }
+{
+    if notes.len() < from + n {
         return;
     }
-    for v in 0..256 {
-        known[v] = notes[base + v];
+    for v in 0..n {
+        known[to + v] = notes[from + v];
     }
 }
 
-// By output, from 256 on, the next states that are said to be refuted.
-fn recall_dead(notes: &[u16], i: u8, known: &mut [u16; 272]) {
-    let base = DEAD + wide(i % 32) * 16;
-    for o in 0..16 {
-        known[256 + o] = note(notes, base + o);
-    }
-}
-
-// What is said at a node of the choices of a suspect.
+// What is said at a node of the choices of a suspect: by transition what refutes it; by output, from 256 on, the next states that
+// are refuted.
 fn recall(notes: &[u16], i: u8, known: &mut [u16; 272]) {
-    recall_hints(notes, i, known);
-    recall_dead(notes, i, known);
+    let j = wide(i % 32);
+    copy_notes(notes, HINTS + j * 256, known, 0, 256);
+    copy_notes(notes, DEAD + j * 16, known, 256, 16);
 }
 
 // Past every pair: there is no suspect to settle.
@@ -77,33 +72,23 @@ pub(crate) struct Split {
 fn split_at(block: &Block, i: u8, left: u8) -> Split
     ensures { λ r. ⌜ (r .k < 257 → SplitOk (now (block .entry)) left r) ⌝ }
 {
+    let none = Split {
+        i,
+        k: NO_PAIR,
+        n: 0,
+    };
     if i >= 32 {
-        return Split {
-            i,
-            k: NO_PAIR,
-            n: 0,
-        };
+        return none;
     }
     if left == 0 {
-        return Split {
-            i,
-            k: NO_PAIR,
-            n: 0,
-        };
+        return none;
     }
     let k = pair_of(block, i);
     if site(block, k) != i {
-        return Split {
-            i,
-            k: NO_PAIR,
-            n: 0,
-        };
+        return none;
     }
-    Split {
-        i,
-        k,
-        n: choices(block, i),
-    }
+    let n = choices(block, i);
+    Split { i, k, n }
 }
 
 // The suspect to settle next, and what is said of its choices.
