@@ -29,9 +29,12 @@ const CHOICES: usize = LONG + 16;
 
 pub const NOTES: usize = LONG + 272;
 
+// What may be spent to begin with, and how much more after a test was appended and after a question in vain.
 const ENOUGH: u16 = 128;
 
 const MORE: u16 = 8;
+
+const RETRY: u16 = 4;
 
 // The notes of a sweep that begins.
 pub fn fresh_notes() -> [u16; NOTES]
@@ -79,23 +82,23 @@ pub(crate) fn depth(notes: &[u16], known: usize, n: usize) -> usize {
     floor
 }
 
-fn one_less(at: usize) -> u16 {
-    if at == 0 {
+fn two_less(at: usize) -> u16 {
+    if at < 2 {
         return 0;
     }
-    ((at - 1) % 64) as u16
+    ((at - 2) % 64) as u16
 }
 
 // After a question of so many first choices that was answered: the next has fewer, and comes soon.
 pub(crate) fn answered(notes: &mut [u16], at: usize) {
-    set_note(notes, FLOOR, one_less(at));
+    set_note(notes, FLOOR, two_less(at));
     earn(notes, 1);
 }
 
 // After one that was not: the next has more, and looks come first.
 pub(crate) fn unanswered(notes: &mut [u16], at: usize) {
-    set_note(notes, FLOOR, (at % 64) as u16 + 2);
-    earn(notes, MORE);
+    set_note(notes, FLOOR, (at % 64) as u16 + 3);
+    earn(notes, RETRY);
 }
 
 // Where choice j of survivor w stands.
