@@ -142,9 +142,9 @@ next-inside {m} cl few v x w i lx e =
     (omega (arith, s .0), omega (arith, s .1))
 
 module _ {m : Pair} (cl : Closed m) (few : m .states ≤ 16) (narrow : m .inputs ≤ 16) {entries seen : List ℕ} {n : ℕ} where
-  -- the next link is settled: it leads to no pair that was not seen
-  tree-same : {at : ℕ} → Tree m entries seen n at → Settled m entries n at → Tree m entries seen n (at + 1)
-  tree-same {at} t s =
+  -- the same entries, and more links are settled
+  tree-on : {at : ℕ} (to : ℕ) → Tree m entries seen n at → at ≤ to → ((l : ℕ) → l < to → l % 16 < m .inputs → Settled m entries n l) → Tree m entries seen n to
+  tree-on to t le done =
       record {
         sized = t .sized;
         some = t .some;
@@ -156,8 +156,12 @@ module _ {m : Pair} (cl : Closed m) (few : m .states ≤ 16) (narrow : m .inputs
         order = t .order;
         made = λ i pos l. omega (arith, t .made i pos l);
         kept = t .kept;
-        done = below (λ l. l % 16 < m .inputs → Settled m entries n l) at (t .done) (λ _. s);
+        done = done;
       }
+
+  -- the next link is settled: it leads to no pair that was not seen
+  tree-same : {at : ℕ} → Tree m entries seen n at → Settled m entries n at → Tree m entries seen n (at + 1)
+  tree-same {at} t s = tree-on (at + 1) t (omega arith) (below (λ l. l % 16 < m .inputs → Settled m entries n l) at (t .done) (λ _. s))
 
   -- or it leads to one, the next entry
   module _ {h x v : ℕ} (t : Tree m entries seen n (16 * h + x)) (lh : h < n) (lx : x < m .inputs) (e : leads m (pairAt entries h) x ≡ led.To v)
@@ -299,20 +303,7 @@ module _ {m : Pair} (cl : Closed m) (few : m .states ≤ 16) (narrow : m .inputs
 
   -- after the last input
   pub tree-next : (h : ℕ) → Tree m entries seen n (16 * h + m .inputs) → Tree m entries seen n (16 * (h + 1))
-  tree-next h t =
-      record {
-        sized = t .sized;
-        some = t .some;
-        root = t .root;
-        path = t .path;
-        paths = t .paths;
-        inside = t .inside;
-        came = t .came;
-        order = t .order;
-        made = λ i pos l. omega (arith, t .made i pos l);
-        kept = t .kept;
-        done = λ l k low. t .done l (omega arith) low;
-      }
+  tree-next h t = tree-on (16 * (h + 1)) t (omega arith) (λ l k low. t .done l (omega arith) low)
 
 -- the expansion of entry h, the pair v, up to input x
 pub record Expanding (m : Pair) (entries seen : List ℕ) (n h v x : ℕ) : Type 0 where

@@ -1,10 +1,8 @@
 -- The states in which a mutant may wake, and how many choices make up a mutant.
 use Prim.Native.Nat.{ℕ, suc, _+_, _<_, _≤_}
 use mathlib.Core.Path.{_≡_, refl}
-use mathlib.Core.Bool.{Bool, true, false, cond}
 use mathlib.Core.List.{[]}
 use native.Mathlib.Omega.{arith}
-use lib.Dec.{ltb}
 use lib.ListN.{length, getD}
 use borrow.Author.Tests.{lt-ltb}
 use Rattle.lists.specs.Lists.{All, Ascending}
@@ -13,7 +11,7 @@ use Rattle.sheet.specs.WellFormed.{StartIn, WellFormed}
 use Rattle.sheet.specs.Tables.{tablesOf}
 use Rattle.lists.specs.laws.AllLaw.{all-imp, all-getD}
 use Rattle.lists.specs.laws.MemberLaw.{ascending-few}
-use Rattle.sheet.specs.laws.TablesLaw.{below-length, below-at}
+use Rattle.sheet.specs.laws.TablesLaw.{below-at}
 
 module _ {sh : Sheet} (w : WellFormed sh) where
   -- each is a state of the sheet, also what stands in past the last
@@ -61,28 +59,12 @@ module _ (sh : Sheet) where
   unfolding wakingSlots wakingChoices wakings
   a-choice h = rw (lt-ltb 1 (suc (length (sh .starts))) (omega arith))
 
-  pub waking-slots-most : wakingSlots sh ≤ 1
-  unfolding wakingSlots
-  waking-slots-most = one (ltb 1 (wakingChoices sh))
-    where
-      one : (b : Bool) → cond b 1 0 ≤ 1
-      one true = omega arith
-      one false = omega arith
-
   -- the choices of a mutant: first where it wakes, then the open pairs
   pub open-slots : openSlots sh ≡ wakingSlots sh + openPairs sh
   unfolding openSlots
   open-slots = refl
 
   -- the waking states by choice, in the tables
-  pub wakings-length : length (tablesOf sh .wakings) ≡ 16
-  unfolding tablesOf
-  wakings-length = below-length 16 (λ i. getD (wakings sh) i 0)
-
   pub wakings-at : (c : ℕ) → c < 16 → getD (tablesOf sh .wakings) c 0 ≡ getD (wakings sh) c 0
   unfolding tablesOf
   wakings-at c h = below-at 16 (λ i. getD (wakings sh) i 0) c h
-
-  pub waking-is : tablesOf sh .waking ≡ wakingChoices sh
-  unfolding tablesOf
-  waking-is = refl
