@@ -20,7 +20,8 @@ pub fn read(sheet: &[u8]) -> Reading
     read_rules(sheet, &mut output, &mut target)
 }
 
-// The same, with the rules of an accepted sheet by pair, at state * 16 + input: output and next state, 255 where there is no rule.
+// The same, with the rules of an accepted sheet by pair, at state * 16 + input: output and next state, 255 where there is no rule. For
+// `reading`, no operation: on a refusal what stands in the two tables is free (`load` then blanks them).
 pub fn read_rules(sheet: &[u8], output: &mut [u8; 256], target: &mut [u8; 256]) -> Reading
     ensures answer { λ r. ⌜ r ≡ readAnswer (reading.reading (now (sheet .entry))) ⌝ }
     ensures rules { λ r. ⌜ RulesIn (reading.reading (now (sheet .entry))) (now (output .exit)) (now (target .exit)) ⌝ }

@@ -1,6 +1,6 @@
 // Refutations of many mutants at once.
 // Promises, where it says so, that no mutant with the choices of a prefix is sought, and that the store stays right.
-// Called by `search` and `sweep`, which show what its functions require.
+// Called by `search`, `sweep` and `making`, which show what its functions require.
 mod branch;
 mod node;
 mod prefix;

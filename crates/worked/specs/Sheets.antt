@@ -1,4 +1,4 @@
--- The bytes of the sheets that 01 lists, and of a few more: a command to a line.
+-- The bytes of the sheets that 01 lists, and of a few more: a command to a line, or another sheet with commands more or less.
 use Prim.Native.Nat.{ℕ, suc}
 use mathlib.Core.List.{List, [], _∷_, _++_}
 use lib.ListN.{replicate, take, drop}
