@@ -1,5 +1,5 @@
 -- What the proofs of the functions share.
-mod OrderLaw
+mod SequenceLaw
 mod ProductLaw
 mod PathLaw
 mod TreeLaw

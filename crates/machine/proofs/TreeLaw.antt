@@ -7,7 +7,7 @@ use mathlib.Core.Logic.{_⊎_, inl, inr, ⊎-elim, by-cases}
 use mathlib.Core.Bool.{Bool, true, false, cond}
 use mathlib.Core.Option.{some, none}
 use mathlib.Core.List.{List, [], _∷_, _++_, append-assoc}
-use borrow.Author.Tests.{lt-ltb, le-ltb, eq-eqb, eqb-true, eqb-false}
+use borrow.Author.Tests.{lt-ltb, le-ltb}
 use lib.Dec.{eqb, ltb}
 use lib.ListN.{length, getD, set, length-set, length-append, replicate, length-replicate, getD-replicate}
 use lib.Seq.{getD-set-same, getD-set-other}
@@ -25,9 +25,9 @@ use Rattle.machine.specs.declared.product.Expanded.the-variants as expan
 use Rattle.machine.specs.declared.product.Difference.{Difference}
 use Rattle.machine.specs.declared.product.Difference.the-variants as difference
 use Rattle.machine.specs.Product.{leads}
-use Rattle.machine.specs.Tree.{pairAt, linkAt, unseen, Room, Entered, Paths, Settled, Tree, ExpandedOk}
+use Rattle.machine.specs.Tree.{pairAt, linkAt, unseen, Spare, EnteredPair, Paths, LinkSettled, Tree, ExpandedOk}
 use Rattle.machine.specs.Differences.{differenceOf}
-use Rattle.machine.proofs.OrderLaw.{AtMost, after-append, after-last, at-most-append, at-most-longer, at-most-trans, compare-first, compare-nothing, compare-short}
+use Rattle.machine.proofs.SequenceLaw.{AtMost, after-append, after-last, at-most-append, at-most-longer, at-most-trans, compare-first, compare-nothing, compare-short}
 use Rattle.machine.proofs.PathLaw.{paths-fewer}
 use Rattle.machine.proofs.ProductLaw.{Onward, leads-undefined, leads-apart, leads-to}
 
@@ -54,7 +54,7 @@ module _ (seen : List ℕ) (v : ℕ) (fresh : getD seen v 0 ≡ 0) (long : v < l
       go false = refl
 
 -- before the first entry
-pub room-none : {entries seen : List ℕ} → entries ≡ replicate 256 0 → seen ≡ replicate 256 0 → Room entries seen 0
+pub room-none : {entries seen : List ℕ} → entries ≡ replicate 256 0 → seen ≡ replicate 256 0 → Spare entries seen 0
 room-none {entries} {seen} ee es =
     record {
       entries-long = rw ee (length-replicate {A = ℕ} 256 0);
@@ -63,23 +63,23 @@ room-none {entries} {seen} ee es =
     }
 
 -- there is an entry for it
-pub room-one : {entries seen : List ℕ} {n v : ℕ} → Room entries seen n → v < 256 → getD seen v 0 ≡ 0 → n < 256
+pub room-one : {entries seen : List ℕ} {n v : ℕ} → Spare entries seen n → v < 256 → getD seen v 0 ≡ 0 → n < 256
 room-one {entries} {seen} {n} {v} r l fresh = omega (arith, unseen-less seen v fresh (omega (arith, r .seen-long)) 256 l, r .room)
 
 -- what is entered
 module _ {entries seen : List ℕ} {n link : ℕ} {r : Led} where
-  pub entered-none : ((v : ℕ) → r ≡ led.To v → ⊥) → Entered entries seen n link r entries seen n
+  pub entered-none : ((v : ℕ) → r ≡ led.To v → ⊥) → EnteredPair entries seen n link r entries seen n
   entered-none h = record { same = λ _. (refl, refl, refl); new = λ v e. absurd (h v e) }
 
   module _ {v i : ℕ} (e : r ≡ led.To v) (ei : i ≡ v) where
-    pub entered-old : (getD seen i 0 ≡ 0 → ⊥) → Entered entries seen n link r entries seen n
+    pub entered-old : (getD seen i 0 ≡ 0 → ⊥) → EnteredPair entries seen n link r entries seen n
     entered-old h = record { same = λ _. (refl, refl, refl); new = λ w f z. let q : w ≡ i = cc in absurd (h (rw (← q) z)) }
 
-    pub entered-new : getD seen i 0 ≡ 0 → Entered entries seen n link r (set entries n (256 * link + i)) (set seen i 1) (n + 1)
+    pub entered-new : getD seen i 0 ≡ 0 → EnteredPair entries seen n link r (set entries n (256 * link + i)) (set seen i 1) (n + 1)
     entered-new z = record { same = λ h. absurd (h v e (rw (← ei) z)); new = λ w f _. let q : w ≡ i = cc in rw q (refl, refl, refl) }
 
 -- the entries before stay
-entered-keeps : {entries seen entries′ seen′ : List ℕ} {n n′ link : ℕ} {r : Led} → Entered entries seen n link r entries′ seen′ n′ → (i : ℕ) → i < n →
+entered-keeps : {entries seen entries′ seen′ : List ℕ} {n n′ link : ℕ} {r : Led} → EnteredPair entries seen n link r entries′ seen′ n′ → (i : ℕ) → i < n →
     (i < n′) × (getD entries′ i 0 ≡ getD entries i 0)
 entered-keeps {entries} {seen} {entries′} {seen′} {n} {n′} {link} {r} e i l = go r refl
   where
@@ -96,7 +96,7 @@ entered-keeps {entries} {seen} {entries′} {seen′} {n} {n′} {link} {r} e i 
 
 -- the first entry
 pub tree-root : (m : Pair) {entries seen entries′ seen′ : List ℕ} {n : ℕ} → m .start < m .states → m .states ≤ 16 →
-    entries ≡ replicate 256 0 → seen ≡ replicate 256 0 → Entered entries seen 0 0 (led.To (m .start)) entries′ seen′ n →
+    entries ≡ replicate 256 0 → seen ≡ replicate 256 0 → EnteredPair entries seen 0 0 (led.To (m .start)) entries′ seen′ n →
     Tree m entries′ seen′ n 0
 tree-root m {entries} {seen} {entries′} {seen′} {n} low few ee es entered =
     let zeros : (i : ℕ) → i < 256 → getD seen i 0 ≡ 0 = λ i l. rw (es) (getD-replicate {A = ℕ} 256 i 0 0 l) in
@@ -143,7 +143,7 @@ next-inside {m} cl few v x w i lx e =
 
 module _ {m : Pair} (cl : Closed m) (few : m .states ≤ 16) (narrow : m .inputs ≤ 16) {entries seen : List ℕ} {n : ℕ} where
   -- the same entries, and more links are settled
-  tree-on : {at : ℕ} (to : ℕ) → Tree m entries seen n at → at ≤ to → ((l : ℕ) → l < to → l % 16 < m .inputs → Settled m entries n l) → Tree m entries seen n to
+  tree-on : {at : ℕ} (to : ℕ) → Tree m entries seen n at → at ≤ to → ((l : ℕ) → l < to → l % 16 < m .inputs → LinkSettled m entries n l) → Tree m entries seen n to
   tree-on to t le done =
       record {
         sized = t .sized;
@@ -160,8 +160,8 @@ module _ {m : Pair} (cl : Closed m) (few : m .states ≤ 16) (narrow : m .inputs
       }
 
   -- the next link is settled: it leads to no pair that was not seen
-  tree-same : {at : ℕ} → Tree m entries seen n at → Settled m entries n at → Tree m entries seen n (at + 1)
-  tree-same {at} t s = tree-on (at + 1) t (omega arith) (below (λ l. l % 16 < m .inputs → Settled m entries n l) at (t .done) (λ _. s))
+  tree-same : {at : ℕ} → Tree m entries seen n at → LinkSettled m entries n at → Tree m entries seen n (at + 1)
+  tree-same {at} t s = tree-on (at + 1) t (omega arith) (below (λ l. l % 16 < m .inputs → LinkSettled m entries n l) at (t .done) (λ _. s))
 
   -- or it leads to one, the next entry
   module _ {h x v : ℕ} (t : Tree m entries seen n (16 * h + x)) (lh : h < n) (lx : x < m .inputs) (e : leads m (pairAt entries h) x ≡ led.To v)
@@ -224,13 +224,13 @@ module _ {m : Pair} (cl : Closed m) (few : m .states ≤ 16) (narrow : m .inputs
               (λ _. rw (new-link, parent, last, new-path, old-path h lh) refl) i l pos;
         }
 
-    was-settled : (l : ℕ) → l < at → l % 16 < m .inputs → Settled m after (n + 1) l
+    was-settled : (l : ℕ) → l < at → l % 16 < m .inputs → LinkSettled m after (n + 1) l
     unfolding at
     was-settled l k low =
         rw (old (l / 16) (omega arith))
         (⊎-elim (λ u. inl u) (λ s. inr (s .0, omega (arith, s .1), rw (old (s .0) (s .1)) (s .2), λ pos. rw (old (s .0) (s .1)) (s .3 pos))) (t .done l k low))
 
-    is-settled : Settled m after (n + 1) at
+    is-settled : LinkSettled m after (n + 1) at
     is-settled = rw (parent, last, old h lh) (inr (n, omega arith, rw new-pair e, λ _. rw new-link (omega arith)))
 
     tree-new : Tree m after (set seen v 1) (n + 1) (at + 1)
@@ -260,12 +260,12 @@ module _ {m : Pair} (cl : Closed m) (few : m .states ≤ 16) (narrow : m .inputs
               (λ nq.
               let k = t .kept w lw (λ z. ne (getD-set-other seen v w 1 0 nq ∙ z)) in
               (k .0, omega (arith, k .1), rw (old (k .0) (k .1)) (k .2)));
-          done = below (λ l. l % 16 < m .inputs → Settled m after (n + 1) l) at was-settled (λ _. is-settled);
+          done = below (λ l. l % 16 < m .inputs → LinkSettled m after (n + 1) l) at was-settled (λ _. is-settled);
         }
 
   -- after an input that shows no other output
   module _ {h x n′ : ℕ} {r : Led} {entries′ seen′ : List ℕ} (t : Tree m entries seen n (16 * h + x)) (lh : h < n) (lx : x < m .inputs)
-      (e : r ≡ leads m (pairAt entries h) x) (together : r ≡ led.Apart → ⊥) (entered : Entered entries seen n (16 * h + x) r entries′ seen′ n′) where
+      (e : r ≡ leads m (pairAt entries h) x) (together : r ≡ led.Apart → ⊥) (entered : EnteredPair entries seen n (16 * h + x) r entries′ seen′ n′) where
     parent-here : (16 * h + x) / 16 ≡ h
     parent-here = omega arith
 
@@ -276,10 +276,10 @@ module _ {m : Pair} (cl : Closed m) (few : m .states ≤ 16) (narrow : m .inputs
     next-here = omega arith
 
     settled-here : (leads m (pairAt entries h) x ≡ led.Undefined) ⊎ ((i : ℕ) × (i < n) × (leads m (pairAt entries h) x ≡ led.To (pairAt entries i)) × (0 < i → linkAt entries i ≤ 16 * h + x)) →
-        Settled m entries n (16 * h + x)
+        LinkSettled m entries n (16 * h + x)
     settled-here s = rw (parent-here, last-here) s
 
-    stays : ((v : ℕ) → r ≡ led.To v → getD seen v 0 ≡ 0 → ⊥) → Settled m entries n (16 * h + x) → Tree m entries′ seen′ n′ (16 * h + (x + 1))
+    stays : ((v : ℕ) → r ≡ led.To v → getD seen v 0 ≡ 0 → ⊥) → LinkSettled m entries n (16 * h + x) → Tree m entries′ seen′ n′ (16 * h + (x + 1))
     stays known s = let k = entered .same known in rw (k .0, k .1, k .2, next-here) (tree-same t s)
 
     by-led : (l : Led) → r ≡ l → Tree m entries′ seen′ n′ (16 * h + (x + 1))
@@ -320,7 +320,7 @@ module _ {m : Pair} {entries seen : List ℕ} {n h v : ℕ} where
 
   module _ (cl : Closed m) (few : m .states ≤ 16) (narrow : m .inputs ≤ 16) {x : ℕ} (g : Expanding m entries seen n h v x) where
     pub expanding-more : {n′ : ℕ} {r : Led} {entries′ seen′ : List ℕ} → x < m .inputs → r ≡ leads m v x → (r ≡ led.Apart → ⊥) →
-        Entered entries seen n (16 * h + x) r entries′ seen′ n′ → Expanding m entries′ seen′ n′ h v (x + 1)
+        EnteredPair entries seen n (16 * h + x) r entries′ seen′ n′ → Expanding m entries′ seen′ n′ h v (x + 1)
     expanding-more lx e together entered =
         let k = entered-keeps entered h (g .there) in
         record { tree = tree-more cl few narrow (g .tree) (g .there) lx (e ∙ rw (g .pair) refl) together entered; there = k .0; pair = g .pair ∙ rw (k .1) refl }
@@ -464,16 +464,12 @@ module _ {m : Pair} (cl : Closed m) (few : m .states ≤ 16) (narrow : m .inputs
       (λ ys d. follow (λ _ _. ⊥) (λ i x u li lx k. omega arith) (λ i j x u li lx a h. h) ys 0 (t .some) (rw (root-first, root-second) d))
 
 -- what comparing answers and writes
-abbrev pub Told : Pair → Difference → List ℕ → List ℕ → Type 0
-Told m r buf₀ buf = (r ≡ differenceOf (comparePair m)) × (buf ≡ overlay (found (comparePair m)) buf₀)
+abbrev pub Distinguished : Pair → Difference → List ℕ → List ℕ → Type 0
+Distinguished m r buf₀ buf = (r ≡ differenceOf (comparePair m)) × (buf ≡ overlay (found (comparePair m)) buf₀)
 
 module _ {m : Pair} (cl : Closed m) (few : m .states ≤ 16) (narrow : m .inputs ≤ 16) (low : m .start < m .states) {entries seen : List ℕ} {h : ℕ} where
   -- an input of entry h shows another output
   module _ {x : ℕ} (ok : ExpandedOk m entries seen h (expanded.Apart x)) where
-    -- the inputs that lead to the entries
-    abbrev pub ways : ℕ → List ℕ
-    ways = ok .3 .path
-
     found-here : comparePair m ≡ some (ok .3 .path h ++ x ∷ [])
     found-here = tree-found cl few narrow (ok .3) low h x refl (ok .1) (ok .2) (ok .4)
 
@@ -486,9 +482,9 @@ module _ {m : Pair} (cl : Closed m) (few : m .states ≤ 16) (narrow : m .inputs
     pub entry-low : h < 256
     entry-low = omega (arith, ok .1, ok .3 .sized .room)
 
-    pub told-apart : {d : ℕ} (buf₀ : List ℕ) {buf : List ℕ} → (d ≡ length (ok .3 .path h) + 1) × (buf ≡ overlay (ok .3 .path h ++ x ∷ []) buf₀) → Told m (difference.Shown d) buf₀ buf
+    pub told-apart : {d : ℕ} (buf₀ : List ℕ) {buf : List ℕ} → (d ≡ length (ok .3 .path h) + 1) × (buf ≡ overlay (ok .3 .path h ++ x ∷ []) buf₀) → Distinguished m (difference.Shown d) buf₀ buf
     told-apart buf₀ w = rw found-here (ap difference.Shown (w .0 ∙ sym (length-append (ok .3 .path h) (x ∷ []))), w .1)
 
   -- all entries are expanded
-  pub told-none : {n : ℕ} {buf₀ buf : List ℕ} → Tree m entries seen n (16 * h) → h ≡ n → buf ≡ buf₀ → Told m difference.Nothing buf₀ buf
+  pub told-none : {n : ℕ} {buf₀ buf : List ℕ} → Tree m entries seen n (16 * h) → h ≡ n → buf ≡ buf₀ → Distinguished m difference.Nothing buf₀ buf
   told-none t e same = rw (tree-full cl few narrow t low (ap (λ (i : ℕ). 16 * i) e)) (refl, same)

@@ -25,13 +25,13 @@ abbrev pub unseen : List ℕ → ℕ → ℕ
 unseen seen n = count (λ v. eqb (getD seen v 0) 0) n
 
 -- there is an entry for each pair that was not seen
-pub record Room (entries seen : List ℕ) (n : ℕ) : Type 0 where
+pub record Spare (entries seen : List ℕ) (n : ℕ) : Type 0 where
   pub entries-long : length entries ≡ 256
   pub seen-long : length seen ≡ 256
   pub room : n + unseen seen 256 ≤ 256
 
 -- the pair that a link leads to becomes entry n, if it was not seen
-pub record Entered (entries seen : List ℕ) (n link : ℕ) (r : Led) (entries′ seen′ : List ℕ) (n′ : ℕ) : Type 0 where
+pub record EnteredPair (entries seen : List ℕ) (n link : ℕ) (r : Led) (entries′ seen′ : List ℕ) (n′ : ℕ) : Type 0 where
   pub same : ((v : ℕ) → r ≡ led.To v → getD seen v 0 ≡ 0 → ⊥) → (entries′ ≡ entries) × (seen′ ≡ seen) × (n′ ≡ n)
   pub new : (v : ℕ) → r ≡ led.To v → getD seen v 0 ≡ 0 →
       (entries′ ≡ set entries n (256 * link + v)) × (seen′ ≡ set seen v 1) × (n′ ≡ n + 1)
@@ -43,14 +43,14 @@ pub record Paths (entries : List ℕ) (n : ℕ) (path : ℕ → List ℕ) : Type
   pub step : (i : ℕ) → 0 < i → i < n → path i ≡ path (linkAt entries i / 16) ++ linkAt entries i % 16 ∷ []
 
 -- the input l % 16 is not specified at entry l / 16, or leads to an entry that was reached by no later link
-abbrev pub Settled : Pair → List ℕ → ℕ → ℕ → Type 0
-Settled m entries n l =
+abbrev pub LinkSettled : Pair → List ℕ → ℕ → ℕ → Type 0
+LinkSettled m entries n l =
     (leads m (pairAt entries (l / 16)) (l % 16) ≡ led.Undefined)
     ⊎ ((i : ℕ) × (i < n) × (leads m (pairAt entries (l / 16)) (l % 16) ≡ led.To (pairAt entries i)) × (0 < i → linkAt entries i ≤ l))
 
 -- n entries, the first of which is the pair of the starts; the links below `at` are settled
 pub record Tree (m : Pair) (entries seen : List ℕ) (n at : ℕ) : Type 0 where
-  pub sized : Room entries seen n
+  pub sized : Spare entries seen n
   pub some : 0 < n
   pub root : pairAt entries 0 ≡ m .start
   pub path : ℕ → List ℕ
@@ -60,7 +60,7 @@ pub record Tree (m : Pair) (entries seen : List ℕ) (n at : ℕ) : Type 0 where
   pub order : (i j : ℕ) → 0 < i → i < j → j < n → linkAt entries i < linkAt entries j
   pub made : (i : ℕ) → 0 < i → i < n → linkAt entries i < at
   pub kept : (v : ℕ) → v < 256 → (getD seen v 0 ≡ 0 → ⊥) → (i : ℕ) × (i < n) × (pairAt entries i ≡ v)
-  pub done : (l : ℕ) → l < at → l % 16 < m .inputs → Settled m entries n l
+  pub done : (l : ℕ) → l < at → l % 16 < m .inputs → LinkSettled m entries n l
 
 -- entry h was expanded; or its input x shows another output, and the links before that are settled
 abbrev pub ExpandedOk : Pair → List ℕ → List ℕ → ℕ → Expanded → Type 0

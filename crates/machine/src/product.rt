@@ -2,12 +2,12 @@
 ghost use mathlib.Core.Path.{_≡_};
 ghost use mathlib.Core.List.{List, [], _∷_, _++_};
 ghost use Prim.Native.Nat.{ℕ, _+_, _*_, _/_, _%_, _≤_, _<_};
-ghost use lib.ListN.{length, getD, replicate};
+ghost use lib.ListN.{length, replicate};
 ghost use Rattle.lists.specs.Lists.{overlay};
 ghost use Rattle.model.specs.Compare.{comparePair, found};
 ghost use Rattle.block.specs.Layout.{statesOf, inputsOf};
 ghost use Rattle.machine.specs.Product.{tables, Valid, leads};
-ghost use Rattle.machine.specs.Tree.{Room, Entered, Paths, Tree, ExpandedOk};
+ghost use Rattle.machine.specs.Tree.{Spare, EnteredPair, Paths, Tree, ExpandedOk};
 ghost use Rattle.machine.specs.Differences.{differenceOf};
 use crate::laying::blank;
 use block::BLOCK;
@@ -89,8 +89,8 @@ fn enter(
     link: usize,
     led: Led,
 ) -> usize
-    requires { ⌜ Room (now entries) (now seen) count × (link < 4096) ⌝ }
-    ensures { λ r. ⌜ Entered (now (entries .entry)) (now (seen .entry)) count link led (now (entries .exit)) (now (seen .exit)) r ⌝ }
+    requires { ⌜ Spare (now entries) (now seen) count × (link < 4096) ⌝ }
+    ensures { λ r. ⌜ EnteredPair (now (entries .entry)) (now (seen .entry)) count link led (now (entries .exit)) (now (seen .exit)) r ⌝ }
 {
     let Led::To(v) = led else {
         return count;

@@ -1,4 +1,4 @@
-use Rattle.lists.specs.Proving.{needs, arith, _+_, _-_, _≤_, refl, length}
+use Rattle.lists.specs.Proving.{needs, _+_, _-_, _≤_, refl, length}
 use Rattle.block.proofs.PackingLaw.{fill-none, fill-more, fill-all}
 use Rattle.block.specs.Packing.{Copied}
 use Rattle.block.proofs.packing.copy as own

@@ -1,6 +1,6 @@
 -- `expand`: up to the input x the pairs that entry h leads to are entered.
 use Prim.Native.Nat.{ℕ, _*_, _≤_, _-_}
-use mathlib.Core.Path.{_≡_, sym, _∙_}
+use mathlib.Core.Path.{_≡_}
 use native.Mathlib.Omega.{arith}
 use borrow.Author.Needs.{needs}
 use Rattle.block.specs.Layout.{inputsOf}
