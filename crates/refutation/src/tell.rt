@@ -78,7 +78,7 @@ fn consult(
     requires { ⌜ Ready (now block) (now facts) ⌝ }
     ensures { λ r. ⌜ ((log : List ℕ) → StoreOk goal (now (block .entry)) log (now (store .entry)) → Found goal (now (block .entry)) log (now (store .exit)) r) ⌝ }
 {
-    let stored = store::find(store, notes, &node.p, node.settled);
+    let stored = store::find(store, notes, &node.p, node.settled, node.last);
     if stored.ok {
         return stored;
     }

@@ -92,12 +92,33 @@ enum Fit {
     Has,
 }
 
-// Of an entry that agrees and lacks a single suspect the meaning there is noted.
-fn weigh(store: &[u32], notes: &mut [u16], p: &[u8; 32], settled: u32, e: usize) -> Fit {
-    if e >= filled(store, notes) {
+// Whether an entry that is noted agrees: all but the suspect settled last is known, unless that is 32 or more.
+fn still_agrees(store: &[u32], e: usize, p: &[u8; 32], settled: u32, last: u8) -> bool
+    requires { ⌜ e * 34 + 34 ≤ length (now store) ⌝ }
+{
+    if last >= 32 {
+        return agrees(store, e, p, settled);
+    }
+    let step = p[wide(last)];
+    cubes::literals::means(literal_of(store, e, wide(last)), step / 16, low(step))
+}
+
+// Of an entry that agrees and lacks a single suspect the meaning there is noted. None from `end` on is filled.
+fn weigh(
+    store: &[u32],
+    notes: &mut [u16],
+    p: &[u8; 32],
+    settled: u32,
+    last: u8,
+    end: usize,
+    e: usize,
+) -> Fit
+    requires { ⌜ end * 34 ≤ length (now store) ⌝ }
+{
+    if e >= end {
         return Fit::Disagrees;
     }
-    if !agrees(store, e, p, settled) {
+    if !still_agrees(store, e, p, settled, last) {
         return Fit::Disagrees;
     }
     let open = open_in(store, e, settled);
@@ -112,15 +133,23 @@ fn weigh(store: &[u32], notes: &mut [u16], p: &[u8; 32], settled: u32, e: usize)
 
 // Of the entries from 16 * w on, one that has the settled part; past the last if there is none. Those that agree are noted for the
 // parts with one more suspect.
-fn scan_word(store: &[u32], notes: &mut [u16], p: &[u8; 32], settled: u32, w: usize) -> usize
-    requires { ⌜ w < 32 ⌝ }
+fn scan_word(
+    store: &[u32],
+    notes: &mut [u16],
+    p: &[u8; 32],
+    settled: u32,
+    last: u8,
+    end: usize,
+    w: usize,
+) -> usize
+    requires { ⌜ (w < 32) × (end * 34 ≤ length (now store)) ⌝ }
 {
     let n = level(settled);
     let mut left = wide32(note(notes, noted_at(n, w)));
     let mut live: u16 = 0;
     while left > 0 {
         let e = w * 16 + least(left);
-        match weigh(store, notes, p, settled, e) {
+        match weigh(store, notes, p, settled, last, end, e) {
             Fit::Has => {
                 return e;
             }
@@ -136,10 +165,14 @@ fn scan_word(store: &[u32], notes: &mut [u16], p: &[u8; 32], settled: u32, w: us
 }
 
 // An entry that has the settled part; past the last if there is none.
-fn scan(store: &[u32], notes: &mut [u16], p: &[u8; 32], settled: u32) -> usize {
+fn scan(store: &[u32], notes: &mut [u16], p: &[u8; 32], settled: u32, last: u8) -> usize {
+    let end = filled(store, notes);
     for w in 0..32 {
-        let e = scan_word(store, notes, p, settled, w);
-        if e < room(store) {
+        if w * 16 >= end {
+            return room(store);
+        }
+        let e = scan_word(store, notes, p, settled, last, end, w);
+        if e < end {
             return e;
         }
     }
@@ -156,12 +189,13 @@ fn forget(notes: &mut [u16]) {
     }
 }
 
-// The cube of an entry that has the settled part. Meanwhile it is noted which choices the entries refute.
-pub fn find(store: &mut [u32], notes: &mut [u16], p: &[u8; 32], settled: u32) -> Told
+// The cube of an entry that has the settled part, to which `last` was settled last (32 and more: it is the root of a question).
+// Meanwhile it is noted which choices the entries refute.
+pub fn find(store: &mut [u32], notes: &mut [u16], p: &[u8; 32], settled: u32, last: u8) -> Told
     ensures { λ r. ⌜ Kept (now (store .entry)) (now (store .exit)) × Tells (now (store .exit)) r ⌝ }
 {
     forget(notes);
-    let e = scan(store, notes, p, settled);
+    let e = scan(store, notes, p, settled, last);
     hand_out(store, e)
 }
 
