@@ -42,9 +42,9 @@ pub record JoinedOk (m cube all done more wider : List ℕ) (k : ℕ) (s : Step)
   pub keeps : (v : Move) → Has (getD done (v .output) 0) (v .target) → Has (getD wider (v .output) 0) (v .target)
   pub here : Has (getD wider (s .output) 0) (s .target)
 
--- every mutant that has the choices that p settles is in the cube, as far as the pair k goes
-pub record PairHas (m cube p : List ℕ) (k : ℕ) : Type 0 where
-  pub at : (siteAt m k ≡ 255 → ⊥) → (b : List ℕ) → Ranged m b → Extends b p → Means (getD cube (siteAt m k) 0) (choiceOf m k (chosen m b k))
+-- every mutant that has the choices that p settles is in the cube, as far as the slot i goes
+pub record SlotHas (m cube p : List ℕ) (i : ℕ) : Type 0 where
+  pub at : (k : ℕ) → k < 257 → siteAt m k ≡ i → (b : List ℕ) → Ranged m b → Extends b p → Means (getD cube i 0) (choiceOf m k (chosen m b k))
 
 pub record PrefixIn (m cube p : List ℕ) : Type 0 where
   pub at : (b : List ℕ) → Ranged m b → Extends b p → In m cube b

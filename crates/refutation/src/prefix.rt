@@ -6,26 +6,23 @@ ghost use mathlib.Core.Path.{_≡_};
 ghost use mathlib.Core.Bool.{true};
 ghost use Prim.Native.Nat.{_<_};
 ghost use Rattle.block.specs.Tabulated.{Wf};
-ghost use Rattle.refutation.specs.Branching.{PairHas, PrefixIn};
+ghost use Rattle.refutation.specs.Branching.{SlotHas, PrefixIn};
 
-// One pair.
-fn pair_has(block: &Block, cube: &Cube, prefix: &[u16; 32], k: usize) -> bool
-    requires { ⌜ Wf (now block) × (k < 257) ⌝ }
-    ensures { λ r. ⌜ (r ≡ true → PairHas (now (block .entry)) (now (cube .entry)) (now (prefix .entry)) k) ⌝ }
+// One slot: the choice of the prefix there is one that the cube means.
+fn slot_has(block: &Block, cube: &Cube, prefix: &[u16; 32], i: u8) -> bool
+    requires { ⌜ Wf (now block) × (i < 32) ⌝ }
+    ensures { λ r. ⌜ (r ≡ true → SlotHas (now (block .entry)) (now (cube .entry)) (now (prefix .entry)) i) ⌝ }
 {
-    let i = site(block, k);
-    if i == 255 {
-        return true;
-    }
-    if i >= 32 {
-        return false;
-    }
     let l = cube[wide(i)];
     if l == ANY {
         return true;
     }
     let c = prefix[wide(i)];
     if c == 256 {
+        return false;
+    }
+    let k = pair_of(block, i);
+    if site(block, k) != i {
         return false;
     }
     let step = transition(block, k, c);
@@ -36,12 +33,13 @@ fn pair_has(block: &Block, cube: &Cube, prefix: &[u16; 32], k: usize) -> bool
     cubes::literals::means(l, step.output, t)
 }
 
+// Slot by slot, as few of the 257 pairs are suspects; a cube says nothing of most slots.
 pub(crate) fn has_prefix(block: &Block, cube: &Cube, prefix: &[u16; 32]) -> bool
     requires { ⌜ Wf (now block) ⌝ }
     ensures { λ r. ⌜ (r ≡ true → PrefixIn (now (block .entry)) (now (cube .entry)) (now (prefix .entry))) ⌝ }
 {
-    for k in 0..257 {
-        if !pair_has(block, cube, prefix, k) {
+    for i in 0..32 {
+        if !slot_has(block, cube, prefix, i) {
             return false;
         }
     }
