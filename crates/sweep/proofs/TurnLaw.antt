@@ -19,7 +19,9 @@ use Rattle.refutation.specs.Branching.{PrefixIn}
 use Rattle.sweep.specs.declared.turn.Asked.{Asked}
 use Rattle.sweep.specs.Sweep.{Blames, Top, Full, Refutes}
 use Rattle.sweep.specs.Asking.{CubeRefutes}
-use Rattle.sweep.specs.Turning.{AskedOk}
+use Rattle.sweep.specs.Looking.{BySome}
+use Rattle.sweep.specs.Turning.{AskedOk, ConformedOk}
+use Rattle.sweep.proofs.LookLaw.{blames}
 use Rattle.sweep.specs.laws.SlotLaw.{has-below}
 
 -- ---- the first choices of p
@@ -67,3 +69,10 @@ blames-refutes {sh} {p} {by} {next} bl en =
                 rw e eb);
           });
     }
+
+-- ---- what clears a mutant that conforms
+pub conformed-asked : {m log p : List ℕ} {r : Asked} → AskedOk m log p r → r .ok ≡ true → ConformedOk m log p r
+conformed-asked told e = record { at = λ sh f clear. told .at e sh f }
+
+pub conformed-by : {m log p : List ℕ} {by next : ℕ} → Full m p → BySome m log p by → ((j : ℕ) → Top by j → next ≡ getD p j 0 + 1) → ConformedOk m log p (record { ok = true; by = by; next = next })
+conformed-by full by en = record { at = λ sh f clear. blames-refutes (blames f full by clear) en }

@@ -12,7 +12,7 @@ use Rattle.walks.specs.Walks.{NoneBy}
 use Rattle.search.specs.Search.{mutantIn}
 use Rattle.sweep.specs.declared.look.Looked.{Looked}
 use Rattle.sweep.specs.declared.look.Looked.the-variants as looked
-use Rattle.sweep.specs.Sweep.{Blames}
+use Rattle.sweep.specs.Sweep.{Cleared, Blames}
 
 -- no nonconforming mutant that has the choices at the slots of the set gives the log; or these are all 32 slots, and nothing is said
 abbrev pub BySome : List ℕ → List ℕ → List ℕ → ℕ → Type 0
@@ -28,5 +28,5 @@ pub record Found (sh : Sheet) (b : List ℕ) (d : ℕ) (buffer : List ℕ) : Typ
 
 abbrev pub LookedOk : Sheet → List ℕ → Looked → List ℕ → Type 0
 LookedOk sh p (looked.Fails set) buffer = Blames sh p set
-LookedOk sh p (looked.Conforms set) buffer = Blames sh p set
+LookedOk sh p looked.Conforms buffer = Cleared sh (mutantIn sh p)
 LookedOk sh p (looked.Survives d) buffer = Found sh (mutantIn sh p) d buffer

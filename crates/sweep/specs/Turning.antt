@@ -8,12 +8,16 @@ use Rattle.search.specs.Search.{ForSheet, mutantIn}
 use Rattle.sweep.specs.declared.turn.Asked.{Asked}
 use Rattle.sweep.specs.declared.turn.Turned.{Turned}
 use Rattle.sweep.specs.declared.turn.Turned.the-variants as turned
-use Rattle.sweep.specs.Sweep.{Refutes}
+use Rattle.sweep.specs.Sweep.{Cleared, Refutes}
 use Rattle.sweep.specs.Looking.{Found}
 
 -- what is asked of p is answered by what clears it
 pub record AskedOk (m log p : List ℕ) (r : Asked) : Type 0 where
   pub at : r .ok ≡ true → (sh : Sheet) → ForSheet sh m log → Refutes sh p (r .by) (r .next)
+
+-- where the mutant p conforms
+pub record ConformedOk (m log p : List ℕ) (r : Asked) : Type 0 where
+  pub at : (sh : Sheet) → ForSheet sh m log → Cleared sh (mutantIn sh p) → Refutes sh p (r .by) (r .next)
 
 abbrev pub TurnedOk : Sheet → List ℕ → Turned → List ℕ → Type 0
 TurnedOk sh p (turned.Refuted by next) buffer = Refutes sh p by next

@@ -25,11 +25,11 @@ ghost use Rattle.search.specs.Search.{ForSheet};
 ghost use Rattle.sweep.specs.Sweep.{Full};
 ghost use Rattle.sweep.specs.Looking.{BySome, LookedOk};
 
-// By the choices at a set of slots a mutant fails a test, or conforms; or it survives, and a sequence of this length tells it from the
+// By the choices at a set of slots a mutant fails a test; it conforms; or it survives, and a sequence of this length tells it from the
 // specification.
 pub(crate) enum Looked {
     Fails(u32),
-    Conforms(u32),
+    Conforms,
     Survives(usize),
 }
 
@@ -57,6 +57,14 @@ fn by_test(
     or_all(by_log(block, log, p, test_at(facts, test)))
 }
 
+// The slots by which it conforms; all of them where it does not.
+pub(crate) fn by_conforming(block: &[u8; BLOCK], p: &[u16; 32]) -> u32
+    requires { ⌜ Wf (now block) ⌝ }
+    ensures { λ r. ⌜ ((log : List ℕ) → BySome (now (block .entry)) log (now (p .entry)) r) ⌝ }
+{
+    or_all(by_reach(block, p))
+}
+
 // A mutant along the whole log, and held against the specification. Its distinguishing sequence is written at the buffer's front.
 fn look_through(
     block: &[u8; BLOCK],
@@ -76,7 +84,7 @@ fn look_through(
     match first_wrong(log, &outputs, &targets, start) {
         Wrong::At(test, _) => Looked::Fails(by_test(block, facts, log, p, test)),
         Wrong::Nothing => match distinguish(block, &outputs, &targets, start, sequence) {
-            Difference::Nothing => Looked::Conforms(or_all(by_reach(block, p))),
+            Difference::Nothing => Looked::Conforms,
             Difference::Shown(d) => Looked::Survives(d),
         },
     }

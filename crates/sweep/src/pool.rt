@@ -21,6 +21,9 @@ const NEXT: usize = LONG + 1;
 
 const FLOOR: usize = LONG + 2;
 
+// Whether a mutant conformed.
+const CONFORMED: usize = LONG + 3;
+
 // Whether a survivor is kept, for each of eight.
 const HELD: usize = LONG + 8;
 
@@ -68,6 +71,13 @@ fn earn(notes: &mut [u16], n: u16)
         return;
     }
     set_note(notes, EFFORT, left + n);
+}
+
+// Whether a mutant conformed before; now one does.
+pub(crate) fn again(notes: &mut [u16]) -> bool {
+    let before = note(notes, CONFORMED);
+    set_note(notes, CONFORMED, 1);
+    before == 1
 }
 
 // How many first choices of n a question has: not those of a survivor alone, and as many as were needed of late.

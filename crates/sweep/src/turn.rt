@@ -1,9 +1,11 @@
 // One turn of a sweep: what clears a mutant, and others like it.
 use crate::ask::cleared_by;
 use crate::look::Looked;
+use crate::look::by_conforming;
 use crate::look::look;
 use crate::order::following;
 use crate::pool::affords;
+use crate::pool::again;
 use crate::pool::answered;
 use crate::pool::depth;
 use crate::pool::keep;
@@ -22,6 +24,7 @@ ghost use Prim.Native.Nat.{_*_, _<_, _≤_};
 ghost use lib.ListN.{length};
 ghost use Rattle.sheet.specs.Sheet.{Sheet};
 ghost use Rattle.block.specs.Layout.{statesOf};
+ghost use Rattle.block.specs.Tabulated.{Wf};
 ghost use Rattle.cubes.specs.Cube.{Extends};
 ghost use Rattle.cubes.specs.declared.goal.Goal.the-variants.{Nonconforming};
 ghost use Rattle.refutation.specs.Lent.{StoreOk};
@@ -29,7 +32,7 @@ ghost use Rattle.refutation.specs.Refuting.{Ready};
 ghost use Rattle.search.specs.Search.{ForSheet};
 ghost use Rattle.sweep.specs.Sweep.{Full};
 ghost use Rattle.sweep.specs.declared.turn.Turned.the-variants.{GivesUp};
-ghost use Rattle.sweep.specs.Turning.{AskedOk, TurnedOk};
+ghost use Rattle.sweep.specs.Turning.{AskedOk, ConformedOk, TurnedOk};
 
 // The first n choices of p, the others unsettled.
 fn prefix(p: &[u16; 32], n: usize) -> [u16; 32]
@@ -116,6 +119,52 @@ fn ask_on(
     nothing()
 }
 
+// A question of all choices of p, if the store has room for an entry and a mutant conformed before: its answer clears more than the
+// slots by which p conforms.
+fn ask_conforming(
+    block: &[u8; BLOCK],
+    facts: &[u16; FACTS],
+    log: &[u16],
+    store: &mut [u32],
+    notes: &mut [u16],
+    p: &[u16; 32],
+) -> Asked
+    requires { ⌜ (34 ≤ length (now store) → Ready (now block) (now facts)) × StoreOk Nonconforming (now block) (now log) (now store) × Full (now block) (now p) ⌝ }
+    ensures { λ r. ⌜ StoreOk Nonconforming (now (block .entry)) (now (log .entry)) (now (store .exit)) × AskedOk (now (block .entry)) (now (log .entry)) (now (p .entry)) r ⌝ }
+{
+    if !again(notes) {
+        return nothing();
+    }
+    if store.len() < 34 {
+        return nothing();
+    }
+    ask(block, facts, log, store, notes, p, 32)
+}
+
+// What clears p, which conforms, and others like it.
+fn conformed(
+    block: &[u8; BLOCK],
+    facts: &[u16; FACTS],
+    log: &[u16],
+    store: &mut [u32],
+    notes: &mut [u16],
+    p: &[u16; 32],
+) -> Asked
+    requires { ⌜ Wf (now block) × (34 ≤ length (now store) → Ready (now block) (now facts)) × StoreOk Nonconforming (now block) (now log) (now store) × Full (now block) (now p) ⌝ }
+    ensures { λ r. ⌜ StoreOk Nonconforming (now (block .entry)) (now (log .entry)) (now (store .exit)) × ConformedOk (now (block .entry)) (now (log .entry)) (now (p .entry)) r ⌝ }
+{
+    let asked = ask_conforming(block, facts, log, store, notes, p);
+    if asked.ok {
+        return asked;
+    }
+    let by = by_conforming(block, p);
+    Asked {
+        ok: true,
+        by,
+        next: following(p, by),
+    }
+}
+
 // A turn clears p and others like it, finds that p survives, told from the specification by a sequence of this length, or gives up.
 pub(crate) enum Turned {
     Refuted(u32, u16),
@@ -128,14 +177,16 @@ fn take_look(
     block: &[u8; BLOCK],
     facts: &[u16; FACTS],
     log: &[u16],
+    store: &mut [u32],
     notes: &mut [u16],
     p: &[u16; 32],
     sequence: &mut [u8],
 ) -> Turned
     requires { ⌜ ((sh : Sheet) × ForSheet sh (now block) (now log)) × Full (now block) (now p) ⌝ }
     requires { ⌜ statesOf (now block) * statesOf (now block) ≤ length (now sequence) ⌝ }
+    requires { ⌜ (34 ≤ length (now store) → Ready (now block) (now facts)) × StoreOk Nonconforming (now block) (now log) (now store) ⌝ }
     ensures { λ r. ⌜ ((sh : Sheet) → ForSheet sh (now (block .entry)) (now (log .entry)) → TurnedOk sh (now (p .entry)) r (now (sequence .exit))) ⌝ }
-    ensures { λ r. ⌜ (r ≡ GivesUp → ⊥) ⌝ }
+    ensures { λ r. ⌜ StoreOk Nonconforming (now (block .entry)) (now (log .entry)) (now (store .exit)) × (r ≡ GivesUp → ⊥) ⌝ }
 {
     match look(block, facts, log, p, sequence) {
         Looked::Survives(d) => Turned::Survives(d),
@@ -143,9 +194,10 @@ fn take_look(
             spend(notes, 1);
             Turned::Refuted(by, following(p, by))
         }
-        Looked::Conforms(by) => {
+        Looked::Conforms => {
             spend(notes, 4);
-            Turned::Refuted(by, following(p, by))
+            let asked = conformed(block, facts, log, store, notes, p);
+            Turned::Refuted(asked.by, asked.next)
         }
     }
 }
@@ -168,17 +220,17 @@ pub(crate) fn turn(
     ensures { λ r. ⌜ StoreOk Nonconforming (now (block .entry)) (now (log .entry)) (now (store .exit)) × (r ≡ GivesUp → length (now (store .entry)) ≡ 0) ⌝ }
 {
     if affords(notes) {
-        return take_look(block, facts, log, notes, p, sequence);
+        return take_look(block, facts, log, store, notes, p, sequence);
     }
     if store.len() == 0 {
         return Turned::GivesUp;
     }
     if store.len() < 34 {
-        return take_look(block, facts, log, notes, p, sequence);
+        return take_look(block, facts, log, store, notes, p, sequence);
     }
     let asked = ask_on(block, facts, log, store, notes, p);
     if asked.ok {
         return Turned::Refuted(asked.by, asked.next);
     }
-    take_look(block, facts, log, notes, p, sequence)
+    take_look(block, facts, log, store, notes, p, sequence)
 }

@@ -35,15 +35,6 @@ distinguish-requires c κs =
     let entry = at-blank .before .before .before in
     let a = compare-asks (entry .pre .0 .0 .1) (entry .pre .0 .1) (at-lay .lay .ensures) (at-initial .initial .ensures) in (a .0, (a .1, entry .pre .1))
 
-by-reach-requires : tie.Need-by-reach-requires
-by-reach-requires c κs =
-    let at-distinguish = c .before .before .before .before in
-    let at-match = at-distinguish .before .before .before .before .before in
-    let at-lay = at-match .before .before .before .before .before in
-    let at-blank = at-lay .before .before .before .before in
-    let entry = at-blank .before .before .before in
-    lay-asks (entry .pre .0 .0 .1) (entry .pre .0 .1) .0
-
 returns : tie.Need-returns
 returns c =
     let at-known-told = c .before in
@@ -56,15 +47,14 @@ returns c =
 
 returns-2 : tie.Need-returns-2
 returns-2 c =
-    let at-by-reach = c .before in
-    let at-enum-told2 = at-by-reach .before in
+    let at-enum-told2 = c in
     let at-distinguish = at-enum-told2 .before .before .before .before in
     let at-match = at-distinguish .before .before .before .before .before in
     let at-initial = at-match .before .before .before .before in
     let at-lay = at-initial .before in
     let at-blank = at-lay .before .before .before .before in
     let entry = at-blank .before .before .before in
-    λ sh f. blames f (entry .pre .0 .1) (c .or-all .ensures _ _ _ (at-by-reach .by-reach .ensures _)) (conforms f (entry .pre .0 .1) (at-lay .lay .ensures) (at-initial .initial .ensures) (at-distinguish .distinguish .ensures .0) (at-enum-told2 .enum-told2 .given .1))
+    λ sh f. conforms f (entry .pre .0 .1) (at-lay .lay .ensures) (at-initial .initial .ensures) (at-distinguish .distinguish .ensures .0) (at-enum-told2 .enum-told2 .given .1)
 
 returns-3 : tie.Need-returns-3
 returns-3 c =
@@ -82,5 +72,5 @@ look-through-spec =
     tie.close
     (tie.spec
     (λ c κs. search needs) (λ c κs. search needs) lay-requires initial-requires (λ c κs. search needs) (λ c. search needs)
-    by-test-requires (λ c. search needs) distinguish-requires (λ c. search needs) by-reach-requires (λ c κs. search needs)
+    by-test-requires (λ c. search needs) distinguish-requires (λ c. search needs)
     (λ c. search needs) returns (λ c. search needs) returns-2 (λ c. search needs) returns-3)

@@ -1,23 +1,20 @@
 use borrow.Author.Needs.{needs}
+use native.Mathlib.Omega.{arith}
 use Rattle.lists.specs.laws.TestLaw.{never}
 use Rattle.sweep.proofs.turn.turn.Statement.{statement}
 use Rattle.sweep.proofs.turn.turn.Tie as tie
 
 returns : tie.Need-returns
 returns c =
-    let at-take-look = c .before .before .before .before in
-    let at-if1 = at-take-look .before .before .before in
-    let at-slice-known = at-if1 .before .before .before .before .before in
-    let entry = at-slice-known .before .before in
-    (at-take-look .take-look .ensures .0, (entry .pre .1 .1 .1, λ e. absurd (at-take-look .take-look .ensures .1 e)))
+    let at-take-look = c .before .before .before .before .before .before in
+    let told = at-take-look .take-look .ensures in
+    (told .0, (told .1 .0, λ e. absurd (told .1 .1 e)))
 
 returns-3 : tie.Need-returns-3
 returns-3 c =
-    let at-take-look2 = c .before .before .before .before in
-    let at-if1 = at-take-look2 .before .before .before .before .before in
-    let at-slice-known = at-if1 .before .before .before .before .before in
-    let entry = at-slice-known .before .before in
-    (at-take-look2 .take-look2 .ensures .0, (entry .pre .1 .1 .1, λ e. absurd (at-take-look2 .take-look2 .ensures .1 e)))
+    let at-take-look2 = c .before .before .before .before .before .before in
+    let told = at-take-look2 .take-look2 .ensures in
+    (told .0, (told .1 .0, λ e. absurd (told .1 .1 e)))
 
 ask-on-requires : tie.Need-ask-on-requires
 ask-on-requires c κs =
@@ -32,18 +29,24 @@ returns-4 c =
     let at-ask-on = c .before .before .before .before .before in
     (λ sh f. at-ask-on .ask-on .ensures .1 .at (c .if4 .taken) sh f, (at-ask-on .ask-on .ensures .0, λ e. never (cc)))
 
+take-look-requires-3 : tie.Need-take-look-requires-3
+take-look-requires-3 c κs =
+    let at-ask-on = c .before .before .before .before .before .before .before .before in
+    let at-affords = at-ask-on .before .before .before .before .before .before in
+    let entry = at-affords .before .before .before .before .before .before in
+    (entry .pre .0, (entry .pre .1 .0, (λ l. entry .pre .1 .1 .0 (omega (arith, l, at-ask-on .ask-on .kept .1 .1 .1 .0)), at-ask-on .ask-on .ensures .0)))
+
 returns-5 : tie.Need-returns-5
 returns-5 c =
-    let at-take-look3 = c .before .before .before .before in
-    let at-if4 = at-take-look3 .before .before .before in
-    let at-ask-on = at-if4 .before .before .before .before .before in
-    (at-take-look3 .take-look3 .ensures .0, (at-ask-on .ask-on .ensures .0, λ e. absurd (at-take-look3 .take-look3 .ensures .1 e)))
+    let at-take-look3 = c .before .before .before .before .before .before in
+    let told = at-take-look3 .take-look3 .ensures in
+    (told .0, (told .1 .0, λ e. absurd (told .1 .1 e)))
 
 pub turn-spec : {M : Type 1} → statement M
 turn-spec =
     tie.close
     (tie.spec
-    (λ c κs. search needs) (λ c κs. search needs) (λ c. search needs) (λ c. search needs) returns (λ c. search needs)
-    (λ c. search needs) (λ c κs. search needs) (λ c. search needs) (λ c. search needs) returns-3 ask-on-requires
-    (λ c. search needs) (λ c. search needs) returns-4 (λ c κs. search needs) (λ c. search needs) (λ c. search needs)
+    (λ c κs. search needs) (λ c κs. search needs) (λ c. search needs) (λ c. search needs) (λ c. search needs) returns (λ c. search needs)
+    (λ c. search needs) (λ c κs. search needs) (λ c. search needs) (λ c. search needs) (λ c. search needs) returns-3 ask-on-requires
+    (λ c. search needs) (λ c. search needs) returns-4 take-look-requires-3 (λ c. search needs) (λ c. search needs)
     (λ c. search needs) returns-5)
