@@ -47,14 +47,13 @@ returns c =
 
 returns-2 : tie.Need-returns-2
 returns-2 c =
-    let at-enum-told2 = c in
-    let at-distinguish = at-enum-told2 .before .before .before .before in
+    let at-distinguish = c .before .before .before .before in
     let at-match = at-distinguish .before .before .before .before .before in
     let at-initial = at-match .before .before .before .before in
     let at-lay = at-initial .before in
     let at-blank = at-lay .before .before .before .before in
     let entry = at-blank .before .before .before in
-    λ sh f. conforms f (entry .pre .0 .1) (at-lay .lay .ensures) (at-initial .initial .ensures) (at-distinguish .distinguish .ensures .0) (at-enum-told2 .enum-told2 .given .1)
+    λ sh f. conforms f (entry .pre .0 .1) (at-lay .lay .ensures) (at-initial .initial .ensures) (at-distinguish .distinguish .ensures .0) (c .enum-told2 .given .1)
 
 returns-3 : tie.Need-returns-3
 returns-3 c =

@@ -1,5 +1,4 @@
 use borrow.Author.Needs.{needs}
-use native.Mathlib.Omega.{arith}
 use Rattle.sweep.proofs.TurnLaw.{asked-none}
 use Rattle.sweep.proofs.turn.ask_conforming.Statement.{statement}
 use Rattle.sweep.proofs.turn.ask_conforming.Tie as tie
