@@ -1,8 +1,9 @@
 -- What makes two states exchangeable.
-use Rattle.lists.specs.Proving.{arith, ℕ, _+_, _*_, _/_, _%_, _<_, _≤_, _≡_, refl, sym, _∙_, ap, ap₂, subst, _⊎_, inl, inr, List, length, getD, set, replicate, length-set, getD-replicate, getD-set-same, getD-set-other, below-more}
+use Rattle.lists.specs.Proving.{arith, ℕ, _+_, _*_, _/_, _%_, _^_, _<_, _≤_, _≡_, refl, sym, _∙_, ap, ap₂, subst, _⊎_, inl, inr, List, length, getD, set, replicate, length-set, getD-replicate, getD-set-same, getD-set-other, below-more}
+use mathlib.Core.Path.{fun-ext}
 use native.Mathlib.Nat.{mod-lt, mod-eq-of-lt, div-eq-of-lt, div-add-mod', mul-add-div-right, mul-add-mod-self-right, div-lt-iff-lt-mul}
 use Rattle.model.specs.Machine.{Move}
-use Rattle.block.specs.Layout.{siteAt, ruleTarget, statesOf}
+use Rattle.block.specs.Layout.{pair, siteAt, ruleTarget, statesOf, inputsOf}
 use Rattle.block.specs.Tabulated.{Wf, choicesAt, choiceOf, chosen, startOf, StepIs}
 use Rattle.block.specs.declared.layout.Step.{Step}
 use Rattle.block.specs.laws.ChoiceLaw.{is-unruled}
@@ -10,8 +11,8 @@ use Rattle.cubes.specs.Sets.{Has, Joined}
 use Rattle.cubes.specs.Cube.{StartsOk}
 use Rattle.cubes.specs.laws.LiteralLaw.{any-means}
 use Rattle.cubes.specs.laws.SetLaw.{one-same}
-use Rattle.mirror.specs.Mirror.{other, turned, Each, Offers, OffersStep, Answered, Exchanges, Movable, FixedOk, Exchangeable, Exchanged}
-use Rattle.mirror.proofs.OtherLaw.{other-low}
+use Rattle.mirror.specs.Mirror.{other, turned, Each, Offers, OffersStep, Answered, Exchanges, Movable, FixedOk, Exchangeable, Partnered, Below, Exchanged}
+use Rattle.mirror.proofs.OtherLaw.{other-low, other-same, each-one}
 
 move-same : (u v : Move) → u .output ≡ v .output → u .target ≡ v .target → u ≡ v
 move-same u v p q = ap₂ {C = Move} (λ (o t : ℕ). record { output = o; target = t }) p q
@@ -66,22 +67,37 @@ movable {m} {set} f n = record {
   start = λ c r e. n (subst (λ (y : ℕ). Has set y) e (f .start c r));
 }
 
+-- a state that can be exchanged with another can be so the other way round
+pub exchangeable-back : {m : List ℕ} {a b : ℕ} → Exchangeable m a b → Exchangeable m b a
+exchangeable-back {m} {a} {b} ex = record {
+  a-low = ex .b-low;
+  b-low = ex .a-low;
+  a-free = ex .b-free;
+  b-free = ex .a-free;
+  rows = subst (λ (f : ℕ → ℕ). Below (λ s. Below (λ x. Below (λ c. OffersStep m (pair (f s) x) (choiceOf m (pair s x) c .output) (f (choiceOf m (pair s x) c .target))) (choicesAt m (pair s x))) (inputsOf m)) (statesOf m)) (fun-ext (λ s. other-same a b s)) (ex .rows);
+}
+
+pub known-partner : {m facts : List ℕ} {a b set : ℕ} → Partnered m facts a → b < a → Has (getD facts (544 + b) 0) a → set ≡ 2 ^ b → Each (λ t. Exchangeable m a t) set
+known-partner {a = a} {b} p l h e = each-one b e (exchangeable-back (p .at b l .at a h))
+
 -- ---- the facts, the sets of the states below n written
 pub record SwapsTo (m old new : List ℕ) (n : ℕ) : Type 0 where
   pub low : n ≤ 16
   pub long : length new ≡ 832
-  pub at : (a : ℕ) → a < n → Each (λ b. Exchangeable m a b) (getD new (544 + a) 0)
+  pub sets : Partnered m new n
   pub others : (j : ℕ) → (j < 544) ⊎ (560 ≤ j) → getD new j 0 ≡ getD old j 0
 
 pub swaps-none : {m facts : List ℕ} → length facts ≡ 832 → SwapsTo m facts facts 0
-swaps-none l = record { low = omega arith; long = l; at = λ a h. absurd (omega arith); others = λ j h. refl }
+swaps-none l = record { low = omega arith; long = l; sets = record { at = λ a h. absurd (omega arith) }; others = λ j h. refl }
 
 pub swaps-more : {m old new : List ℕ} {n s : ℕ} (k : ℕ) → SwapsTo m old new n → n < 16 → k ≡ 544 + n → Each (λ b. Exchangeable m n b) s → SwapsTo m old (set new k s) (n + 1)
 swaps-more {m} {old} {new} {n} {s} k t l e h = record {
   low = omega arith;
   long = length-set new k s ∙ t .long;
-  at = below-more _ n (λ a la. subst (λ (y : ℕ). Each (λ b. Exchangeable m a b) y) (sym (getD-set-other new k (544 + a) s 0 (λ w. omega (arith, w)))) (t .at a la))
-      (subst (λ (y : ℕ). Each (λ b. Exchangeable m n b) y) (sym (ap (λ (y : ℕ). getD (set new k s) y 0) (sym e) ∙ getD-set-same new k s 0 (omega (arith, t .long)))) h);
+  sets = record {
+    at = below-more _ n (λ a la. subst (λ (y : ℕ). Each (λ b. Exchangeable m a b) y) (sym (getD-set-other new k (544 + a) s 0 (λ w. omega (arith, w)))) (t .sets .at a la))
+        (subst (λ (y : ℕ). Each (λ b. Exchangeable m n b) y) (sym (ap (λ (y : ℕ). getD (set new k s) y 0) (sym e) ∙ getD-set-same new k s 0 (omega (arith, t .long)))) h);
+  };
   others = λ j h. getD-set-other new k j s 0 (away j h) ∙ t .others j h;
 }
   where
@@ -90,4 +106,4 @@ swaps-more {m} {old} {new} {n} {s} k t l e h = record {
     away j (inr h) w = omega arith
 
 pub swaps-all : {m old new : List ℕ} {n : ℕ} → SwapsTo m old new n → 16 ≤ n → Exchanged m old new
-swaps-all t l = record { long = t .long; swaps = record { at = λ a h. t .at a (omega arith) }; others = t .others }
+swaps-all t l = record { long = t .long; swaps = record { at = λ a h. t .sets .at a (omega arith) }; others = t .others }

@@ -39,6 +39,9 @@ other-back a b s w = other-cases (λ t. t ≡ a) a b s (λ e. sym w ∙ e) (λ e
 pub other-low : (a b s n : ℕ) → a < n → b < n → s < n → other a b s < n
 other-low a b s n la lb ls = other-cases (λ t. t < n) a b s (λ e. lb) (λ e. la) (λ p q. ls)
 
+pub other-same : (a b s : ℕ) → other a b s ≡ other b a s
+other-same a b s = other-cases (λ t. t ≡ other b a s) a b s (λ e. sym (other-back b a s e)) (λ e. sym (other-first b a s e)) (λ n k. sym (other-rest b a s k n))
+
 -- ---- sets
 pub each-none : {P : ℕ → Type 0} → Each P 0
 each-none = record { at = λ t h. absurd (nothing t h) }

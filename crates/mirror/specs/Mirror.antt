@@ -66,9 +66,13 @@ pub record Exchangeable (m : List ℕ) (a b : ℕ) : Type 0 where
   pub b-free : Movable m b
   pub rows : Below (λ s. RowExchanges m a b s) (statesOf m)
 
--- by state a, at 544 + a of the facts, a set of states that can be exchanged with it
-pub record SwapsOk (m facts : List ℕ) : Type 0 where
-  pub at : (a : ℕ) → a < 16 → Each (λ b. Exchangeable m a b) (getD facts (544 + a) 0)
+-- by state a below n, at 544 + a of the facts, a set of states that can be exchanged with it
+pub record Partnered (m facts : List ℕ) (n : ℕ) : Type 0 where
+  pub at : (a : ℕ) → a < n → Each (λ b. Exchangeable m a b) (getD facts (544 + a) 0)
+
+-- the same of every state
+abbrev pub SwapsOk : List ℕ → List ℕ → Type 0
+SwapsOk m facts = Partnered m facts 16
 
 -- these are filled in, and nothing else is changed
 pub record Exchanged (m old new : List ℕ) : Type 0 where

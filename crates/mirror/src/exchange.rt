@@ -7,12 +7,13 @@ use cubes::words::one;
 use cubes::words::union;
 ghost use mathlib.Core.Path.{_≡_};
 ghost use mathlib.Core.Bool.{true};
-ghost use Prim.Native.Nat.{_<_, _%_};
+ghost use mathlib.Core.List.{List};
+ghost use Prim.Native.Nat.{ℕ, _<_, _%_};
 ghost use lib.ListN.{length};
 ghost use Rattle.block.specs.Layout.{ruleTarget, siteAt, statesOf};
 ghost use Rattle.block.specs.Tabulated.{Wf, choicesAt};
 ghost use Rattle.cubes.specs.Cube.{Given};
-ghost use Rattle.mirror.specs.Mirror.{other, Each, Below, OffersStep, Answered, Exchanges, RowExchanges, Movable, FixedOk, Exchangeable, Exchanged};
+ghost use Rattle.mirror.specs.Mirror.{other, Each, Below, OffersStep, Answered, Exchanges, RowExchanges, Movable, FixedOk, Exchangeable, Partnered, Exchanged};
 
 // The state s, with a and b exchanged.
 fn other(s: u8, a: u8, b: u8) -> u8
@@ -209,9 +210,34 @@ fn partner(block: &Block, fixed: u16, a: u8, b: u8) -> u16
     one(b)
 }
 
+// The same of a state below a, as it stands in the facts.
+fn known_partner(facts: &Facts, a: u8, b: u8) -> u16
+    requires { ⌜ (length (now facts) ≡ 832) × (a < 16) × (b < a) ⌝ }
+    ensures { λ r. ⌜ ((m : List ℕ) → Partnered m (now (facts .entry)) a → Each (λ t. Exchangeable m a t) r) ⌝ }
+{
+    let set = facts[EXCHANGES + wide(b)];
+    if !holds(set, a) {
+        return 0;
+    }
+    one(b)
+}
+
+// The same of any state.
+fn partner_of(block: &Block, facts: &Facts, fixed: u16, a: u8, b: u8) -> u16
+    requires { ⌜ Wf (now block) × FixedOk (now block) fixed × (a < statesOf (now block)) × (b < statesOf (now block)) × Movable (now block) a ⌝ }
+    requires { ⌜ (length (now facts) ≡ 832) × Partnered (now block) (now facts) a ⌝ }
+    ensures { λ r. ⌜ Each (λ t. Exchangeable (now (block .entry)) a t) r ⌝ }
+{
+    if b < a {
+        return known_partner(facts, a, b);
+    }
+    partner(block, fixed, a, b)
+}
+
 // The states that can be exchanged with a.
-fn partners(block: &Block, fixed: u16, a: u8) -> u16
+fn partners(block: &Block, facts: &Facts, fixed: u16, a: u8) -> u16
     requires { ⌜ Wf (now block) × FixedOk (now block) fixed × (a < 16) ⌝ }
+    requires { ⌜ (length (now facts) ≡ 832) × Partnered (now block) (now facts) a ⌝ }
     ensures { λ r. ⌜ Each (λ t. Exchangeable (now (block .entry)) a t) r ⌝ }
 {
     let end = states(block);
@@ -223,7 +249,7 @@ fn partners(block: &Block, fixed: u16, a: u8) -> u16
     }
     let mut set: u16 = 0;
     for b in 0..end {
-        set = union(set, partner(block, fixed, a, b));
+        set = union(set, partner_of(block, facts, fixed, a, b));
     }
     set
 }
@@ -235,7 +261,7 @@ pub fn exchange_all(block: &Block, facts: &mut Facts)
 {
     let keep = fixed(block, facts);
     for a in 0..16 {
-        let set = partners(block, keep, a);
+        let set = partners(block, facts, keep, a);
         facts[EXCHANGES + wide(a)] = set;
     }
 }
