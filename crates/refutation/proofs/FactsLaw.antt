@@ -6,7 +6,7 @@ use Rattle.cubes.specs.laws.FreeLaw.{free-kept}
 use Rattle.cursors.specs.FactsKept.{FactsKept}
 use Rattle.mirror.specs.Mirror.{Exchanged}
 use Rattle.mirror.specs.laws.MirrorLaw.{swaps-kept}
-use Rattle.refutation.specs.Refuting.{Ready}
+use Rattle.nodes.specs.Refuting.{Ready}
 
 -- what suspects can do, which states can be exchanged, where the tests begin: each leaves what was there
 pub prepared : {m entered swapped facts : List ℕ} → Wf m → FreeOk m entered → Exchanged m entered swapped → FactsKept swapped facts → Ready m facts

@@ -1,3 +1,2 @@
-mod TellLaw
 mod BranchLaw
 mod FactsLaw

@@ -6,20 +6,13 @@ use Prim.Native.Nat.{ℕ, _<_}
 use lib.ListN.{length, getD}
 use Rattle.model.specs.Machine.{Move}
 use Rattle.block.specs.Layout.{siteAt, choicesOf}
-use Rattle.block.specs.Tabulated.{Ranged, choiceOf, chosen, StepIs}
+use Rattle.block.specs.Tabulated.{StepIs}
 use Rattle.block.specs.declared.layout.Step.{Step}
 use Rattle.cubes.specs.Sets.{Has}
-use Rattle.cubes.specs.Cube.{Means, In, NoneIn, Joining, Extends}
+use Rattle.cubes.specs.Cube.{NoneIn, Joining}
 use Rattle.cubes.specs.declared.goal.Goal.{Goal}
-use Rattle.store.specs.Store.{StoreOk, ToldOk}
-use Rattle.store.specs.declared.entries.Told.{Told}
 use Rattle.refutation.specs.declared.branch.Split.{Split}
 use Rattle.refutation.specs.declared.branch.Turn.{Turn}
-
--- what is told is right, and so is the store
-pub record Found (goal : Goal) (m log store : List ℕ) (r : Told) : Type 0 where
-  pub told : ToldOk goal m log r
-  pub kept : StoreOk goal m log store
 
 -- the suspect is that of the pair, the choices are all it has, and one more may be settled
 pub record SplitOk (m : List ℕ) (left : ℕ) (r : Split) : Type 0 where
@@ -41,10 +34,3 @@ pub record JoinedOk (m cube all done more wider : List ℕ) (k : ℕ) (s : Step)
   pub joins : (goal : Goal) (log : List ℕ) → NoneIn goal m log cube → Joining goal m log all done k → Joining goal m log more wider k
   pub keeps : (v : Move) → Has (getD done (v .output) 0) (v .target) → Has (getD wider (v .output) 0) (v .target)
   pub here : Has (getD wider (s .output) 0) (s .target)
-
--- every mutant that has the choices that p settles is in the cube, as far as the slot i goes
-pub record SlotHas (m cube p : List ℕ) (i : ℕ) : Type 0 where
-  pub at : (k : ℕ) → k < 257 → siteAt m k ≡ i → (b : List ℕ) → Ranged m b → Extends b p → Means (getD cube i 0) (choiceOf m k (chosen m b k))
-
-pub record PrefixIn (m cube p : List ℕ) : Type 0 where
-  pub at : (b : List ℕ) → Ranged m b → Extends b p → In m cube b

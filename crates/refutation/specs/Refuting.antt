@@ -1,12 +1,3 @@
--- What the search for refutations works with.
-use mathlib.Core.List.{List}
-use Prim.Native.Nat.{ℕ}
-use Rattle.block.specs.Tabulated.{Wf}
-use Rattle.cubes.specs.Cube.{FreeOk}
-use Rattle.mirror.specs.Mirror.{SwapsOk}
-
--- the facts are the block's
-pub record Ready (m facts : List ℕ) : Type 0 where
-  pub wf : Wf m
-  pub free : FreeOk m facts
-  pub swaps : SwapsOk m facts
+-- What the search for refutations works with and finds, for those who ask it.
+pub use Rattle.nodes.specs.Refuting.{Ready, Found}
+pub use Rattle.nodes.specs.Prefix.{PrefixIn}

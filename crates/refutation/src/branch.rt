@@ -1,8 +1,4 @@
 // A cube without mutant sought for a settled part, by the choices of a suspect in turn.
-use crate::node::Node;
-use crate::node::UNHINTED;
-use crate::node::child;
-use crate::tell::look;
 use block::*;
 use cubes::gather::note as add;
 use cubes::goal::Goal;
@@ -10,6 +6,10 @@ use cubes::literals::Cube;
 use cubes::tables::Facts;
 use cubes::words::Sets;
 use leaves::*;
+use nodes::Node;
+use nodes::UNHINTED;
+use nodes::child;
+use nodes::look;
 use store::Told;
 ghost use mathlib.Core.Path.{_≡_};
 ghost use mathlib.Core.Bool.{true, false};
@@ -18,8 +18,8 @@ ghost use lib.ListN.{length, getD, set};
 ghost use Rattle.block.specs.Layout.{siteAt};
 ghost use Rattle.cubes.specs.Sets.{Has};
 ghost use Rattle.store.specs.Store.{StoreOk, Learns};
-ghost use Rattle.refutation.specs.Refuting.{Ready};
-ghost use Rattle.refutation.specs.Branching.{Found, SplitOk, TurnOk, JoinedOk};
+ghost use Rattle.nodes.specs.Refuting.{Ready, Found};
+ghost use Rattle.refutation.specs.Branching.{SplitOk, TurnOk, JoinedOk};
 
 // The suspect to settle next: one for which tests wait, else one on the way of the settled part; 255 if there is none.
 fn next_suspect(

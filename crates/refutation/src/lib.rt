@@ -2,9 +2,6 @@
 // Promises, where it says so, that no mutant with the choices of a prefix is sought, and that the store stays right.
 // Called by `search`, `sweep` and `making`, which show what its functions require.
 mod branch;
-mod node;
-mod prefix;
-mod tell;
 
 use block::*;
 use cubes::goal::Goal;
@@ -23,8 +20,8 @@ ghost use lib.ListN.{length};
 ghost use Rattle.block.specs.Tabulated.{Wf};
 ghost use Rattle.cubes.specs.Cube.{NoneIf};
 ghost use Rattle.refutation.specs.Lent.{StoreOk};
-ghost use Rattle.refutation.specs.Refuting.{Ready};
-ghost use Rattle.refutation.specs.Branching.{Found, PrefixIn};
+ghost use Rattle.nodes.specs.Refuting.{Ready, Found};
+ghost use Rattle.nodes.specs.Prefix.{PrefixIn};
 
 // Fills the facts of a block and a log; false where it has none.
 pub fn prepare(block: &Block, log: &[u16], facts: &mut Facts) -> bool
@@ -60,7 +57,7 @@ pub fn told_from(
     requires { ⌜ Ready (now block) (now facts) × StoreOk goal (now block) (now log) (now store) ⌝ }
     ensures { λ r. ⌜ Found goal (now (block .entry)) (now (log .entry)) (now (store .exit)) r × (r .ok ≡ true → PrefixIn (now (block .entry)) (r .cube) (now (prefix .entry))) ⌝ }
 {
-    let node = node::root(block, prefix);
+    let node = nodes::root(block, prefix);
     store::admit_all(notes, node.settled);
     let mut cursors = [0u32; 256];
     cursors::start_cursors(facts, &mut cursors);
@@ -68,7 +65,7 @@ pub fn told_from(
     if !told.ok {
         return unknown();
     }
-    if !prefix::has_prefix(block, &told.cube, prefix) {
+    if !nodes::has_prefix(block, &told.cube, prefix) {
         return unknown();
     }
     told

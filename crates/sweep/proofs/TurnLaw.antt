@@ -15,7 +15,7 @@ use Rattle.cubes.specs.Sets.{Has}
 use Rattle.cubes.specs.laws.SetLaw.{nothing}
 use Rattle.cubes.specs.Cube.{Extends, NoneIn}
 use Rattle.cubes.specs.declared.goal.Goal.the-variants.{Nonconforming}
-use Rattle.refutation.specs.Branching.{PrefixIn}
+use Rattle.refutation.specs.Refuting.{PrefixIn}
 use Rattle.sweep.specs.declared.turn.Asked.{Asked}
 use Rattle.sweep.specs.Sweep.{Blames, Top, Full, Refutes}
 use Rattle.sweep.specs.Asking.{CubeRefutes}

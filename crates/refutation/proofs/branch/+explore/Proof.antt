@@ -2,10 +2,10 @@ use Rattle.lists.specs.Proving.{needs, arith, ℕ, _+_, _-_, _<_, _≤_, _≡_,
 use Rattle.cubes.specs.declared.goal.Goal.{Goal}
 use Rattle.store.specs.Store.{StoreOk, ToldOk}
 use Rattle.store.specs.declared.entries.Told.{Told}
-use Rattle.refutation.specs.Refuting.{Ready}
+use Rattle.nodes.specs.Refuting.{Ready}
 use Rattle.refutation.specs.Branching.{SplitOk}
 use Rattle.refutation.specs.declared.branch.Split.{Split}
-use Rattle.refutation.proofs.TellLaw.{found-learnt}
+use Rattle.nodes.specs.laws.TellLaw.{found-learnt}
 use Rattle.refutation.proofs.BranchLaw.{Trying, trying-start, trying-skip, trying-more, trying-end}
 use borrow.Fn.Kinds.{In}
 use borrow.Fn.PlainCycle.{Measures, is, falls, and}
@@ -13,8 +13,8 @@ use Rattle.refutation.proofs.branch
 use Rattle.refutation.proofs.branch.explore.Reads as explore
 use Rattle.refutation.proofs.branch.explore.Kinds as explore-kinds
 use Rattle.refutation.proofs.branch.+explore.Lts-explore as explore-lts
-use Rattle.refutation.proofs.node
-use Rattle.refutation.proofs.tell
+use Rattle.nodes.proofs.child.Reads as child-reads
+use Rattle.nodes.proofs.look.Reads as look-reads
 use Rattle.refutation.proofs.branch.+explore.{statement}
 use Rattle.refutation.proofs.branch.+explore.Tie.{close}
 
@@ -28,7 +28,7 @@ abbrev explore-below : ℕ → In 6 explore-kinds.ps
 explore-below t = and 6 explore-kinds.ps (falls 6 explore-kinds.ps _<_ μ-explore t) explore.Pre
 
 abbrev cs : ℕ → explore-lts.Claims
-cs t = (tell.look.Reads.Asked, tell.look.Reads.Learnt, branch.next_split.Reads.Asked, branch.next_split.Reads.Learnt, branch.at_turn.Reads.Asked, branch.at_turn.Reads.Learnt, node.child.Reads.Asked, node.child.Reads.Learnt, explore-below t, explore.Post, branch.final_at.Reads.Asked, branch.final_at.Reads.Learnt, branch.join.Reads.Asked, branch.join.Reads.Learnt, branch.finish.Reads.Asked, branch.finish.Reads.Learnt)
+cs t = (look-reads.Asked, look-reads.Learnt, branch.next_split.Reads.Asked, branch.next_split.Reads.Learnt, branch.at_turn.Reads.Asked, branch.at_turn.Reads.Learnt, child-reads.Asked, child-reads.Learnt, explore-below t, explore.Post, branch.final_at.Reads.Asked, branch.final_at.Reads.Learnt, branch.join.Reads.Asked, branch.join.Reads.Learnt, branch.finish.Reads.Asked, branch.finish.Reads.Learnt)
 
 -- what holds throughout: the tables, what was seen first, the split
 record Splitting (goal : Goal) (block facts log : List ℕ) (left : ℕ) (seen : Told) (split : Split) : Type 0 where

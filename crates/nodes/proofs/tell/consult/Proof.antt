@@ -1,6 +1,6 @@
 use Rattle.lists.specs.Proving.{needs}
-use Rattle.refutation.proofs.TellLaw.{found-learnt, found-entry}
-use Rattle.refutation.proofs.tell.consult as own
+use Rattle.nodes.specs.laws.TellLaw.{found-learnt, found-entry}
+use Rattle.nodes.proofs.tell.consult as own
 
 pub consult-spec : {M : Type 1} → own.Statement.statement M
 consult-spec = own.Tie.close (own.Tie.spec

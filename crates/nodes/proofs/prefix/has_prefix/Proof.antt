@@ -1,7 +1,7 @@
 use Rattle.lists.specs.Proving.{needs, _-_, not-false}
-use Rattle.refutation.proofs.BranchLaw.{PrefixTo, prefix-none, prefix-more, prefix-all}
+use Rattle.nodes.proofs.PrefixLaw.{PrefixTo, prefix-none, prefix-more, prefix-all}
 use Rattle.store.specs.laws.ToldLaw.{void}
-use Rattle.refutation.proofs.prefix.has_prefix as own
+use Rattle.nodes.proofs.prefix.has_prefix as own
 
 pub has-prefix-spec : {M : Type 1} → own.Statement.statement M
 has-prefix-spec = own.Tie.close (own.Tie.spec

@@ -5,11 +5,11 @@ ghost use mathlib.Core.Path.{_≡_};
 ghost use Prim.Native.Nat.{_+_, _<_};
 
 // No hint: an entry that no store has.
-pub(crate) const UNHINTED: u16 = 32767;
+pub const UNHINTED: u16 = 32767;
 
 // By suspect that is settled its transition (output * 16 + next state); the suspect settled last, 254 for none; how many may
 // still be settled; what may refute it, a test or an entry of the store.
-pub(crate) struct Node {
+pub struct Node {
     pub p: [u8; 32],
     pub settled: u32,
     pub last: u8,
@@ -18,7 +18,7 @@ pub(crate) struct Node {
 }
 
 // The node with one transition more.
-pub(crate) fn child(node: Node, i: u8, step: Step, hint: u16) -> Node
+pub fn child(node: Node, i: u8, step: Step, hint: u16) -> Node
     requires { ⌜ 0 < node .left ⌝ }
     ensures { λ r. ⌜ r .left + 1 ≡ node .left ⌝ }
 {
@@ -55,7 +55,7 @@ fn settled_with(block: &Block, set: u32, j: u8, c: u16) -> u32
 }
 
 // The node of a prefix.
-pub(crate) fn root(block: &Block, prefix: &[u16; 32]) -> Node {
+pub fn root(block: &Block, prefix: &[u16; 32]) -> Node {
     let mut p = [0u8; 32];
     let mut settled: u32 = 0;
     for j in 0..32 {

@@ -6,7 +6,7 @@ ghost use mathlib.Core.Path.{_≡_};
 ghost use mathlib.Core.Bool.{true};
 ghost use Prim.Native.Nat.{_<_};
 ghost use Rattle.block.specs.Tabulated.{Wf};
-ghost use Rattle.refutation.specs.Branching.{SlotHas, PrefixIn};
+ghost use Rattle.nodes.specs.Prefix.{SlotHas, PrefixIn};
 
 // One slot: the choice of the prefix there is one that the cube means.
 fn slot_has(block: &Block, cube: &Cube, prefix: &[u16; 32], i: u8) -> bool
@@ -34,7 +34,7 @@ fn slot_has(block: &Block, cube: &Cube, prefix: &[u16; 32], i: u8) -> bool
 }
 
 // Slot by slot, as few of the 257 pairs are suspects; a cube says nothing of most slots.
-pub(crate) fn has_prefix(block: &Block, cube: &Cube, prefix: &[u16; 32]) -> bool
+pub fn has_prefix(block: &Block, cube: &Cube, prefix: &[u16; 32]) -> bool
     requires { ⌜ Wf (now block) ⌝ }
     ensures { λ r. ⌜ (r ≡ true → PrefixIn (now (block .entry)) (now (cube .entry)) (now (prefix .entry))) ⌝ }
 {

@@ -1,6 +1,6 @@
 use Rattle.lists.specs.Proving.{needs, sym, _∙_}
 use Rattle.store.specs.laws.ToldLaw.{void}
-use Rattle.refutation.proofs.tell.by_conforming as own
+use Rattle.nodes.proofs.tell.by_conforming as own
 
 pub by-conforming-spec : {M : Type 1} → own.Statement.statement M
 by-conforming-spec = own.Tie.close (own.Tie.spec

@@ -15,8 +15,7 @@ ghost use Prim.Native.Nat.{ℕ};
 ghost use Rattle.cubes.specs.Cube.{AllConform};
 ghost use Rattle.cubes.specs.declared.goal.Goal.{Goal as Sort};
 ghost use Rattle.store.specs.Store.{StoreOk, ToldOk};
-ghost use Rattle.refutation.specs.Refuting.{Ready};
-ghost use Rattle.refutation.specs.Branching.{Found};
+ghost use Rattle.nodes.specs.Refuting.{Ready, Found};
 
 // That no mutant of a proposal gives a test's part of the log.
 fn by_test(block: &Block, facts: &Facts, log: &[u16], node: Node, t: usize) -> Told
@@ -88,7 +87,7 @@ fn consult(
 }
 
 // What its hint, the tests, the store and the pairs of states say of a node.
-pub(crate) fn look(
+pub fn look(
     block: &Block,
     facts: &Facts,
     log: &[u16],

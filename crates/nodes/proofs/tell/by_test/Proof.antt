@@ -1,5 +1,5 @@
 use Rattle.lists.specs.Proving.{needs}
-use Rattle.refutation.proofs.tell.by_test as own
+use Rattle.nodes.proofs.tell.by_test as own
 
 pub by-test-spec : {M : Type 1} → own.Statement.statement M
 by-test-spec = own.Tie.close (own.Tie.spec

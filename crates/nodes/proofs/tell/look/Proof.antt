@@ -1,6 +1,6 @@
 use Rattle.lists.specs.Proving.{needs}
-use Rattle.refutation.proofs.TellLaw.{found-learnt}
-use Rattle.refutation.proofs.tell.look as own
+use Rattle.nodes.specs.laws.TellLaw.{found-learnt}
+use Rattle.nodes.proofs.tell.look as own
 
 pub look-spec : {M : Type 1} → own.Statement.statement M
 look-spec = own.Tie.close (own.Tie.spec

@@ -7,7 +7,7 @@ use Rattle.cubes.specs.declared.goal.Goal.the-variants.{Nonconforming}
 use Rattle.cubes.specs.laws.ConformLaw.{conforms-none}
 use Rattle.store.specs.Store.{StoreOk, ToldOk, Kept, Tells, Learns}
 use Rattle.store.specs.declared.entries.Told.{Told}
-use Rattle.refutation.specs.Branching.{Found}
+use Rattle.nodes.specs.Refuting.{Found}
 
 pub found-entry : {goal : Goal} {m log old new : List ℕ} {r : Told} → StoreOk goal m log old → Kept old new → Tells new r → Found goal m log new r
 found-entry {goal} {m} {log} st k t = let st2 = k .at goal m log st in record { told = t .at goal m log st2; kept = st2 }

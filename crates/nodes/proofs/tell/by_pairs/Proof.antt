@@ -1,7 +1,7 @@
 use Rattle.lists.specs.Proving.{needs}
 use Rattle.store.specs.laws.ToldLaw.{told-none}
-use Rattle.refutation.proofs.TellLaw.{told-conforming}
-use Rattle.refutation.proofs.tell.by_pairs as own
+use Rattle.nodes.specs.laws.TellLaw.{told-conforming}
+use Rattle.nodes.proofs.tell.by_pairs as own
 
 pub by-pairs-spec : {M : Type 1} → own.Statement.statement M
 by-pairs-spec = own.Tie.close (own.Tie.spec

@@ -1,6 +1,6 @@
 use Rattle.lists.specs.Proving.{needs}
-use Rattle.refutation.proofs.TellLaw.{found-entry}
-use Rattle.refutation.proofs.tell.by_hint as own
+use Rattle.nodes.specs.laws.TellLaw.{found-entry}
+use Rattle.nodes.proofs.tell.by_hint as own
 
 pub by-hint-spec : {M : Type 1} → own.Statement.statement M
 by-hint-spec = own.Tie.close (own.Tie.spec

@@ -1,7 +1,7 @@
 use Rattle.lists.specs.Proving.{needs, sym, _∙_}
 use Rattle.store.specs.laws.ToldLaw.{void}
-use Rattle.refutation.proofs.BranchLaw.{slot-any, slot-some}
-use Rattle.refutation.proofs.prefix.slot_has as own
+use Rattle.nodes.proofs.PrefixLaw.{slot-any, slot-some}
+use Rattle.nodes.proofs.prefix.slot_has as own
 
 pub slot-has-spec : {M : Type 1} → own.Statement.statement M
 slot-has-spec = own.Tie.close (own.Tie.spec

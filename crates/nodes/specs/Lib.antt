@@ -1,0 +1,3 @@
+pub mod Refuting
+pub mod Prefix
+pub mod laws
