@@ -1,25 +1,28 @@
 -- Mutants that have the choices settled at some suspects, along a log.
-use Rattle.lists.specs.Proving.{arith, ℕ, _+_, _/_, _%_, _^_, _<_, _≡_, sym, _∙_, ap, subst, List, [], _∷_, length, getD, drop}
+use Rattle.lists.specs.Proving.{arith, ℕ, _+_, _/_, _%_, _^_, _<_, _≡_, sym, _∙_, ap, subst, List, [], _∷_, length, getD, drop, ℕ-discrete}
 use Rattle.model.specs.Log.{GivesFrom}
 use Rattle.model.specs.Machine.{Move}
 use Rattle.block.specs.Layout.{pair, waking, siteAt, statesOf, inputsOf}
 use Rattle.block.specs.Tabulated.{Wf, Ranged, StepIs, choicesAt, choiceOf, chosen, stepOf, startOf}
 use Rattle.block.specs.Logged.{observation, observations, GivesOf}
 use Rattle.block.specs.declared.layout.Step.{Step}
-use Rattle.block.specs.laws.ChoiceLaw.{chosen-none, chosen-some, chosen-low, step-inside, start-is, start-low}
+use Rattle.block.specs.laws.ChoiceLaw.{choice-waking, chosen-none, chosen-some, chosen-low, step-inside, start-is, start-low}
 use Rattle.cubes.specs.Sets.{Has, HasAll, Joined}
 use Rattle.cubes.specs.Cube.{Sought}
 use Rattle.cubes.specs.declared.goal.Goal.{Goal}
 use Rattle.cubes.specs.laws.ConformLaw.{step-low}
 use Rattle.cubes.specs.laws.SetLaw.{one-same}
 use Rattle.cubes.specs.laws.WalkLaw.{later-part, after-reset, after-seen}
-use Rattle.walks.specs.Walks.{Agrees, NoneBy, Settled, Begins, Here, Stands}
+use Rattle.walks.specs.Walks.{Agrees, NoneBy, Settled, ChoiceIs, UsedWith, PairAt, Begins, Here, Stands}
 use Rattle.walks.specs.declared.walk.Place.{Place}
 
 pub agrees-fewer : {p b : List ℕ} {used wider : ℕ} → HasAll used wider → Agrees p wider b → Agrees p used b
 agrees-fewer more g = record { at = λ j h. g .at j (more j h) }
 
 -- ---- one step
+pub suspect-low : {m : List ℕ} {i k : ℕ} → Wf m → k < 257 → i ≡ siteAt m k → (i ≡ 255 → ⊥) → i < 32
+suspect-low {k = k} wf lk e n = omega (arith, e, wf .sites k lk (λ z. n (e ∙ z)))
+
 settled-by : {m p : List ℕ} {used k c : ℕ} {step : Step} → Wf m → k < 257 → StepIs m k c step → ((b : List ℕ) → Agrees p used b → chosen m b k ≡ c) → Settled m p used k step
 settled-by {m} {p} {used} {k} {c} {step} wf lk is same = record {
   output = λ b w g. is .output wf (low b w g) ∙ ap (λ (d : ℕ). choiceOf m k d .output) (sym (same b g));
@@ -30,13 +33,21 @@ settled-by {m} {p} {used} {k} {c} {step} wf lk is same = record {
     low b w g = subst (λ (d : ℕ). d < choicesAt m k) (same b g) (chosen-low wf w k lk)
 
 -- at a pair that is no suspect
-pub settled-lone : {m p : List ℕ} {used k : ℕ} {step : Step} → Wf m → k < 257 → siteAt m k ≡ 255 → StepIs m k 0 step → Settled m p used k step
+settled-lone : {m p : List ℕ} {used k : ℕ} {step : Step} → Wf m → k < 257 → siteAt m k ≡ 255 → StepIs m k 0 step → Settled m p used k step
 settled-lone {m} {k = k} wf lk e is = settled-by wf lk is (λ b g. chosen-none m b k e)
 
 -- at a settled suspect, which is used
-pub settled-at : {m p : List ℕ} {used k i c : ℕ} {step : Step} → Wf m → k < 257 → i ≡ siteAt m k → (i ≡ 255 → ⊥) → c ≡ getD p i 0 → (c ≡ 256 → ⊥) → Has used i → StepIs m k c step → Settled m p used k step
+settled-at : {m p : List ℕ} {used k i c : ℕ} {step : Step} → Wf m → k < 257 → i ≡ siteAt m k → (i ≡ 255 → ⊥) → c ≡ getD p i 0 → (c ≡ 256 → ⊥) → Has used i → StepIs m k c step → Settled m p used k step
 settled-at {m} {p} {used} {k} {i} {c} wf lk ei ni ec nc has is =
     settled-by wf lk is (λ b g. chosen-some m b k (λ z. ni (ei ∙ z)) ∙ ap (λ (j : ℕ). getD b j 0) (sym ei) ∙ g .at i has (λ z. nc (ec ∙ z)) ∙ sym ec)
+
+-- so at any pair
+pub settled-step : {m p : List ℕ} {before used k i c : ℕ} {step : Step} → Wf m → k < 257 → i ≡ siteAt m k → ChoiceIs p i c → (c ≡ 256 → ⊥) → UsedWith before i used → StepIs m k c step → Settled m p used k step
+settled-step {m} {p} {before} {used} {k} {i} {c} {step} wf lk ei ch nc us is = go (ℕ-discrete i 255)
+  where
+    go : Dec (i ≡ 255) → Settled m p used k step
+    go (yes e) = settled-lone wf lk (sym ei ∙ e) (subst (λ (d : ℕ). StepIs m k d step) (ch .none e) is)
+    go (no n) = settled-at wf lk ei n (ch .some n) nc (us .has n (suspect-low wf lk ei n)) is
 
 -- a suspect that is added is used
 pub joined-has : {before used i : ℕ} → i < 32 → Joined before (2 ^ (i % 32)) used → Has used i
@@ -57,7 +68,7 @@ unfolding GivesOf
 stands-start {m} {log} wf be = record { at = λ b w g y. record { low = wf .some-states; goes = from-any (stepOf m b) (startOf m b) (startOf m b) 0 log be y } }
 
 -- after a reset what was before does not matter
-pub stands-reset : {m log p : List ℕ} {at used : ℕ} {step : Step} → Wf m → at < length log → getD log at 0 ≡ 256 → Settled m p used waking step → Stands m log p (record { at = at + 1; state = step .target; used = used })
+stands-reset : {m log p : List ℕ} {at used : ℕ} {step : Step} → Wf m → at < length log → getD log at 0 ≡ 256 → Settled m p used waking step → Stands m log p (record { at = at + 1; state = step .target; used = used })
 unfolding GivesOf
 stands-reset {m} {log} {p} {at} wf l e se = record {
   at = λ b w g y.
@@ -88,10 +99,27 @@ module _ {m log p : List ℕ} {place : Place} {x o k used : ℕ} {step : Step} (
       )
 
   -- the walk goes on
-  pub stands-on : Stands m log p (record { at = place .at + 1; state = step .target; used = used })
+  stands-on : Stands m log p (record { at = place .at + 1; state = step .target; used = used })
   stands-on = record { at = λ b w g y. seen b w g y .1 }
 
   -- or no such mutant gives the log
-  pub stands-not : (step .output ≡ o → ⊥) → (goal : Goal) → NoneBy goal m log p used
+  stands-not : (step .output ≡ o → ⊥) → (goal : Goal) → NoneBy goal m log p used
   unfolding Sought
   stands-not wrong goal = record { at = λ b w g y. wrong (seen b w g (y .0) .0) }
+
+-- ---- one observation v, at the pair k
+module _ {m log p : List ℕ} {at state before since used v k i : ℕ} {step : Step} (wf : Wf m) (st : Stands m log p (record { at = at; state = state; used = before })) (l : at < length log) (ev : v ≡ getD log at 0)
+    (pa : PairAt m state v k) (lk : k < 257) (es : (v ≡ 256 → ⊥) → since ≡ before) (us : UsedWith since i used) (se : Settled m p used k step) where
+  pub step-on : Stands m log p (record { at = at + 1; state = step .target; used = used })
+  step-on = go (ℕ-discrete v 256)
+    where
+      go : Dec (v ≡ 256) → Stands m log p (record { at = at + 1; state = step .target; used = used })
+      go (yes e) = stands-reset wf l (sym ev ∙ e) (subst (λ (j : ℕ). Settled m p used j step) (pa .reset e) se)
+      go (no n) = let s = pa .seen n lk in stands-on wf st l (λ z. n (ev ∙ z)) (ap (λ (w : ℕ). w / 16) ev) (ap (λ (w : ℕ). w % 16) ev) (s .0) (s .1) (λ j h. us .more j (rw (es n) h)) se
+
+  pub step-not : (step .output ≡ v % 16 → ⊥) → (goal : Goal) → NoneBy goal m log p used
+  step-not wrong goal = go (ℕ-discrete v 256)
+    where
+      go : Dec (v ≡ 256) → NoneBy goal m log p used
+      go (yes e) = record { at = λ b w g y. wrong (se .output b w g ∙ ap (λ (j : ℕ). choiceOf m j (chosen m b j) .output) (pa .reset e) ∙ ap (λ (u : Move). u .output) (choice-waking m (chosen m b waking)) ∙ sym (ap (λ (w : ℕ). w % 16) e)) }
+      go (no n) = let s = pa .seen n lk in stands-not wf st l (λ z. n (ev ∙ z)) (ap (λ (w : ℕ). w / 16) ev) (ap (λ (w : ℕ). w % 16) ev) (s .0) (s .1) (λ j h. us .more j (rw (es n) h)) se wrong goal

@@ -2,18 +2,16 @@
 use mathlib.Core.Path.{_≡_}
 use mathlib.Core.Bool.{true}
 use mathlib.Core.List.{List}
-use Prim.Native.Nat.{ℕ, _<_}
+use Prim.Native.Nat.{ℕ, _/_, _%_, _<_}
 use lib.ListN.{length, getD, drop}
 use Rattle.model.specs.Log.{GivesFrom}
-use Rattle.block.specs.Layout.{statesOf, choicesOf}
+use Rattle.block.specs.Layout.{pair, waking, statesOf, inputsOf, choicesOf}
 use Rattle.block.specs.Tabulated.{Ranged, choiceOf, chosen, stepOf, startOf}
 use Rattle.block.specs.Logged.{observations, GivesOf}
 use Rattle.block.specs.declared.layout.Step.{Step}
 use Rattle.cubes.specs.Sets.{Has, HasAll}
 use Rattle.cubes.specs.Cube.{Sought}
 use Rattle.cubes.specs.declared.goal.Goal.{Goal}
-use Rattle.walks.specs.declared.steps.Taken.{Taken}
-use Rattle.walks.specs.declared.steps.Taken.the-variants.{Takes, Waits}
 use Rattle.walks.specs.declared.walk.Place.{Place}
 use Rattle.walks.specs.declared.walk.Halt.{Halt}
 use Rattle.walks.specs.declared.walk.Halt.the-variants as halt
@@ -32,10 +30,20 @@ pub record Settled (m p : List ℕ) (used k : ℕ) (step : Step) : Type 0 where
   pub output : (b : List ℕ) → Ranged m b → Agrees p used b → step .output ≡ choiceOf m k (chosen m b k) .output
   pub target : (b : List ℕ) → Ranged m b → Agrees p used b → step .target ≡ choiceOf m k (chosen m b k) .target
 
--- the set has what was used before
-abbrev pub TakenOk : List ℕ → List ℕ → ℕ → ℕ → Taken → Type 0
-TakenOk m p k before (Takes step used) = HasAll before used × Settled m p used k step
-TakenOk m p k before (Waits i) = Unit {0}
+-- c is the choice settled at the suspect i, 0 where there is none
+pub record ChoiceIs (p : List ℕ) (i c : ℕ) : Type 0 where
+  pub none : i ≡ 255 → c ≡ 0
+  pub some : (i ≡ 255 → ⊥) → c ≡ getD p i 0
+
+-- the set has what was used before, and the suspect i, if there is one
+pub record UsedWith (before i used : ℕ) : Type 0 where
+  pub more : HasAll before used
+  pub has : (i ≡ 255 → ⊥) → i < 32 → Has used i
+
+-- k is the pair of the observation v in a state, or none
+pub record PairAt (m : List ℕ) (state v k : ℕ) : Type 0 where
+  pub reset : v ≡ 256 → k ≡ waking
+  pub seen : (v ≡ 256 → ⊥) → k < 257 → (v / 16 < inputsOf m) × (k ≡ pair (state % 16) (v / 16 % 16))
 
 -- the mutant b is in the state q and gives what is left of a log
 pub record Here (m b : List ℕ) (q : ℕ) (left : List ℕ) : Type 0 where
@@ -55,13 +63,6 @@ Halts goal m log p (halt.Fails used) = NoneBy goal m log p used
 Halts goal m log p (halt.Waits i place) = Stands m log p place
 Halts goal m log p (halt.Ends place) = Stands m log p place
 Halts goal m log p halt.Lost = Unit {0}
-
--- the walk goes on at the observation n
-abbrev pub GoesTo : ℕ → Halt → Type 0
-GoesTo n (halt.Fails used) = Unit {0}
-GoesTo n (halt.Waits i place) = Unit {0}
-GoesTo n (halt.Ends place) = place .at ≡ n
-GoesTo n halt.Lost = Unit {0}
 
 -- it does not end but from a reset at a place of the log
 abbrev pub Starts : List ℕ → ℕ → Halt → Type 0

@@ -1,6 +1,6 @@
 // The pairs of states, the specification's and the mutant's, that are in reach with the settled choices.
-use crate::steps::Taken;
-use crate::steps::take;
+use crate::steps::settled_choice;
+use crate::steps::used_with;
 use block::*;
 use cubes::words::Sets;
 use cubes::words::one;
@@ -81,20 +81,22 @@ fn cell(
     if next == 255 {
         return reach;
     }
-    let taken = take(block, p, place(k % 16, x), reach.used);
-    match taken {
-        Taken::Waits(i) => stopped(reach, i),
-        Taken::Takes(step, used) => {
-            if step.output != rule_output(block, at) {
-                let count = reach.count;
-                let stop = WRONG;
-                return Reach { used, count, stop };
-            }
-            let count = meet(rows, queue, next, step.target, reach.count);
-            let stop = reach.stop;
-            Reach { used, count, stop }
-        }
+    let pair = place(k % 16, x);
+    let i = site(block, pair);
+    let c = settled_choice(p, i);
+    if c == 256 {
+        return stopped(reach, i);
     }
+    let step = transition(block, pair, c);
+    let used = used_with(reach.used, i);
+    if step.output != rule_output(block, at) {
+        let count = reach.count;
+        let stop = WRONG;
+        return Reach { used, count, stop };
+    }
+    let count = meet(rows, queue, next, step.target, reach.count);
+    let stop = reach.stop;
+    Reach { used, count, stop }
 }
 
 // The pair of the states after a reset, or the unsettled suspect that stops it.
@@ -107,14 +109,16 @@ fn start(block: &Block, p: &[u16; 32], rows: &mut Sets, queue: &mut [u8; 256]) -
         count: 0,
         stop: CLOSED,
     };
-    let taken = take(block, p, WAKING, 0);
-    match taken {
-        Taken::Waits(i) => stopped(none, i),
-        Taken::Takes(step, used) => Reach {
-            used,
-            count: meet(rows, queue, 0, step.target, 0),
-            stop: CLOSED,
-        },
+    let i = site(block, WAKING);
+    let c = settled_choice(p, i);
+    if c == 256 {
+        return stopped(none, i);
+    }
+    let step = transition(block, WAKING, c);
+    Reach {
+        used: used_with(0, i),
+        count: meet(rows, queue, 0, step.target, 0),
+        stop: CLOSED,
     }
 }
 

@@ -1,27 +1,27 @@
 // What the settled choices do at a pair of a state and an input, or into the waking state.
 use block::*;
 use leaves::*;
+ghost use mathlib.Core.Path.{_≡_};
 ghost use Prim.Native.Nat.{_<_};
-ghost use Rattle.block.specs.Tabulated.{Wf};
-ghost use Rattle.walks.specs.Walks.{TakenOk};
+ghost use Rattle.walks.specs.Walks.{ChoiceIs, UsedWith};
 
-// The transition, and the suspects used up to here; or the unsettled suspect that it waits for.
-pub(crate) enum Taken {
-    Takes(Step, u32),
-    Waits(u8),
+// The choice settled at a suspect, 256 where it is not settled; 0 where there is no suspect (255).
+pub(crate) fn settled_choice(p: &[u16; 32], i: u8) -> u16
+    requires { ⌜ ((i ≡ 255 → ⊥) → i < 32) ⌝ }
+    ensures { λ r. ⌜ ChoiceIs (now (p .entry)) i r ⌝ }
+{
+    if i == 255 {
+        return 0;
+    }
+    p[wide(i)]
 }
 
-pub(crate) fn take(block: &Block, p: &[u16; 32], k: usize, used: u32) -> Taken
-    requires { ⌜ Wf (now block) × (k < 257) ⌝ }
-    ensures { λ r. ⌜ TakenOk (now (block .entry)) (now (p .entry)) k used r ⌝ }
+// The suspects used, with this one if it is one.
+pub(crate) fn used_with(used: u32, i: u8) -> u32
+    ensures { λ r. ⌜ UsedWith used i r ⌝ }
 {
-    let i = site(block, k);
     if i == 255 {
-        return Taken::Takes(transition(block, k, 0), used);
+        return used;
     }
-    let c = p[wide(i)];
-    if c == 256 {
-        return Taken::Waits(i);
-    }
-    Taken::Takes(transition(block, k, c), joined(used, i))
+    joined(used, i)
 }

@@ -1,13 +1,11 @@
 // The walk of the log with the settled choices.
-use crate::steps::Taken;
-use crate::steps::take;
+use crate::steps::settled_choice;
+use crate::steps::used_with;
 use block::*;
 ghost use mathlib.Core.Path.{_≡_};
-ghost use Prim.Native.Nat.{_+_, _<_};
-ghost use lib.ListN.{length, getD};
 ghost use Rattle.block.specs.Tabulated.{Wf};
 ghost use Rattle.cubes.specs.declared.goal.Goal.{Goal};
-ghost use Rattle.walks.specs.Walks.{Stands, Halts, GoesTo};
+ghost use Rattle.walks.specs.Walks.{PairAt, Stands, Halts};
 
 // Where a walk stands: before which observation, in which state, and by which suspects since the reset.
 pub(crate) struct Place {
@@ -24,67 +22,62 @@ pub(crate) enum Halt {
     Lost,
 }
 
-// A reset: what was before does not matter, but at an unsettled suspect the walk waits before it.
-fn reset(block: &Block, log: &[u16], p: &[u16; 32], place: Place) -> Halt
-    requires { ⌜ Wf (now block) × Stands (now block) (now log) (now p) place × (place .at < length (now log)) × (getD (now log) (place .at) 0 ≡ 256) ⌝ }
-    ensures { λ r. ⌜ ((goal : Goal) → Halts goal (now (block .entry)) (now (log .entry)) (now (p .entry)) r) × GoesTo (place .at + 1) r ⌝ }
-{
-    let taken = take(block, p, WAKING, 0);
-    match taken {
-        Taken::Waits(i) => Halt::Waits(i, place),
-        Taken::Takes(step, used) => Halt::Ends(Place {
-            at: place.at + 1,
-            state: step.target,
-            used,
-        }),
-    }
-}
+// No pair: an observation that can't be taken.
+const NOWHERE: usize = 257;
 
-// One observation: `Ends` tells where the walk stands after it.
-fn observe(block: &Block, log: &[u16], p: &[u16; 32], place: Place) -> Halt
-    requires { ⌜ Wf (now block) × Stands (now block) (now log) (now p) place × (place .at < length (now log)) ⌝ }
-    ensures { λ r. ⌜ ((goal : Goal) → Halts goal (now (block .entry)) (now (log .entry)) (now (p .entry)) r) × GoesTo (place .at + 1) r ⌝ }
+// The pair of an observation in a state; at a reset, the one that leads to the waking state.
+fn pair_at(block: &Block, state: u8, v: u16) -> usize
+    ensures { λ r. ⌜ PairAt (now (block .entry)) state v r ⌝ }
 {
-    let at = place.at;
-    let v = log[at];
     if v == 256 {
-        return reset(block, log, p, place);
+        return WAKING;
     }
     if v > 256 {
-        return Halt::Lost;
+        return NOWHERE;
     }
     let x = input_of(v);
     if x >= inputs(block) {
-        return Halt::Lost;
+        return NOWHERE;
     }
-    let taken = take(block, p, some_place(place.state, x), place.used);
-    match taken {
-        Taken::Waits(i) => Halt::Waits(i, place),
-        Taken::Takes(step, used) => {
-            if step.output != output_of(v) {
-                return Halt::Fails(used);
-            }
-            Halt::Ends(Place {
-                at: at + 1,
-                state: step.target,
-                used,
-            })
-        }
-    }
+    some_place(state, x)
 }
 
-// Walks the log from a place on.
+// The suspects used before an observation; after a reset what was before does not matter.
+fn since_reset(v: u16, used: u32) -> u32
+    ensures { λ r. ⌜ ((v ≡ 256 → ⊥) → r ≡ used) ⌝ }
+{
+    if v == 256 {
+        return 0;
+    }
+    used
+}
+
+// Walks the log from a place on. A reset is the transition into the waking state, with the output 0.
 pub(crate) fn walk(block: &Block, log: &[u16], p: &[u16; 32], from: Place) -> Halt
     requires { ⌜ Wf (now block) × Stands (now block) (now log) (now p) from ⌝ }
     ensures { λ r. ⌜ ((goal : Goal) → Halts goal (now (block .entry)) (now (log .entry)) (now (p .entry)) r) ⌝ }
 {
-    let mut place = from;
-    while place.at < log.len() {
-        let halt = observe(block, log, p, place);
-        let Halt::Ends(next) = halt else {
-            return halt;
-        };
-        place = next;
+    let mut at = from.at;
+    let mut state = from.state;
+    let mut used = from.used;
+    while at < log.len() {
+        let v = log[at];
+        let k = pair_at(block, state, v);
+        if k > WAKING {
+            return Halt::Lost;
+        }
+        let i = site(block, k);
+        let c = settled_choice(p, i);
+        if c == 256 {
+            return Halt::Waits(i, Place { at, state, used });
+        }
+        let step = transition(block, k, c);
+        used = used_with(since_reset(v, used), i);
+        if step.output != output_of(v) {
+            return Halt::Fails(used);
+        }
+        state = step.target;
+        at += 1;
     }
-    Halt::Ends(place)
+    Halt::Ends(Place { at, state, used })
 }

@@ -1,14 +1,34 @@
-use Rattle.lists.specs.Proving.{needs, arith, _-_, length}
-use Rattle.cubes.specs.declared.goal.Goal.the-variants.{Any}
+-- `walk`: it stands where it is.
+use Rattle.lists.specs.Proving.{needs, arith, _-_, _<_, length, refl, sym, _∙_}
 use Rattle.walks.specs.Walks.{Stands}
+use Rattle.walks.proofs.StandLaw.{suspect-low, settled-step, step-on, step-not}
 use Rattle.walks.proofs.walk.walk as own
 
 pub walk-spec : {M : Type 1} → own.Statement.statement M
 walk-spec = own.Tie.close (own.Tie.spec
-    (λ block log p place₀ place. Stands block log p place) (λ block log p place₀ place. length log - place .at)
-    (λ c. c .before .pre .1)
-    (λ c κs. (c .before .before .before .before .pre .0, c .before .before .loop .inv, c .if1 .taken)) (λ c. search needs)
-    (λ c. c .before .observe .ensures .0)
-    (λ c. omega (arith, c .before .before .before .before .if1 .taken, rw (c .before .halt .given .1) at (c .before .before .before .observe .ensures .1)))
-    (λ c. rw (c .before .halt .given .1) at (c .before .before .before .observe .ensures .0 Any))
-    (λ c goal. c .before .before .loop .inv))
+    (λ block log p at₀ state₀ used₀ at state used. Stands block log p (record { at = at; state = state; used = used }))
+    (λ block log p at₀ state₀ used₀ at state used. length log - at)
+    (λ c. c .before .pre .1) (λ c. search needs) (λ c. search needs) (λ c κs. search needs) (λ c goal. tt) (λ c κs. omega (arith, c .if1 .left))
+    (λ c κs. λ n. suspect-low (c .before .before .before .before .before .before .before .pre .0) (omega (arith, c .before .if1 .left)) (c .site .ensures) n)
+    (λ c goal. c .before .before .before .before .before .before .before .loop .inv) (λ c κs. omega (arith, c .before .before .before .if1 .left))
+    (λ c κs. search needs) (λ c κs. search needs) (λ c κs. search needs)
+    (λ c.
+    let at-used = c .before .before .before in
+    let at-choice = at-used .before .before .before .before in
+    let at-if1 = at-choice .before .before in
+    let at-test = at-if1 .before .before .before in
+    let wf = at-test .before .before .before .pre .0 in
+    let low : at-if1 .before .pair-at .result < 257 = omega (arith, at-if1 .if1 .left) in
+    step-not wf (at-test .before .loop .inv) (at-test .loop-test .taken) refl (at-if1 .before .pair-at .ensures) low (at-used .before .since-reset .ensures) (at-used .used-with .ensures)
+    (settled-step wf low (at-choice .before .site .ensures) (at-choice .settled-choice .ensures) (at-used .before .before .before .if2 .left) (at-used .used-with .ensures) (at-used .before .before .transition .ensures)) (λ e. c .if3 .taken (e ∙ sym (c .before .before .output-of .ensures .0))))
+    (λ c. search needs) (λ c. search needs)
+    (λ c.
+    let at-used = c .before .before .before in
+    let at-choice = at-used .before .before .before .before in
+    let at-if1 = at-choice .before .before in
+    let at-test = at-if1 .before .before .before in
+    let wf = at-test .before .before .before .pre .0 in
+    let low : at-if1 .before .pair-at .result < 257 = omega (arith, at-if1 .if1 .left) in
+    step-on wf (at-test .before .loop .inv) (at-test .loop-test .taken) refl (at-if1 .before .pair-at .ensures) low (at-used .before .since-reset .ensures) (at-used .used-with .ensures)
+    (settled-step wf low (at-choice .before .site .ensures) (at-choice .settled-choice .ensures) (at-used .before .before .before .if2 .left) (at-used .used-with .ensures) (at-used .before .before .transition .ensures)))
+    (λ c goal. c .before .loop .inv))
