@@ -1,6 +1,6 @@
 // The test suite of a sheet as a log (resets, and inputs with the specified output), and a tabulated mutant along a log.
 // Promises that the log is the suite's, and which output of a log is the first that the mutant does not give.
-// Called by `mutation`, `making`, `search`, `sweep` and `usage`, which show what its functions require.
+// Called by `mutation`, `making`, `search`, `clearing` and `usage`, which show what its functions require.
 mod suite;
 mod walk;
 

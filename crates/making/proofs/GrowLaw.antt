@@ -29,13 +29,13 @@ use Rattle.cubes.specs.declared.goal.Goal.the-variants.{Nonconforming}
 use Rattle.refutation.specs.Lent.{StoreOk}
 use Rattle.refutation.specs.Refuting.{Ready}
 use Rattle.search.specs.Search.{ForSheet, mutantIn}
+use Rattle.clearing.specs.Sweep.{AllCleared, Swept}
+use Rattle.clearing.specs.Looking.{Found}
+use Rattle.clearing.specs.laws.SurvivorLaw.{survivor-judged, swept-first}
 use Rattle.sweep.specs.declared.Outcome.{Outcome}
 use Rattle.sweep.specs.declared.Outcome.the-variants as outcome
-use Rattle.sweep.specs.Sweep.{AllCleared, Swept}
-use Rattle.sweep.specs.Looking.{Found}
 use Rattle.sweep.specs.Outcomes.{OutcomeOk}
 use Rattle.sweep.specs.laws.GrowingLaw.{swept-longer, store-longer}
-use Rattle.sweep.specs.laws.SurvivorLaw.{survivor-judged, swept-first}
 use Rattle.making.specs.declared.grow.Growth.{Growth}
 use Rattle.making.specs.declared.grow.Next.the-variants as next
 use Rattle.making.specs.declared.grow.State.{State}

@@ -2,10 +2,10 @@
 use crate::append::append;
 use block::BLOCK;
 use cubes::tables::FACTS;
+use pool::test_survivors;
 use refutation::note_test;
 use sweep::Outcome;
 use sweep::next_survivor;
-use sweep::test_survivors;
 ghost use mathlib.Core.Path.{_≡_};
 ghost use Prim.Native.Nat.{ℕ, _+_, _*_, _<_, _≤_};
 ghost use lib.ListN.{length, replicate, take};

@@ -1,5 +1,2 @@
-mod OrderLaw
-mod LookLaw
-mod AskLaw
 mod TurnLaw
 mod SweepLaw

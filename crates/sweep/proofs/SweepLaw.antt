@@ -16,11 +16,11 @@ use Rattle.block.specs.laws.TabledLaw.{well-formed}
 use Rattle.cubes.specs.declared.goal.Goal.the-variants.{Nonconforming}
 use Rattle.refutation.specs.Lent.{StoreOk}
 use Rattle.search.specs.Search.{ForSheet}
+use Rattle.clearing.specs.Sweep.{Full, Swept, Refutes, Later, Advanced}
 use Rattle.sweep.specs.declared.Outcome.the-variants as outcome
 use Rattle.sweep.specs.declared.turn.Turned.{Turned}
 use Rattle.sweep.specs.declared.turn.Turned.the-variants as turned
 use Rattle.sweep.proofs.turn.Turned.{the-type}
-use Rattle.sweep.specs.Sweep.{Full, Swept, Refutes, Later, Advanced}
 use Rattle.sweep.specs.Turning.{TurnedOk}
 use Rattle.sweep.specs.Outcomes.{outcomeOf, OutcomeOk}
 

@@ -16,13 +16,13 @@ use Rattle.cubes.specs.laws.SetLaw.{nothing}
 use Rattle.cubes.specs.Cube.{Extends, NoneIn}
 use Rattle.cubes.specs.declared.goal.Goal.the-variants.{Nonconforming}
 use Rattle.refutation.specs.Refuting.{PrefixIn}
+use Rattle.clearing.specs.Sweep.{Blames, Top, Full, Refutes}
+use Rattle.clearing.specs.Asking.{CubeRefutes}
+use Rattle.clearing.specs.Looking.{BySome}
+use Rattle.clearing.specs.laws.BlamesLaw.{blames}
+use Rattle.clearing.specs.laws.SlotLaw.{has-below}
 use Rattle.sweep.specs.declared.turn.Asked.{Asked}
-use Rattle.sweep.specs.Sweep.{Blames, Top, Full, Refutes}
-use Rattle.sweep.specs.Asking.{CubeRefutes}
-use Rattle.sweep.specs.Looking.{BySome}
 use Rattle.sweep.specs.Turning.{AskedOk, ConformedOk}
-use Rattle.sweep.proofs.LookLaw.{blames}
-use Rattle.sweep.specs.laws.SlotLaw.{has-below}
 
 -- ---- the first choices of p
 pub record Prefixed (p q : List ℕ) : Type 0 where

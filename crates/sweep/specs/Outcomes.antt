@@ -3,12 +3,12 @@ use mathlib.Core.List.{List}
 use Prim.Native.Nat.{ℕ}
 use Rattle.sheet.specs.Sheet.{Sheet}
 use Rattle.search.specs.Search.{mutantIn}
+use Rattle.clearing.specs.Sweep.{AllCleared, Swept}
+use Rattle.clearing.specs.Looking.{Found}
 use Rattle.sweep.specs.declared.Outcome.{Outcome}
 use Rattle.sweep.specs.declared.Outcome.the-variants as outcome
 use Rattle.sweep.specs.declared.turn.Turned.{Turned}
 use Rattle.sweep.specs.declared.turn.Turned.the-variants as turned
-use Rattle.sweep.specs.Sweep.{AllCleared, Swept}
-use Rattle.sweep.specs.Looking.{Found}
 
 abbrev pub outcomeOf : Turned → Outcome
 outcomeOf (turned.Refuted by next) = outcome.GaveUp

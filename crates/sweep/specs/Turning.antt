@@ -5,11 +5,11 @@ use mathlib.Core.List.{List}
 use Prim.Native.Nat.{ℕ}
 use Rattle.sheet.specs.Sheet.{Sheet}
 use Rattle.search.specs.Search.{ForSheet, mutantIn}
+use Rattle.clearing.specs.Sweep.{Cleared, Refutes}
+use Rattle.clearing.specs.Looking.{Found}
 use Rattle.sweep.specs.declared.turn.Asked.{Asked}
 use Rattle.sweep.specs.declared.turn.Turned.{Turned}
 use Rattle.sweep.specs.declared.turn.Turned.the-variants as turned
-use Rattle.sweep.specs.Sweep.{Cleared, Refutes}
-use Rattle.sweep.specs.Looking.{Found}
 
 -- what is asked of p is answered by what clears it
 pub record AskedOk (m log p : List ℕ) (r : Asked) : Type 0 where

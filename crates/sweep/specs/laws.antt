@@ -1,3 +1,1 @@
-pub mod SlotLaw
-pub mod SurvivorLaw
 pub mod GrowingLaw

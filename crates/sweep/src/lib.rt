@@ -1,18 +1,11 @@
 // The mutants in dictionary order, from one survivor to the next, while the test suite grows.
 // Promises that the next survivor is the first, or that there is none.
 // Called by `making`, which shows what its functions require.
-mod ask;
-mod look;
-mod order;
-mod pool;
 mod turn;
 
 use block::BLOCK;
+use clearing::advance;
 use cubes::tables::FACTS;
-use order::advance;
-pub use pool::NOTES;
-pub use pool::fresh_notes;
-pub use pool::test_survivors;
 use turn::Turned;
 use turn::turn;
 ghost use mathlib.Core.Path.{_≡_};
@@ -24,8 +17,8 @@ ghost use Rattle.cubes.specs.declared.goal.Goal.the-variants.{Nonconforming};
 ghost use Rattle.refutation.specs.Lent.{StoreOk};
 ghost use Rattle.refutation.specs.Refuting.{Ready};
 ghost use Rattle.search.specs.Search.{ForSheet};
+ghost use Rattle.clearing.specs.Sweep.{Swept};
 ghost use Rattle.sweep.specs.declared.Outcome.the-variants.{GaveUp};
-ghost use Rattle.sweep.specs.Sweep.{Swept};
 ghost use Rattle.sweep.specs.Outcomes.{outcomeOf, OutcomeOk};
 
 // No survivor is left; there is one, told from the specification by a sequence of this length; or, with an empty store, neither is known.

@@ -18,7 +18,7 @@ use Rattle.block.specs.Tabulated.{stepOf, startOf}
 use Rattle.cubes.specs.Cube.{Sought}
 use Rattle.cubes.specs.declared.goal.Goal.{Goal}
 use Rattle.refutation.specs.Lent.{StoreOk}
-use Rattle.sweep.specs.Sweep.{Cleared, Swept}
+use Rattle.clearing.specs.Sweep.{Cleared, Swept}
 
 -- ---- the sweep
 -- a test is among more tests
