@@ -1,7 +1,7 @@
 // Steering by the tests of a log: how far each has come, what it refutes, which suspect is next, how wide a cube fails a test.
 // Promises which cursors, notes and facts change, which suspects a proposal speaks of and which may be picked; the proposal itself is checked
 // by others.
-// Called by `refutation`, `store` and `clearing`.
+// Called by `store`, `nodes`, `refutation` and `clearing`.
 mod observed;
 mod progress;
 mod proposal;

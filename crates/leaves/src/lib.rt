@@ -1,6 +1,6 @@
 // Words for functions that steer: sets, transitions and literals as numbers, and notes in a lent slice.
 // Promises of sets which members, of literals which transitions, of notes which one is read or changed.
-// Called by `walks`, `cursors`, `pairs`, `store`, `refutation`, `search`, `clearing` and `pool`.
+// Called by `walks`, `cursors`, `pairs`, `store`, `nodes`, `refutation`, `search`, `clearing` and `pool`.
 mod notes;
 
 use block::*;

@@ -13,7 +13,9 @@ cell-spec = own.Tie.close (own.Tie.spec
     (λ c κs. search needs) (λ c κs. search needs) (λ c κs. search needs)
     (λ c. cell-stopped (c .before .before .before .used-with .ensures .more) refl (λ z. omega arith))
     (λ c κs.
-    let at-if1 = c .before .before .before .before .before .before .before .before .before .before .before in
+    let at-output = c .before .before .before .before in
+    let at-choice = at-output .before .before .before .before in
+    let at-if1 = at-choice .before .before .before in
     let at-place = at-if1 .before .before in
     let s = at-place .before in
     (s .pre .2, omega (arith, at-if1 .before .rule-target .ensures, s .pre .0 .few-states, s .pre .0 .rules (at-place .place .result) (at-place .place .ensures .1) (rw (at-if1 .before .rule-target .ensures) at (at-if1 .if1 .left)))))

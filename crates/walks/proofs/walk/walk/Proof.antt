@@ -9,8 +9,9 @@ walk-spec = own.Tie.close (own.Tie.spec
     (λ block log p at₀ state₀ used₀ at state used. Stands block log p (record { at = at; state = state; used = used }))
     (λ block log p at₀ state₀ used₀ at state used. length log - at)
     (λ c. c .before .pre .1) (λ c. search needs) (λ c. search needs) (λ c κs. search needs) (λ c goal. tt) (λ c κs. omega (arith, c .if1 .left))
-    (λ c κs. λ n. suspect-low (c .before .before .before .before .before .before .before .pre .0) (omega (arith, c .before .if1 .left)) (c .site .ensures) n)
-    (λ c goal. c .before .before .before .before .before .before .before .loop .inv) (λ c κs. omega (arith, c .before .before .before .if1 .left))
+    (λ c κs. let at-test = c .before .before .before .before in λ n. suspect-low (at-test .before .before .before .pre .0) (omega (arith, c .before .if1 .left)) (c .site .ensures) n)
+    (λ c goal. let at-if1 = c .before .before .before in at-if1 .before .before .before .before .loop .inv)
+    (λ c κs. omega (arith, c .before .before .before .if1 .left))
     (λ c κs. search needs) (λ c κs. search needs) (λ c κs. search needs)
     (λ c.
     let at-used = c .before .before .before in
