@@ -10,8 +10,9 @@ use leaves::note;
 use leaves::set_note;
 use walks::gives_from;
 ghost use mathlib.Core.Path.{_≡_};
-ghost use Prim.Native.Nat.{_<_};
-ghost use lib.ListN.{set, replicate};
+ghost use mathlib.Core.Bool.{true};
+ghost use Prim.Native.Nat.{ℕ, _+_, _<_, _≤_};
+ghost use lib.ListN.{length, getD, set, replicate};
 ghost use Rattle.leaves.specs.Noted.{Changed};
 ghost use Rattle.block.specs.Tabulated.{Wf};
 
@@ -50,11 +51,16 @@ pub fn fresh_notes() -> [u16; NOTES]
 }
 
 // Whether there is something to spend.
-pub fn affords(notes: &[u16]) -> bool {
+pub fn affords(notes: &[u16]) -> bool
+    ensures { λ r. ⌜ (r ≡ true → 0 < getD (now (notes .entry)) 9856 0) ⌝ }
+{
     note(notes, EFFORT) > 0
 }
 
-pub fn spend(notes: &mut [u16], n: u16) {
+// Spends n, or what there is.
+pub fn spend(notes: &mut [u16], n: u16)
+    ensures { λ r. ⌜ Changed 9856 9872 (now (notes .entry)) (now (notes .exit)) ⌝ }
+{
     let left = note(notes, EFFORT);
     if left < n {
         set_note(notes, EFFORT, 0);
@@ -75,14 +81,18 @@ fn earn(notes: &mut [u16], n: u16)
 }
 
 // Whether a mutant conformed before; now one does.
-pub fn again(notes: &mut [u16]) -> bool {
+pub fn again(notes: &mut [u16]) -> bool
+    ensures { λ r. ⌜ Changed 9856 9872 (now (notes .entry)) (now (notes .exit)) ⌝ }
+{
     let before = note(notes, CONFORMED);
     set_note(notes, CONFORMED, 1);
     before == 1
 }
 
 // How many first choices of n a question has: not those of a survivor alone, and as many as were needed of late.
-pub fn depth(notes: &[u16], known: usize, n: usize) -> usize {
+pub fn depth(notes: &[u16], known: usize, n: usize) -> usize
+    ensures { λ r. ⌜ (known ≤ n → (known ≤ r) × (r ≤ n)) ⌝ }
+{
     let floor = wide16(note(notes, FLOOR));
     if known >= floor {
         return known;
@@ -101,13 +111,17 @@ fn two_less(at: usize) -> u16 {
 }
 
 // After a question of so many first choices that was answered: the next has fewer, and comes soon.
-pub fn answered(notes: &mut [u16], at: usize) {
+pub fn answered(notes: &mut [u16], at: usize)
+    ensures { λ r. ⌜ Changed 9856 9872 (now (notes .entry)) (now (notes .exit)) ⌝ }
+{
     set_note(notes, FLOOR, two_less(at));
     earn(notes, 1);
 }
 
 // After one that was not: the next has more, and looks come first.
-pub fn unanswered(notes: &mut [u16], at: usize) {
+pub fn unanswered(notes: &mut [u16], at: usize)
+    ensures { λ r. ⌜ Changed 9856 9872 (now (notes .entry)) (now (notes .exit)) ⌝ }
+{
     set_note(notes, FLOOR, (at % 64) as u16 + 3);
     earn(notes, RETRY);
 }
@@ -120,7 +134,9 @@ fn spot(w: usize, j: usize) -> usize
 }
 
 // Keeps the witness of the search among the survivors.
-pub fn keep(notes: &mut [u16]) {
+pub fn keep(notes: &mut [u16])
+    ensures { λ r. ⌜ length (now (notes .exit)) ≡ length (now (notes .entry)) ⌝ }
+{
     if note(notes, KEPT) == 0 {
         return;
     }
@@ -143,6 +159,7 @@ fn clash(c: u16, d: u16) -> bool {
 // One more than how many first choices of p, of n, survivor w can have; 0 if there is none.
 fn agreement(notes: &[u16], w: usize, p: &[u16; 32], n: usize) -> usize
     requires { ⌜ w < 8 ⌝ }
+    ensures { λ r. ⌜ r ≤ n + 1 ⌝ }
 {
     if note(notes, HELD + w) == 0 {
         return 0;
@@ -160,15 +177,23 @@ fn agreement(notes: &[u16], w: usize, p: &[u16; 32], n: usize) -> usize
     33
 }
 
+fn larger(a: usize, b: usize) -> usize
+    ensures { λ r. ⌜ (a ≤ r) × (b ≤ r) × ((m : ℕ) → a ≤ m → b ≤ m → r ≤ m) ⌝ }
+{
+    if a < b {
+        return b;
+    }
+    a
+}
+
 // The most of all survivors.
-pub fn most_agreed(notes: &[u16], p: &[u16; 32], n: usize) -> usize {
+pub fn most_agreed(notes: &[u16], p: &[u16; 32], n: usize) -> usize
+    ensures { λ r. ⌜ r ≤ n + 1 ⌝ }
+{
     let mut most: usize = 0;
     let mut w: usize = 0;
     while w < 8 {
-        let now = agreement(notes, w, p, n);
-        if now > most {
-            most = now;
-        }
+        most = larger(most, agreement(notes, w, p, n));
         w += 1;
     }
     most

@@ -4,7 +4,7 @@ use Rattle.pool.proofs.agreement.Statement.{statement}
 use Rattle.pool.proofs.agreement.Tie as tie
 
 abbrev Inv-loop : tie.InvT-loop
-Inv-loop notes w p n j₀ j = j ≤ 32
+Inv-loop notes w p n j₀ j = (j ≤ 32) × (j ≤ n)
 
 abbrev μ-loop : tie.MeasureT-loop
 μ-loop notes w p n j₀ j = 32 - j
