@@ -17,4 +17,5 @@ pub mod PublishedLaw
 pub mod GuaranteeLaw
 pub mod Demands
 pub mod LongerLaw
+pub mod ReorderLaw
 pub mod MakingLaw

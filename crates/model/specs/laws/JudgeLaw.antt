@@ -127,6 +127,29 @@ unfolding judgeOf
 judge-first sh b xs is p e h =
     first-of sh (mutants sh) b xs (mutants-ascending sh) (listed sh b is) p e (λ c m. h c (listed-in-range sh c m))
 
+-- and back: where it says complete, compare finds nothing in a mutant that passes
+pub judged-none : (sh : Sheet) → judgeOf sh ≡ complete → (b : List ℕ) → IsMutant sh b → Passes sh b → compareOf sh b ≡ none
+unfolding judgeOf
+judged-none sh e b is = all-cleared sh (mutants sh) e b (listed sh b is)
+
+-- the mutant that it names passes, compare finds the sequence, and every other in which compare finds something stands later
+pub record Named (sh : Sheet) (b xs : List ℕ) : Type 0 where
+  pub is : IsMutant sh b
+  pub passes : Passes sh b
+  pub compared : compareOf sh b ≡ some xs
+  pub least : (c ys : List ℕ) → IsMutant sh c → Passes sh c → compareOf sh c ≡ some ys → (c ≡ b) ⊎ Before b c
+
+pub judged-first : (sh : Sheet) (b xs : List ℕ) → judgeOf sh ≡ survivor b xs → Named sh b xs
+unfolding judgeOf
+judged-first sh b xs e =
+    let f = first-in sh (mutants sh) b xs (mutants-ascending sh) e in
+    record {
+      is = listed-in-range sh b (f .among);
+      passes = f .passes;
+      compared = f .compared;
+      least = λ c ys is p ec. ⊎-elim (λ cleared. let z : compareOf sh c ≡ none = cleared p in never (cc)) (λ r. r) (f .least c (listed sh c is));
+    }
+
 module _ (sh : Sheet) (wf : WellFormed sh) where
   -- compare means what it says, of any bytes
   pub compared : (b : List ℕ) → ComparedMeans sh b (compareOf sh b)

@@ -156,7 +156,7 @@ unfolding openBelow isOpen choicesAt unruledChoices
 open-below sh ts zero = refl
 open-below sh ts (suc n) = rw (open-below sh ts n) refl
 
-open-longer : (sh : Sheet) (ts : List (List ℕ)) → openSlots (withTests sh ts) ≡ openSlots sh
+pub open-longer : (sh : Sheet) (ts : List (List ℕ)) → openSlots (withTests sh ts) ≡ openSlots sh
 unfolding openSlots openPairs wakings wakingChoices wakingSlots
 open-longer sh ts = rw (open-below sh ts (sh .size .states)) refl
 
