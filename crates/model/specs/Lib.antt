@@ -10,4 +10,5 @@ pub mod Verdict
 pub mod Operations
 pub mod Longer
 pub mod Making
+pub mod Tray
 pub mod laws

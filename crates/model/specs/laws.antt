@@ -19,3 +19,4 @@ pub mod Demands
 pub mod LongerLaw
 pub mod ReorderLaw
 pub mod MakingLaw
+pub mod TrayLaw
