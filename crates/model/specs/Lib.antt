@@ -7,6 +7,7 @@ pub mod Suite
 pub mod Log
 pub mod Implementation
 pub mod Verdict
+pub mod Walk
 pub mod Operations
 pub mod Longer
 pub mod Making

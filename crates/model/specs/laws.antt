@@ -20,3 +20,4 @@ pub mod LongerLaw
 pub mod ReorderLaw
 pub mod MakingLaw
 pub mod TrayLaw
+pub mod WalkLaw

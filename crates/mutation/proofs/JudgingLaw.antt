@@ -25,7 +25,8 @@ use Rattle.block.specs.Tabled.{Tabled, ReadFrom}
 use Rattle.logs.specs.Suites.{Logged}
 use Rattle.cubes.specs.declared.goal.Goal.the-variants.{Nonconforming}
 use Rattle.machine.specs.declared.product.Difference.{Difference}
-use Rattle.search.specs.Search.{ForSheet, NoneFrom, unsettled}
+use Rattle.search.specs.Search.{ForSheet, every, NoneOf, Leaving}
+use Rattle.search.specs.declared.settle.Beginning.the-variants.{Front}
 use Rattle.search.specs.Shown.{Room, Untouched, Shown}
 use Rattle.search.specs.laws.JudgementLaw.{none-judged, first-judged}
 use Rattle.mutation.specs.declared.verdict.Judged.{Judged}
@@ -69,15 +70,19 @@ module _ {sh : Sheet} {m : List ℕ} (tb : Tabled sh m) (board sequence : List �
 pub by-log : {sh : Sheet} {s starts lengths m log : List ℕ} {tests n : ℕ} → ReadFrom sh s starts lengths tests m → Logged sh log n → ForSheet sh m (take n log)
 by-log rd lg = record { tabled = rd .loads .tabled; suite = lg .is }
 
+-- from the first mutant on
+pub from-front : {sh : Sheet} {m log last : List ℕ} → ForSheet sh m log → Leaving sh m log Front last
+from-front s = record { sheet = s; is = tt }
+
 -- ---- what the search found
 
 module _ {sh : Sheet} {board board′ sequence sequence′ : List ℕ} where
   -- no survivor
-  pub judges-complete : NoneFrom Nonconforming sh unsettled 0 × Untouched board board′ sequence sequence′ → Judges (accepted (judgeOf sh)) judged.Complete board board′ sequence sequence′
+  pub judges-complete : NoneOf Nonconforming sh every × Untouched board board′ sequence sequence′ → Judges (accepted (judgeOf sh)) judged.Complete board board′ sequence sequence′
   judges-complete f = let h = none-judged (f .0) in record { answer = rw h refl; board = rw h (f .1 .board); sequence = rw h (f .1 .sequence) }
 
   -- the first survivor, with what compare shows
-  pub judges-survivor : {d : Difference} {r : Judged} → Shown Nonconforming sh d board board′ sequence sequence′ → r ≡ judgedBy d → Judges (accepted (judgeOf sh)) r board board′ sequence sequence′
+  pub judges-survivor : {d : Difference} {r : Judged} → Shown Nonconforming sh every d board board′ sequence sequence′ → r ≡ judgedBy d → Judges (accepted (judgeOf sh)) r board board′ sequence sequence′
   judges-survivor shown er =
       let s = first-judged shown in
       record { answer = rw (s .judged) (er ∙ ap judgedBy (s .long)); board = rw (s .judged) (s .board); sequence = rw (s .judged) (s .sequence) }

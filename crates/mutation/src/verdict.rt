@@ -9,6 +9,7 @@ use cubes::goal::Goal;
 use logs::log_suite;
 use machine::Difference;
 use machine::bound;
+use search::Beginning;
 use search::Searched;
 use search::first;
 use sheet::Reading;
@@ -56,7 +57,17 @@ fn conclude(
     ensures { λ r. ⌜ ((sh : Sheet) → ForSheet sh (now (block .entry)) (now (log .entry)) → Judges (accepted (judgeOf sh)) r (now (board .entry)) (now (board .exit)) (now (sequence .entry)) (now (sequence .exit))) ⌝ }
     ensures { λ r. ⌜ Measured r (now (nodes .entry)) (now (nodes .exit)) ⌝ }
 {
-    match first(block, log, Goal::Nonconforming, board, sequence, nodes) {
+    let none: [u8; 0] = [];
+    match first(
+        block,
+        log,
+        Goal::Nonconforming,
+        Beginning::Front,
+        &none,
+        board,
+        sequence,
+        nodes,
+    ) {
         Searched::Nothing => Judged::Complete,
         Searched::First(found) => told_by(found),
     }

@@ -21,7 +21,7 @@ use Rattle.refutation.specs.Refuting.{Ready}
 use Rattle.search.specs.declared.settle.Found.{Found}
 use Rattle.search.specs.declared.settle.Found.the-variants.{Nothing, First, GaveUp}
 use Rattle.search.proofs.settle.Found.{the-type}
-use Rattle.search.specs.Search.{FactsOk, Meets, Wanted, Begins, NoneFrom, FirstFrom, Tried, Prefix, mutantIn, FirstIn, Answers, foundIf, ForSheet, Searching, Decides, unsettled}
+use Rattle.search.specs.Search.{FactsOk, Meets, Wanted, Begins, Part, next, NoneOf, FirstOf, Tried, Prefix, mutantIn, FirstIn, Answers, foundIf, ForSheet, Searching, Decides, unsettled}
 use Rattle.search.specs.Shown.{Showing}
 
 -- one table of facts is lent if it is ready, else none
@@ -38,7 +38,7 @@ lent {m = m} {facts = facts} true e h = rw e (record { at = go })
 lent false e h = rw e (record { at = λ i k. absurd (omega arith) })
 
 -- where two lists are the same up to a place, the earlier one has no larger number there
-before-at : (b a : List ℕ) (i : ℕ) → Before b a → ((j : ℕ) → j < i → getD b j 0 ≡ getD a j 0) → getD b i 0 ≤ getD a i 0
+pub before-at : (b a : List ℕ) (i : ℕ) → Before b a → ((j : ℕ) → j < i → getD b j 0 ≡ getD a j 0) → getD b i 0 ≤ getD a i 0
 unfolding Before
 before-at [] a i h same = absurd h
 before-at (x ∷ b) [] i h same = absurd h
@@ -68,19 +68,19 @@ module _ {sh : Sheet} {p : List ℕ} where
         in-range (slots sh) (mutantIn sh p) long (λ j h. let k : j < length (slots sh) = omega (arith, long) in rw (getD-take (length (slots sh)) p j 0 k) (re .low j k))
 
     -- it is not wanted: none that begins so is
-    pub full-none : {goal : Goal} → (Wanted goal sh (mutantIn sh p) → ⊥) → NoneFrom goal sh p (length (slots sh))
-    full-none h = record { at = λ b is be w. h (rw (whole b is be) at w) }
+    pub full-none : {goal : Goal} → (Wanted goal sh (mutantIn sh p) → ⊥) → NoneOf goal sh (next p (length (slots sh)) 0)
+    full-none h = record { at = λ b is be w. h (rw (whole b is (be .0)) at w) }
 
     -- it is: it is the first that begins so
-    pub full-first : {goal : Goal} → Wanted goal sh (mutantIn sh p) → FirstIn goal sh p (length (slots sh)) p
+    pub full-first : {goal : Goal} → Wanted goal sh (mutantIn sh p) → FirstIn goal sh (next p (length (slots sh)) 0) p
     full-first w =
         record {
           long = re .long;
           first = record {
             is = full-mutant;
-            begins = record { at = λ j k. getD-take (length (slots sh)) p j 0 k };
+            among = (record { at = λ j k. getD-take (length (slots sh)) p j 0 k }, omega arith);
             wanted = w;
-            first = λ b is be before. absurd (before-irreflexive (mutantIn sh p) (rw (whole b is be) at before));
+            first = λ b is be before. absurd (before-irreflexive (mutantIn sh p) (rw (whole b is (be .0)) at before));
           };
         }
 
@@ -111,50 +111,52 @@ module _ {sh : Sheet} {p : List ℕ} where
     begins-unset : (b : List ℕ) (c : ℕ) → Begins (i + 1) b (set p i c) → Begins i b p
     begins-unset b c be = record { at = λ j h. be .at j (omega arith) ∙ getD-set-other p i j c 0 (λ s. omega arith) }
 
-    -- one more tried
-    pub tried-more : {goal : Goal} (c : ℕ) → Tried goal sh p i c → NoneFrom goal sh (set p i c) (i + 1) → Tried goal sh p i (c + 1)
-    tried-more c tr nf =
-        record {
-          at = λ b is be lt. by-cases (ℕ-discrete (getD b i 0) c) (λ e. nf .at b is (begins-set b c be e)) (λ d. tr .at b is be (omega arith));
-        }
+    module _ {goal : Goal} {from : ℕ} (c : ℕ) (tr : Tried goal sh p i from c) where
+      -- one more tried
+      pub tried-more : NoneOf goal sh (next (set p i c) (i + 1) 0) → Tried goal sh p i from (c + 1)
+      tried-more nf =
+          record {
+            at = λ b is be ge lt. by-cases (ℕ-discrete (getD b i 0) c) (λ e. nf .at b is (begins-set b c be e, omega arith)) (λ d. tr .at b is be ge (omega arith));
+          }
 
-    -- all choices tried
-    pub tried-all : {goal : Goal} (c : ℕ) → Tried goal sh p i c → getD (slots sh) i 0 ≤ c → NoneFrom goal sh p i
-    unfolding IsMutant
-    tried-all c tr lc =
-        record {
-          at = λ b is be. tr .at b is be (omega (arith, in-range-at (slots sh) b is i (omega (arith, mutant-length sh b is))));
-        }
+      -- all choices tried
+      pub tried-all : getD (slots sh) i 0 ≤ c → NoneOf goal sh (next p i from)
+      unfolding IsMutant
+      tried-all lc =
+          record {
+            at = λ b is be. tr .at b is (be .0) (be .1) (omega (arith, in-range-at (slots sh) b is i (omega (arith, mutant-length sh b is))));
+          }
 
-    -- the first with the choice c, where no smaller choice leads to one
-    found : {goal : Goal} (c : ℕ) (a : List ℕ) → Tried goal sh p i c → FirstFrom goal sh (set p i c) (i + 1) a → FirstFrom goal sh p i a
-    found {goal} c a tr fi =
-        record {
-          is = fi .is;
-          begins = begins-unset a c (fi .begins);
-          wanted = fi .wanted;
-          first = λ b is be before.
-              by-cases (ℕ-discrete (getD b i 0) c) (λ e. fi .first b is (begins-set b c be e) before) (λ ne. tr .at b is be (below b be before ne));
-        }
-      where
-        at-i : getD a i 0 ≡ c
-        at-i = fi .begins .at i (omega arith) ∙ getD-set-same p i c 0 inside
+      -- the first with the choice c, where no smaller choice leads to one
+      pub found : (a : List ℕ) → from ≤ c → FirstOf goal sh (next (set p i c) (i + 1) 0) a → FirstOf goal sh (next p i from) a
+      found a lf fi =
+          record {
+            is = fi .is;
+            among = (begins-unset a c (fi .among .0), omega (arith, at-i));
+            wanted = fi .wanted;
+            first = λ b is be before.
+                by-cases (ℕ-discrete (getD b i 0) c) (λ e. fi .first b is (begins-set b c (be .0) e, omega arith) before)
+                (λ ne. tr .at b is (be .0) (be .1) (below b (be .0) before ne));
+          }
+        where
+          at-i : getD a i 0 ≡ c
+          at-i = fi .among .0 .at i (omega arith) ∙ getD-set-same p i c 0 inside
 
-        below : (b : List ℕ) → Begins i b p → Before b a → (getD b i 0 ≡ c → ⊥) → getD b i 0 < c
-        below b be before ne =
-            let l = before-at b a i before (λ j h. be .at j h ∙ sym (begins-unset a c (fi .begins) .at j h)) in
-            by-cases (decLt (getD b i 0) c) (λ h. h) (λ h. absurd (ne (omega (arith, at-i))))
+          below : (b : List ℕ) → Begins i b p → Before b a → (getD b i 0 ≡ c → ⊥) → getD b i 0 < c
+          below b be before ne =
+              let l = before-at b a i before (λ j h. be .at j h ∙ sym (begins-unset a c (fi .among .0) .at j h)) in
+              by-cases (decLt (getD b i 0) c) (λ h. h) (λ h. absurd (ne (omega (arith, at-i))))
 
 -- no choice tried yet
-pub tried-none : {goal : Goal} {sh : Sheet} {p : List ℕ} {i : ℕ} → Tried goal sh p i 0
-tried-none = record { at = λ b is be l. absurd (omega arith) }
+pub tried-none : {goal : Goal} {sh : Sheet} {p : List ℕ} {i from : ℕ} → Tried goal sh p i from from
+tried-none = record { at = λ b is be g l. absurd (omega arith) }
 
 -- an answer is not one that another arm has
 pub other : (r s : Found) {i j : ℕ} → (tagOf the-type r ≡ i) ⊎ (tagOf the-type r ≡ j) → (tagOf the-type s ≡ i → ⊥) → (tagOf the-type s ≡ j → ⊥) → r ≡ s → ⊥
 other r s (inl e) n m h = n (sym (ap (tagOf the-type) h) ∙ e)
 other r s (inr e) n m h = m (sym (ap (tagOf the-type) h) ∙ e)
 
-pub nothing : {goal : Goal} {sh : Sheet} {p : List ℕ} {i : ℕ} (r : Found) (q : List ℕ) → (r ≡ First → ⊥) → (r ≡ GaveUp → ⊥) → Answers goal sh p i r q → NoneFrom goal sh p i
+pub nothing : {goal : Goal} {sh : Sheet} {part : Part} (r : Found) (q : List ℕ) → (r ≡ First → ⊥) → (r ≡ GaveUp → ⊥) → Answers goal sh part r q → NoneOf goal sh part
 nothing Nothing q n m a = a
 nothing First q n m a = absurd (n refl)
 nothing GaveUp q n m a = absurd (m refl)
@@ -181,7 +183,7 @@ start {sh} s =
     }
 
 -- the mutant that was found
-pub showing : {goal : Goal} {sh : Sheet} {m log p q : List ℕ} {i : ℕ} → ForSheet sh m log → FirstIn goal sh p i q → Showing sh m q
+pub showing : {goal : Goal} {sh : Sheet} {m log q : List ℕ} {part : Part} → ForSheet sh m log → FirstIn goal sh part q → Showing sh m q
 showing s a = record { tabled = s .tabled; is = a .first .is; long = a .long }
 
 -- ---- the engine's answer
@@ -215,8 +217,8 @@ module _ {sh : Sheet} {m log p : List ℕ} {i : ℕ} (w : Searching sh m log p i
   sought {goal} b is h = (rw (gives-same (w .sheet .tabled) b is log, w .sheet .suite) (passes-gives sh b (h .passes)), asked (w .sheet .tabled) b is goal (h .meets))
 
   -- where the engine refutes the prefix, no mutant that begins so is wanted
-  pub refuted : {goal : Goal} {r : Bool} → NoneIf goal m log p r → r ≡ true → NoneFrom goal sh p i
-  refuted h e = record { at = λ b is be wa. h e b (ranged (w .sheet .tabled) b is) (extends b is be) (sought b is wa) }
+  pub refuted : {goal : Goal} {r : Bool} → NoneIf goal m log p r → r ≡ true → NoneOf goal sh (next p i 0)
+  refuted h e = record { at = λ b is be wa. h e b (ranged (w .sheet .tabled) b is) (extends b is (be .0)) (sought b is wa) }
 
   -- n is how many slots there are
   module _ {n : ℕ} (en : n ≡ slotsOf m) where
@@ -228,39 +230,40 @@ module _ {sh : Sheet} {m log p : List ℕ} {i : ℕ} (w : Searching sh m log p i
       pub full : Searching sh m log p (length (slots sh))
       full = subst (λ (k : ℕ). Searching sh m log p k) (ei ∙ count) w
 
-      pub full-answer : {goal : Goal} (r : Bool) → Decides (Wanted goal sh (mutantIn sh p)) r → (f : Found) (q : List ℕ) → f ≡ foundIf r → q ≡ p → Answers goal sh p i f q
+      pub full-answer : {goal : Goal} (r : Bool) → Decides (Wanted goal sh (mutantIn sh p)) r → (f : Found) (q : List ℕ) → f ≡ foundIf r → q ≡ p → Answers goal sh (next p i 0) f q
       full-answer {goal} r h f q ef eq = rw (ef, eq, ei ∙ count) (go r h)
         where
-          go : (r : Bool) → Decides (Wanted goal sh (mutantIn sh p)) r → Answers goal sh p (length (slots sh)) (foundIf r) p
+          go : (r : Bool) → Decides (Wanted goal sh (mutantIn sh p)) r → Answers goal sh (next p (length (slots sh)) 0) (foundIf r) p
           go true h = full-first (full .prefix) (h .yes refl)
           go false h = full-none (full .prefix) (h .no refl)
 
     -- one is not
-    module _ (ne : i ≡ n → ⊥) where
-      pub next-low : (i < 32) × (i < length (slots sh))
-      next-low =
-          let h : i < length (slots sh) = by-cases (decLt i (length (slots sh))) (λ h. h) (λ h. absurd (ne (omega (arith, w .prefix .within, count)))) in
-          (omega (arith, w .prefix .few), h)
+    pub next-slot : (i ≡ n → ⊥) → i < slotsOf m
+    next-slot ne = by-cases (decLt i (slotsOf m)) (λ h. h) (λ h. absurd (ne (omega (arith, w .prefix .within, count, en))))
 
-      many : choicesOf m i ≡ getD (slots sh) i 0
-      many = w .sheet .tabled .choices i (next-low .0) ∙ getD-default (slots sh) i 1 0 (next-low .1)
+  module _ (li : i < slotsOf m) where
+    pub next-low : (i < 32) × (i < length (slots sh))
+    next-low = (omega (arith, w .prefix .few, w .sheet .tabled .count), omega (arith, w .sheet .tabled .count))
 
-      module _ {k : ℕ} (ek : k ≡ choicesOf m i) where
-        pub few-choices : k ≤ 256
-        few-choices = rw ek (well-formed (w .sheet .tabled) .choices i (next-low .0))
+    many : choicesOf m i ≡ getD (slots sh) i 0
+    many = w .sheet .tabled .choices i (next-low .0) ∙ getD-default (slots sh) i 1 0 (next-low .1)
 
-        pub searching-set : {c : ℕ} → c < k → Searching sh m log (set p i c) (i + 1)
-        searching-set lc = record { sheet = w .sheet; prefix = prefix-set (w .prefix) (next-low .1) _ (rw (ek ∙ many) at lc) }
+    module _ {k : ℕ} (ek : k ≡ choicesOf m i) where
+      pub few-choices : k ≤ 256
+      few-choices = rw ek (well-formed (w .sheet .tabled) .choices i (next-low .0))
 
-        module _ {goal : Goal} {c : ℕ} (tr : Tried goal sh p i c) where
-          pub all-tried : k ≤ c → NoneFrom goal sh p i
-          all-tried l = tried-all (w .prefix) (next-low .1) c tr (rw (ek ∙ many) at l)
+      pub searching-set : {c : ℕ} → c < k → Searching sh m log (set p i c) (i + 1)
+      searching-set lc = record { sheet = w .sheet; prefix = prefix-set (w .prefix) (next-low .1) _ (rw (ek ∙ many) at lc) }
 
-          pub one-tried : NoneFrom goal sh (set p i c) (i + 1) → Tried goal sh p i (c + 1)
-          one-tried nf = tried-more (w .prefix) (next-low .1) c tr nf
+      module _ {goal : Goal} {from c : ℕ} (tr : Tried goal sh p i from c) where
+        pub all-tried : k ≤ c → NoneOf goal sh (next p i from)
+        all-tried l = tried-all (w .prefix) (next-low .1) c tr (rw (ek ∙ many) at l)
 
-          -- what was found with the choice c, if it was not nothing, is the answer
-          pub one-found : (r : Found) (q : List ℕ) → (r ≡ Nothing → ⊥) → Answers goal sh (set p i c) (i + 1) r q → Answers goal sh p i r q
-          one-found Nothing q n a = absurd (n refl)
-          one-found First q n a = record { long = a .long; first = found (w .prefix) (next-low .1) c _ tr (a .first) }
-          one-found GaveUp q n a = tt
+        pub one-tried : NoneOf goal sh (next (set p i c) (i + 1) 0) → Tried goal sh p i from (c + 1)
+        one-tried nf = tried-more (w .prefix) (next-low .1) c tr nf
+
+        -- what was found with the choice c, if it was not nothing, is the answer
+        pub one-found : from ≤ c → (r : Found) (q : List ℕ) → (r ≡ Nothing → ⊥) → Answers goal sh (next (set p i c) (i + 1) 0) r q → Answers goal sh (next p i from) r q
+        one-found lf Nothing q n a = absurd (n refl)
+        one-found lf First q n a = record { long = a .long; first = found (w .prefix) (next-low .1) c tr _ lf (a .first) }
+        one-found lf GaveUp q n a = tt

@@ -17,6 +17,8 @@ use Rattle.cubes.specs.declared.goal.Goal.the-variants.{Any, Nonconforming}
 use Rattle.refutation.specs.Refuting.{Ready}
 use Rattle.search.specs.declared.settle.Found.{Found}
 use Rattle.search.specs.declared.settle.Found.the-variants.{Nothing, First, GaveUp}
+use Rattle.search.specs.declared.settle.Beginning.{Beginning}
+use Rattle.search.specs.declared.settle.Beginning.the-variants.{Front, After}
 
 -- what a goal asks of compare's answer
 abbrev pub Meets : Goal → Option (List ℕ) → Type 0
@@ -32,20 +34,30 @@ pub record Wanted (goal : Goal) (sh : Sheet) (b : List ℕ) : Type 0 where
 pub record Begins (i : ℕ) (b p : List ℕ) : Type 0 where
   pub at : (j : ℕ) → j < i → getD b j 0 ≡ getD p j 0
 
--- no mutant that begins as p's first i choices is wanted
-pub record NoneFrom (goal : Goal) (sh : Sheet) (p : List ℕ) (i : ℕ) : Type 0 where
-  pub at : (b : List ℕ) → IsMutant sh b → Begins i b p → Wanted goal sh b → ⊥
+-- which mutants are meant: those that begin as p's first i choices and have at least the choice c next; or those that begin as l's
+-- first i choices and stand after l
+pub data Part : Type 0 where
+  next : List ℕ → ℕ → ℕ → Part
+  after : List ℕ → ℕ → Part
 
--- a is the first of those
-pub record FirstFrom (goal : Goal) (sh : Sheet) (p : List ℕ) (i : ℕ) (a : List ℕ) : Type 0 where
+abbrev pub In : Part → List ℕ → Type 0
+In (next p i c) b = Begins i b p × (c ≤ getD b i 0)
+In (after l i) b = Begins i b l × Before l b
+
+-- none of them is wanted
+pub record NoneOf (goal : Goal) (sh : Sheet) (part : Part) : Type 0 where
+  pub at : (b : List ℕ) → IsMutant sh b → In part b → Wanted goal sh b → ⊥
+
+-- a is the first of them that is wanted
+pub record FirstOf (goal : Goal) (sh : Sheet) (part : Part) (a : List ℕ) : Type 0 where
   pub is : IsMutant sh a
-  pub begins : Begins i a p
+  pub among : In part a
   pub wanted : Wanted goal sh a
-  pub first : (b : List ℕ) → IsMutant sh b → Begins i b p → Before b a → Wanted goal sh b → ⊥
+  pub first : (b : List ℕ) → IsMutant sh b → In part b → Before b a → Wanted goal sh b → ⊥
 
--- no choice below c at place i leads to one
-pub record Tried (goal : Goal) (sh : Sheet) (p : List ℕ) (i c : ℕ) : Type 0 where
-  pub at : (b : List ℕ) → IsMutant sh b → Begins i b p → getD b i 0 < c → Wanted goal sh b → ⊥
+-- of those that begin as p's first i choices none is wanted with a choice from `from` on and below c next
+pub record Tried (goal : Goal) (sh : Sheet) (p : List ℕ) (i from c : ℕ) : Type 0 where
+  pub at : (b : List ℕ) → IsMutant sh b → Begins i b p → from ≤ getD b i 0 → getD b i 0 < c → Wanted goal sh b → ⊥
 
 -- the first i choices of p are settled and in range, and the others are not settled (256)
 pub record Prefix (sh : Sheet) (p : List ℕ) (i : ℕ) : Type 0 where
@@ -60,19 +72,19 @@ abbrev pub mutantIn : Sheet → List ℕ → List ℕ
 mutantIn sh p = take (length (slots sh)) p
 
 -- its choices stand in q
-pub record FirstIn (goal : Goal) (sh : Sheet) (p : List ℕ) (i : ℕ) (q : List ℕ) : Type 0 where
+pub record FirstIn (goal : Goal) (sh : Sheet) (part : Part) (q : List ℕ) : Type 0 where
   pub long : length q ≡ 32
-  pub first : FirstFrom goal sh p i (mutantIn sh q)
+  pub first : FirstOf goal sh part (mutantIn sh q)
 
 abbrev pub foundIf : Bool → Found
 foundIf true = First
 foundIf false = Nothing
 
--- what the search from a prefix answers
-abbrev pub Answers : Goal → Sheet → List ℕ → ℕ → Found → List ℕ → Type 0
-Answers goal sh p i Nothing q = NoneFrom goal sh p i
-Answers goal sh p i First q = FirstIn goal sh p i q
-Answers goal sh p i GaveUp q = Unit {0}
+-- what the search of a part answers
+abbrev pub Answers : Goal → Sheet → Part → Found → List ℕ → Type 0
+Answers goal sh part Nothing q = NoneOf goal sh part
+Answers goal sh part First q = FirstIn goal sh part q
+Answers goal sh part GaveUp q = Unit {0}
 
 -- the block holds the sheet's tables, and the log is its suite's
 pub record ForSheet (sh : Sheet) (m log : List ℕ) : Type 0 where
@@ -84,6 +96,12 @@ pub record Searching (sh : Sheet) (m log p : List ℕ) (i : ℕ) : Type 0 where
   pub sheet : ForSheet sh m log
   pub prefix : Prefix sh p i
 
+-- the choices of a mutant as far as they go, and then nothing settled
+pub record Settled (last p : List ℕ) : Type 0 where
+  pub long : length p ≡ 32
+  pub at : (j : ℕ) → j < 32 → j < length last → getD p j 0 ≡ getD last j 0
+  pub rest : (j : ℕ) → j < 32 → length last ≤ j → getD p j 0 ≡ 256
+
 pub record Decides (P : Type 0) (r : Bool) : Type 0 where
   pub yes : r ≡ true → P
   pub no : r ≡ false → P → ⊥
@@ -91,6 +109,24 @@ pub record Decides (P : Type 0) (r : Bool) : Type 0 where
 -- nothing is settled
 abbrev pub unsettled : List ℕ
 unsettled = replicate 32 256
+
+-- every mutant
+abbrev pub every : Part
+every = next unsettled 0 0
+
+-- which mutants are meant where a search begins: every one, or those after the one given
+abbrev pub partFrom : Beginning → List ℕ → Part
+partFrom Front last = every
+partFrom After last = after last 0
+
+abbrev pub LastOk : Beginning → Sheet → List ℕ → Type 0
+LastOk Front sh last = Unit {0}
+LastOk After sh last = IsMutant sh last
+
+-- what a search begins with: a sheet with its suite's log, and a mutant, if it begins after one
+pub record Leaving (sh : Sheet) (m log : List ℕ) (from : Beginning) (last : List ℕ) : Type 0 where
+  pub sheet : ForSheet sh m log
+  pub is : LastOk from sh last
 
 -- each table of facts that a search is lent is the block's; a quick search is lent none
 pub record FactsOk (m : List ℕ) (facts : List (List ℕ)) : Type 0 where

@@ -15,7 +15,7 @@ use Rattle.model.specs.Compare.{found}
 use Rattle.machine.specs.Differences.{differenceOf}
 use Rattle.search.specs.declared.attempts.Searched.{Searched}
 use Rattle.search.specs.declared.attempts.Searched.the-variants.{Nothing, First}
-use Rattle.search.specs.Search.{NoneFrom, FirstFrom, mutantIn, unsettled}
+use Rattle.search.specs.Search.{Part, NoneOf, FirstOf, mutantIn}
 
 -- there is room for the choices, and for any shortest distinguishing sequence
 pub record Room (m board sequence : List ℕ) : Type 0 where
@@ -39,12 +39,12 @@ pub record Written (sh : Sheet) (b : List ℕ) (d : Difference) (oldBoard newBoa
   pub board : newBoard ≡ overlay b oldBoard
   pub sequence : newSequence ≡ overlay (found (compareOf sh b)) oldSequence
 
--- the first wanted mutant is written
-pub record Shown (goal : Goal) (sh : Sheet) (d : Difference) (oldBoard newBoard oldSequence newSequence : List ℕ) : Type 0 where
+-- the first wanted mutant of a part is written
+pub record Shown (goal : Goal) (sh : Sheet) (part : Part) (d : Difference) (oldBoard newBoard oldSequence newSequence : List ℕ) : Type 0 where
   pub mutant : List ℕ
-  pub first : FirstFrom goal sh unsettled 0 mutant
+  pub first : FirstOf goal sh part mutant
   pub written : Written sh mutant d oldBoard newBoard oldSequence newSequence
 
-abbrev pub Leaves : Goal → Sheet → Searched → List ℕ → List ℕ → List ℕ → List ℕ → Type 0
-Leaves goal sh Nothing oldBoard newBoard oldSequence newSequence = NoneFrom goal sh unsettled 0 × Untouched oldBoard newBoard oldSequence newSequence
-Leaves goal sh (First d) oldBoard newBoard oldSequence newSequence = Shown goal sh d oldBoard newBoard oldSequence newSequence
+abbrev pub Leaves : Goal → Sheet → Part → Searched → List ℕ → List ℕ → List ℕ → List ℕ → Type 0
+Leaves goal sh part Nothing oldBoard newBoard oldSequence newSequence = NoneOf goal sh part × Untouched oldBoard newBoard oldSequence newSequence
+Leaves goal sh part (First d) oldBoard newBoard oldSequence newSequence = Shown goal sh part d oldBoard newBoard oldSequence newSequence

@@ -1,8 +1,9 @@
 // The first wanted mutant of all, written to the buffers.
 use crate::check::show;
 use crate::settle::Attempt;
+use crate::settle::Beginning;
 use crate::settle::Found;
-use crate::settle::search;
+use crate::settle::begin;
 use block::*;
 use cubes::goal::Goal;
 use cubes::tables::FACTS;
@@ -14,19 +15,13 @@ ghost use mathlib.Core.Bool.{cond};
 ghost use lib.ListN.{replicate};
 ghost use Rattle.sheet.specs.Sheet.{Sheet};
 ghost use Rattle.search.specs.declared.settle.Found.the-variants.{GaveUp};
-ghost use Rattle.search.specs.Search.{ForSheet, Answers, unsettled as nothingSettled};
+ghost use Rattle.search.specs.Search.{Leaving, Answers, partFrom};
 ghost use Rattle.search.specs.Shown.{Room, Leaves};
 
 // What is found: no wanted mutant, or the first one, with what tells it from the specification.
 pub enum Searched {
     Nothing,
     First(Difference),
-}
-
-fn unsettled() -> [u16; 32]
-    ensures { λ r. ⌜ r ≡ nothingSettled ⌝ }
-{
-    [256u16; 32]
 }
 
 fn no_facts() -> Facts
@@ -52,9 +47,16 @@ fn long_notes() -> [u16; LONG] {
 }
 
 // The first wanted mutant by a search with a store of refutations.
-fn find_thoroughly(block: &Block, log: &[u16], goal: Goal, nodes: &mut u32) -> Attempt
-    requires { ⌜ ((sh : Sheet) × ForSheet sh (now block) (now log)) ⌝ }
-    ensures { λ r. ⌜ ((sh : Sheet) → ForSheet sh (now (block .entry)) (now (log .entry)) → Answers goal sh nothingSettled 0 (r .found) (r .choices)) ⌝ }
+fn find_thoroughly(
+    block: &Block,
+    log: &[u16],
+    goal: Goal,
+    from: Beginning,
+    last: &[u8],
+    nodes: &mut u32,
+) -> Attempt
+    requires { ⌜ ((sh : Sheet) × Leaving sh (now block) (now log) from (now last)) ⌝ }
+    ensures { λ r. ⌜ ((sh : Sheet) → Leaving sh (now (block .entry)) (now (log .entry)) from (now (last .entry)) → Answers goal sh (partFrom from (now (last .entry))) (r .found) (r .choices)) ⌝ }
     ensures { λ r. ⌜ (r .found ≡ GaveUp → ⊥) ⌝ }
 {
     let mut facts = [no_facts()];
@@ -62,15 +64,15 @@ fn find_thoroughly(block: &Block, log: &[u16], goal: Goal, nodes: &mut u32) -> A
     let n = how_many(ready);
     let mut store = refutation::fresh_store();
     let mut notes = long_notes();
-    let found = search(
+    let found = begin(
         block,
         &facts[..n],
         log,
         goal,
         &mut store,
         &mut notes,
-        unsettled(),
-        0,
+        from,
+        last,
     );
     *nodes = std::num::wrapping_add_u32(*nodes, leaves::nodes(&notes));
     found
@@ -78,50 +80,50 @@ fn find_thoroughly(block: &Block, log: &[u16], goal: Goal, nodes: &mut u32) -> A
 
 // The same; first by a quick search, which needs no facts, keeps no refutations and may give up. It tells nothing of a log with something
 // before its first reset.
-fn find(block: &Block, log: &[u16], goal: Goal, nodes: &mut u32) -> Attempt
-    requires { ⌜ ((sh : Sheet) × ForSheet sh (now block) (now log)) ⌝ }
-    ensures { λ r. ⌜ ((sh : Sheet) → ForSheet sh (now (block .entry)) (now (log .entry)) → Answers goal sh nothingSettled 0 (r .found) (r .choices)) ⌝ }
+fn find(
+    block: &Block,
+    log: &[u16],
+    goal: Goal,
+    from: Beginning,
+    last: &[u8],
+    nodes: &mut u32,
+) -> Attempt
+    requires { ⌜ ((sh : Sheet) × Leaving sh (now block) (now log) from (now last)) ⌝ }
+    ensures { λ r. ⌜ ((sh : Sheet) → Leaving sh (now (block .entry)) (now (log .entry)) from (now (last .entry)) → Answers goal sh (partFrom from (now (last .entry))) (r .found) (r .choices)) ⌝ }
     ensures { λ r. ⌜ (r .found ≡ GaveUp → ⊥) ⌝ }
 {
     *nodes = 0;
     if !walks::begins(log) {
-        return find_thoroughly(block, log, goal, nodes);
+        return find_thoroughly(block, log, goal, from, last, nodes);
     }
     let facts: [Facts; 0] = [];
     let mut store = refutation::no_store();
     let mut notes = short_notes();
-    let quick = search(
-        block,
-        &facts,
-        log,
-        goal,
-        &mut store,
-        &mut notes,
-        unsettled(),
-        0,
-    );
+    let quick = begin(block, &facts, log, goal, &mut store, &mut notes, from, last);
     *nodes = leaves::nodes(&notes);
     let found = quick.found;
     match found {
-        Found::GaveUp => find_thoroughly(block, log, goal, nodes),
+        Found::GaveUp => find_thoroughly(block, log, goal, from, last, nodes),
         Found::Nothing | Found::First => quick,
     }
 }
 
-// The first mutant in dictionary order that gives the log and meets the goal, with what tells it from the specification, at the
+// The first mutant in dictionary order, from a beginning on, that gives the log and meets the goal, with what tells it from the specification, at the
 // buffers' fronts; and how many nodes the engine looked at, which is free.
 pub fn first(
     block: &Block,
     log: &[u16],
     goal: Goal,
+    from: Beginning,
+    last: &[u8],
     board: &mut [u8],
     sequence: &mut [u8],
     nodes: &mut u32,
 ) -> Searched
-    requires { ⌜ ((sh : Sheet) × ForSheet sh (now block) (now log)) × Room (now block) (now board) (now sequence) ⌝ }
-    ensures { λ r. ⌜ ((sh : Sheet) → ForSheet sh (now (block .entry)) (now (log .entry)) → Leaves goal sh r (now (board .entry)) (now (board .exit)) (now (sequence .entry)) (now (sequence .exit))) ⌝ }
+    requires { ⌜ ((sh : Sheet) × Leaving sh (now block) (now log) from (now last)) × Room (now block) (now board) (now sequence) ⌝ }
+    ensures { λ r. ⌜ ((sh : Sheet) → Leaving sh (now (block .entry)) (now (log .entry)) from (now (last .entry)) → Leaves goal sh (partFrom from (now (last .entry))) r (now (board .entry)) (now (board .exit)) (now (sequence .entry)) (now (sequence .exit))) ⌝ }
 {
-    let attempt = find(block, log, goal, nodes);
+    let attempt = find(block, log, goal, from, last, nodes);
     let found = attempt.found;
     match found {
         Found::First => Searched::First(show(block, &attempt.choices, board, sequence)),

@@ -7,3 +7,4 @@ mod settle;
 
 pub use attempts::Searched;
 pub use attempts::first;
+pub use settle::Beginning;

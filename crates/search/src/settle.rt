@@ -4,13 +4,22 @@ use block::*;
 use cubes::goal::Goal;
 use cubes::tables::Facts;
 ghost use mathlib.Core.Path.{_≡_};
+ghost use Prim.Native.Nat.{_<_, _≤_};
 ghost use lib.ListN.{length};
 ghost use Rattle.sheet.specs.Sheet.{Sheet};
 ghost use Rattle.refutation.specs.Lent.{StoreOk};
 ghost use Rattle.cubes.specs.Cube.{NoneIf};
 ghost use Rattle.block.specs.Tabulated.{Wf};
 ghost use Rattle.search.specs.declared.settle.Found.the-variants.{GaveUp};
-ghost use Rattle.search.specs.Search.{FactsOk, Searching, Answers, foundIf};
+ghost use Rattle.block.specs.Layout.{slotsOf};
+ghost use Rattle.search.specs.declared.settle.Beginning.the-variants.{After};
+ghost use Rattle.search.specs.Search.{FactsOk, next, after, Searching, Settled, Leaving, partFrom, Answers, foundIf, unsettled as nothingSettled};
+
+// Where a search begins: at the first mutant, or after one that is given.
+pub enum Beginning {
+    Front,
+    After,
+}
 
 // What a search finds: no wanted mutant; the first one; or neither, where a quick search gave up.
 pub(crate) enum Found {
@@ -64,7 +73,6 @@ fn settled(wanted: bool, p: [u16; 32]) -> Attempt
 }
 
 // The first wanted mutant of those that begin as p's first i choices. Without a store it gives up where its notes are spent.
-// The number still unsettled falls.
 pub(crate) fn search(
     block: &Block,
     facts: &[Facts],
@@ -77,7 +85,7 @@ pub(crate) fn search(
 ) -> Attempt
     requires { ⌜ ((sh : Sheet) × Searching sh (now block) (now log) p i) ⌝ }
     requires { ⌜ FactsOk (now block) (now facts) × StoreOk goal (now block) (now log) (now store) ⌝ }
-    ensures { λ r. ⌜ ((sh : Sheet) → Searching sh (now (block .entry)) (now (log .entry)) p i → Answers goal sh p i (r .found) (r .choices)) ⌝ }
+    ensures { λ r. ⌜ ((sh : Sheet) → Searching sh (now (block .entry)) (now (log .entry)) p i → Answers goal sh (next p i 0) (r .found) (r .choices)) ⌝ }
     ensures { λ r. ⌜ StoreOk goal (now (block .entry)) (now (log .entry)) (now (store .exit)) ⌝ }
     ensures { λ r. ⌜ (r .found ≡ GaveUp → length (now (store .entry)) ≡ 0) ⌝ }
 {
@@ -96,8 +104,29 @@ pub(crate) fn search(
             choices: p,
         };
     }
+    search_from(block, facts, log, goal, store, notes, p, i, 0)
+}
+
+// The first of those that have at least the choice `from` next. The number still unsettled falls from call to call.
+fn search_from(
+    block: &Block,
+    facts: &[Facts],
+    log: &[u16],
+    goal: Goal,
+    store: &mut [u32],
+    notes: &mut [u16],
+    p: [u16; 32],
+    i: usize,
+    from: u16,
+) -> Attempt
+    requires { ⌜ ((sh : Sheet) × Searching sh (now block) (now log) p i) × (i < slotsOf (now block)) ⌝ }
+    requires { ⌜ FactsOk (now block) (now facts) × StoreOk goal (now block) (now log) (now store) ⌝ }
+    ensures { λ r. ⌜ ((sh : Sheet) → Searching sh (now (block .entry)) (now (log .entry)) p i → Answers goal sh (next p i from) (r .found) (r .choices)) ⌝ }
+    ensures { λ r. ⌜ StoreOk goal (now (block .entry)) (now (log .entry)) (now (store .exit)) ⌝ }
+    ensures { λ r. ⌜ (r .found ≡ GaveUp → length (now (store .entry)) ≡ 0) ⌝ }
+{
     let k = choices(block, i as u8);
-    let mut c: u16 = 0;
+    let mut c = from;
     while c < k {
         let mut q = p;
         q[i] = c;
@@ -111,5 +140,80 @@ pub(crate) fn search(
     Attempt {
         found: Found::Nothing,
         choices: p,
+    }
+}
+
+fn unsettled() -> [u16; 32]
+    ensures { λ r. ⌜ r ≡ nothingSettled ⌝ }
+{
+    [256u16; 32]
+}
+
+// The choices of a mutant, settled.
+fn settled_as(last: &[u8]) -> [u16; 32]
+    requires { ⌜ length (now last) ≤ 32 ⌝ }
+    ensures { λ r. ⌜ Settled (now (last .entry)) r ⌝ }
+{
+    let mut p = unsettled();
+    let end = last.len();
+    for j in 0..end {
+        p[j] = last[j] as u16;
+    }
+    p
+}
+
+// The first wanted mutant after the one given: of those that have more and more of its choices no more.
+fn search_after(
+    block: &Block,
+    facts: &[Facts],
+    log: &[u16],
+    goal: Goal,
+    store: &mut [u32],
+    notes: &mut [u16],
+    last: &[u8],
+) -> Attempt
+    requires { ⌜ ((sh : Sheet) × Leaving sh (now block) (now log) After (now last)) ⌝ }
+    requires { ⌜ FactsOk (now block) (now facts) × StoreOk goal (now block) (now log) (now store) ⌝ }
+    ensures { λ r. ⌜ ((sh : Sheet) → Leaving sh (now (block .entry)) (now (log .entry)) After (now (last .entry)) → Answers goal sh (after (now (last .entry)) 0) (r .found) (r .choices)) ⌝ }
+    ensures { λ r. ⌜ StoreOk goal (now (block .entry)) (now (log .entry)) (now (store .exit)) ⌝ }
+    ensures { λ r. ⌜ (r .found ≡ GaveUp → length (now (store .entry)) ≡ 0) ⌝ }
+{
+    let mut p = settled_as(last);
+    let mut i = last.len();
+    while i > 0 {
+        i -= 1;
+        let c = p[i];
+        p[i] = 256;
+        let tried = search_from(block, facts, log, goal, store, notes, p, i, c + 1);
+        let found = tried.found;
+        let Found::Nothing = found else {
+            return tried;
+        };
+    }
+    Attempt {
+        found: Found::Nothing,
+        choices: p,
+    }
+}
+
+// The first wanted mutant from a beginning on.
+pub(crate) fn begin(
+    block: &Block,
+    facts: &[Facts],
+    log: &[u16],
+    goal: Goal,
+    store: &mut [u32],
+    notes: &mut [u16],
+    from: Beginning,
+    last: &[u8],
+) -> Attempt
+    requires { ⌜ ((sh : Sheet) × Leaving sh (now block) (now log) from (now last)) ⌝ }
+    requires { ⌜ FactsOk (now block) (now facts) × StoreOk goal (now block) (now log) (now store) ⌝ }
+    ensures { λ r. ⌜ ((sh : Sheet) → Leaving sh (now (block .entry)) (now (log .entry)) from (now (last .entry)) → Answers goal sh (partFrom from (now (last .entry))) (r .found) (r .choices)) ⌝ }
+    ensures { λ r. ⌜ (r .found ≡ GaveUp → length (now (store .entry)) ≡ 0) ⌝ }
+{
+    match from {
+        Beginning::Front => search(block, facts, log, goal, store, notes, unsettled(), 0),
+        Beginning::After => search_after(block, facts, log, goal, store, notes, last),
     }
 }

@@ -8,7 +8,7 @@ use Rattle.cubes.specs.declared.goal.Goal.the-variants.{Nonconforming}
 use Rattle.machine.specs.declared.product.Difference.{Difference}
 use Rattle.machine.specs.declared.product.Difference.the-variants as difference
 use Rattle.machine.specs.Differences.{differenceOf}
-use Rattle.search.specs.Search.{Wanted, Begins, NoneFrom}
+use Rattle.search.specs.Search.{Wanted, In, every, NoneOf}
 use Rattle.search.specs.Shown.{Shown}
 
 -- a mutant that passes and is not wanted conforms
@@ -19,11 +19,11 @@ unwanted {sh} {b} h ps = go (compareOf sh b) refl
     go none e = refl
     go (some xs) e = absurd (h (record { passes = ps; meets = λ n. never (cc) }))
 
--- every mutant begins with nothing
-any : {b p : List ℕ} → Begins 0 b p
-any = record { at = λ j h. absurd (omega arith) }
+-- every mutant is among every one
+pub any : {b : List ℕ} → In every b
+any = (record { at = λ j h. absurd (omega arith) }, omega arith)
 
-pub none-judged : {sh : Sheet} {p : List ℕ} → NoneFrom Nonconforming sh p 0 → judgeOf sh ≡ complete
+pub none-judged : {sh : Sheet} → NoneOf Nonconforming sh every → judgeOf sh ≡ complete
 none-judged {sh} h = judge-none sh (λ b is. unwanted (h .at b is any))
 
 -- the survivor and its distinguishing sequence stand in the buffers
@@ -35,7 +35,7 @@ pub record Survivor (sh : Sheet) (d : Difference) (oldBoard newBoard oldSequence
   pub board : newBoard ≡ overlay mutant oldBoard
   pub sequence : newSequence ≡ overlay inputs oldSequence
 
-pub first-judged : {sh : Sheet} {d : Difference} {board board′ sequence sequence′ : List ℕ} → Shown Nonconforming sh d board board′ sequence sequence′ → Survivor sh d board board′ sequence sequence′
+pub first-judged : {sh : Sheet} {d : Difference} {board board′ sequence sequence′ : List ℕ} → Shown Nonconforming sh every d board board′ sequence sequence′ → Survivor sh d board board′ sequence sequence′
 first-judged {sh} {d} {board} {board′} {sequence} {sequence′} s = go (compareOf sh (s .mutant)) refl
   where
     go : (o : Option (List ℕ)) → compareOf sh (s .mutant) ≡ o → Survivor sh d board board′ sequence sequence′

@@ -8,14 +8,12 @@ pub first-spec : {M : Type 1} → own.Statement.statement M
 first-spec = own.Tie.close (own.Tie.spec
     (λ c κs. search needs) (λ c. search needs)
     (λ c κs.
-    let at-enum-told = c .before .before .before .before in
-    let at-find = at-enum-told .before .before in
-    let at-entry = at-find .before .before .before .before .before in
-    ((at-entry .pre .0 .0, showing (at-entry .pre .0 .1) (rw (at-enum-told .enum-told .given .1) at (at-find .find .ensures .0 (at-entry .pre .0 .0) (at-entry .pre .0 .1)))), at-entry .pre .1))
+    let at-find = c .before .before .before .before .before .before in
+    let given = c .before .before .before .before .before .before .before .before .before .before .before .before .pre in
+    ((given .0 .0, showing (given .0 .1 .sheet) (rw (c .before .before .before .before .enum-told .given .1) at (at-find .find .ensures .0 (given .0 .0) (given .0 .1)))), given .1))
     (λ c. search needs) (λ c. search needs)
     (λ c.
     let at-show = c .before .before .before .before in
-    let at-enum-told = at-show .before .before .before .before .before in
-    let at-find = at-enum-told .before .before in
-    λ sh s. let a = rw (at-enum-told .enum-told .given .1) at (at-find .find .ensures .0 sh s) in record { mutant = _; first = a .first; written = at-show .show .ensures sh (showing s a) })
+    let at-find = c .before .before .before .before .before .before .before .before .before .before .before in
+    λ sh s. let a = rw (c .before .before .before .before .before .before .before .before .before .enum-told .given .1) at (at-find .find .ensures .0 sh s) in record { mutant = _; first = a .first; written = at-show .show .ensures sh (showing (s .sheet) a) })
     (λ c. λ sh s. (nothing (c .before .find .result .found) _ (other (c .before .find .result .found) First (c .match .keys2) (λ z. omega arith) (λ z. omega arith)) (c .before .find .ensures .1) (c .before .find .ensures .0 sh s), record { board = refl; sequence = refl })))
