@@ -1,3 +1,4 @@
 pub mod ChoiceLaw
 pub mod TabledLaw
 pub mod OpenedLaw
+pub mod LoggedLaw

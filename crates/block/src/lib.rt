@@ -2,6 +2,7 @@
 // Promises that the block's specification and mutants are the sheet's (specs/laws/TabledLaw.antt), and what is read from it.
 // Called by the crates of mutants above, which show what its functions require.
 mod layout;
+mod logged;
 mod packing;
 mod sites;
 
@@ -27,5 +28,9 @@ pub use layout::transition;
 pub use layout::wide;
 pub use layout::wide16;
 pub use layout::wide32;
+pub use logged::Observed;
+pub use logged::PULSE;
+pub use logged::SEEN;
+pub use logged::observe;
 pub use packing::fresh;
 pub use packing::load;

@@ -44,13 +44,7 @@ fn or_all(told: Told) -> u32
 }
 
 // The slots by which it fails a test; these are all slots if the facts have its place wrong.
-fn by_test(
-    block: &[u8; BLOCK],
-    facts: &[u16; FACTS],
-    log: &[u16],
-    p: &[u16; 32],
-    test: usize,
-) -> u32
+fn by_test(block: &[u8; BLOCK], facts: &[u16; FACTS], log: &[u8], p: &[u16; 32], test: usize) -> u32
     requires { ⌜ Wf (now block) ⌝ }
     ensures { λ r. ⌜ BySome (now (block .entry)) (now (log .entry)) (now (p .entry)) r ⌝ }
 {
@@ -69,7 +63,7 @@ pub fn by_conforming(block: &[u8; BLOCK], p: &[u16; 32]) -> u32
 fn look_through(
     block: &[u8; BLOCK],
     facts: &[u16; FACTS],
-    log: &[u16],
+    log: &[u8],
     p: &[u16; 32],
     sequence: &mut [u8],
 ) -> Looked
@@ -103,7 +97,7 @@ fn newest(facts: &[u16; FACTS]) -> usize {
 pub fn look(
     block: &[u8; BLOCK],
     facts: &[u16; FACTS],
-    log: &[u16],
+    log: &[u8],
     p: &[u16; 32],
     sequence: &mut [u8],
 ) -> Looked

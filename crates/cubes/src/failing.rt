@@ -59,20 +59,21 @@ fn onward(block: &Block, facts: &Facts, cube: &Cube, set: u16, x: u8, o: u8) -> 
 }
 
 // Whether no mutant in the cube gives the part of the log from a reset at `from` to the next.
-pub fn fails(block: &Block, facts: &Facts, cube: &Cube, log: &[u16], from: usize) -> bool
+pub fn fails(block: &Block, facts: &Facts, cube: &Cube, log: &[u8], from: usize) -> bool
     requires { ⌜ Given (now block) (now facts) ⌝ }
     ensures { λ r. ⌜ (r ≡ true → (goal : Goal) → NoneIn goal (now (block .entry)) (now (log .entry)) (now (cube .entry))) ⌝ }
 {
     if from >= log.len() {
         return false;
     }
-    if log[from] != 256 {
+    if log[from] != PULSE {
         return false;
     }
     let mut at = from + 1;
     let mut set = starts(block, facts, cube);
     while at < log.len() {
-        let v = log[at];
+        let seen = observe(log, at);
+        let v = seen.code;
         if v >= 256 {
             return false;
         }
@@ -84,7 +85,7 @@ pub fn fails(block: &Block, facts: &Facts, cube: &Cube, log: &[u16], from: usize
         if set == 0 {
             return true;
         }
-        at += 1;
+        at = seen.next;
     }
     false
 }

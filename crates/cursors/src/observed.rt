@@ -8,23 +8,27 @@ ghost use Prim.Native.Nat.{_+_, _<_, _≤_, _%_};
 ghost use lib.ListN.{length, getD};
 ghost use Rattle.cursors.specs.FactsKept.{FactsKept};
 
-// Notes an observation where it is a reset: the next test begins there. How many tests there are.
-fn enter_test(facts: &mut Facts, tests: usize, v: u16, at: usize) -> usize
+// Notes a byte of a log where it is a PULSE: the next test begins there. How many tests there are. A test is followed only where its
+// place has 16 bits.
+fn enter_test(facts: &mut Facts, tests: usize, v: u8, at: usize) -> usize
     requires { ⌜ (length (now facts) ≡ 832) × (tests ≤ 256) ⌝ }
     ensures { λ r. ⌜ FactsKept (now (facts .entry)) (now (facts .exit)) × (r ≤ 256) ⌝ }
 {
-    if v != 256 {
+    if v != PULSE {
         return tests;
     }
     if tests == 256 {
         return tests;
     }
-    facts[TESTS + tests] = (at % 65536) as u16;
+    if at >= 65536 {
+        return tests;
+    }
+    facts[TESTS + tests] = at as u16;
     tests + 1
 }
 
 // Notes where the tests of a log begin, and how many there are (the first 256 of them).
-pub fn find_tests(log: &[u16], facts: &mut Facts)
+pub fn find_tests(log: &[u8], facts: &mut Facts)
     requires { ⌜ length (now facts) ≡ 832 ⌝ }
     ensures { λ r. ⌜ FactsKept (now (facts .entry)) (now (facts .exit)) ⌝ }
 {
@@ -46,7 +50,7 @@ pub fn add_test(facts: &mut Facts, at: usize)
     if tests >= 256 {
         return;
     }
-    let next = enter_test(facts, tests, 256, at);
+    let next = enter_test(facts, tests, PULSE, at);
     facts[TEST_COUNT] = next as u16;
 }
 
@@ -65,9 +69,9 @@ pub fn tests_of(facts: &Facts) -> usize
 }
 
 // An observation; past the end of the log a reset.
-pub fn observed(log: &[u16], at: usize) -> u16 {
+pub fn observed(log: &[u8], at: usize) -> u16 {
     if at >= log.len() {
         return 256;
     }
-    log[at]
+    observe(log, at).code
 }

@@ -96,22 +96,23 @@ fn go_on(block: &Block, p: &[u8; 32], settled: u32, state: u8, v: u16) -> u16 {
 }
 
 // A test as far as the settled part goes.
-fn advance(block: &Block, log: &[u16], p: &[u8; 32], settled: u32, from: u32) -> u32 {
+fn advance(block: &Block, log: &[u8], p: &[u8; 32], settled: u32, from: u32) -> u32 {
     let mut state = state_of(from);
     let mut at = at_of(from);
     while at < log.len() {
-        let next = go_on(block, p, settled, state, log[at]);
+        let seen = observe(log, at);
+        let next = go_on(block, p, settled, state, seen.code);
         if next >= 256 {
             return cursor(at, state, (next % 256) as u8);
         }
         state = next as u8;
-        at += 1;
+        at = seen.next;
     }
     cursor(at, state, THROUGH)
 }
 
 // The same if it waits for `last`.
-fn advance_if(block: &Block, log: &[u16], p: &[u8; 32], settled: u32, from: u32, last: u8) -> u32
+fn advance_if(block: &Block, log: &[u8], p: &[u8; 32], settled: u32, from: u32, last: u8) -> u32
     ensures { λ r. ⌜ ((from % 256 ≡ last → ⊥) → r ≡ from) ⌝ }
 {
     if wait_of(from) != last {
@@ -124,7 +125,7 @@ fn advance_if(block: &Block, log: &[u16], p: &[u8; 32], settled: u32, from: u32,
 pub fn advance_all(
     block: &Block,
     facts: &Facts,
-    log: &[u16],
+    log: &[u8],
     p: &[u8; 32],
     settled: u32,
     cursors: &mut [u32; 256],
@@ -147,7 +148,7 @@ pub fn advance_all(
 }
 
 // The settled suspects that a test meets, up to its wrong output.
-pub fn met(block: &Block, log: &[u16], p: &[u8; 32], settled: u32, from: u32) -> u32
+pub fn met(block: &Block, log: &[u8], p: &[u8; 32], settled: u32, from: u32) -> u32
     ensures { λ r. ⌜ HasAll r settled ⌝ }
 {
     let mut used: u32 = 0;

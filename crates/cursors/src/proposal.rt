@@ -12,12 +12,12 @@ ghost use Rattle.leaves.specs.Members.{Literals};
 ghost use Rattle.cursors.specs.Steering.{SpeaksOf, Narrowed};
 
 // How many inputs follow a reset.
-fn length_of(log: &[u16], from: usize) -> usize
+fn length_of(log: &[u8], from: usize) -> usize
     requires { ⌜ from ≤ 65536 ⌝ }
     ensures { λ r. ⌜ r ≤ 256 ⌝ }
 {
     for l in 0..256 {
-        if observed(log, from + l) >= 256 {
+        if observed(log, from + 3 * l) >= 256 {
             return l;
         }
     }
@@ -57,7 +57,7 @@ fn fill_bad(
     block: &Block,
     facts: &Facts,
     cube: &Cube,
-    log: &[u16],
+    log: &[u8],
     from: usize,
     length: usize,
     bad: &mut [u16; 257],
@@ -68,7 +68,7 @@ fn fill_bad(
     while l > 0 {
         let next = bad[l];
         l -= 1;
-        bad[l] = backward(block, facts, cube, next, observed(log, from + l));
+        bad[l] = backward(block, facts, cube, next, observed(log, from + 3 * l));
     }
 }
 
@@ -148,7 +148,7 @@ fn narrow_once<'a>(
     facts: &Facts,
     base: &'a Cube,
     cube: &mut Cube,
-    log: &[u16],
+    log: &[u8],
     from: usize,
     bad: &'a [u16; 257],
     length: usize,
@@ -164,7 +164,7 @@ fn narrow_once<'a>(
         if next == 0 {
             return false;
         }
-        let v = observed(log, from + l);
+        let v = observed(log, from + 3 * l);
         next = narrow_states(block, facts, base, cube, next as u16, v, bad[l + 1]);
     }
     next >= 65536
@@ -176,7 +176,7 @@ fn narrow_all<'a>(
     facts: &Facts,
     base: &'a Cube,
     cube: &mut Cube,
-    log: &[u16],
+    log: &[u8],
     from: usize,
     bad: &'a [u16; 257],
     length: usize,
@@ -195,7 +195,7 @@ fn narrow_all<'a>(
 pub fn propose_fail(
     block: &Block,
     facts: &Facts,
-    log: &[u16],
+    log: &[u8],
     p: &[u8; 32],
     settled: u32,
     t: usize,

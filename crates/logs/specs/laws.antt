@@ -1,3 +1,4 @@
 pub mod TestsLaw
 pub mod WalkedLaw
+pub mod SizeLaw
 pub mod SuitesLaw

@@ -1,23 +1,15 @@
-// The test suite of a sheet as a log: 256 for a reset, an input * 16 + the specified output.
+// The test suite of a sheet as a log: a PULSE for each test, a SEEN for each input with the specified output.
 use block::*;
-ghost use mathlib.Core.Path.{_≡_};
-ghost use Prim.Native.Nat.{_+_, _<_, _≤_};
+ghost use Prim.Native.Nat.{_+_, _≤_};
 ghost use mathlib.Core.List.{[], _∷_};
 ghost use lib.ListN.{length};
 ghost use Rattle.sheet.specs.Sheet.{Sheet};
-ghost use Rattle.model.specs.Log.{reset, seen, testLog, testsLog};
+ghost use Rattle.model.specs.Log.{reset, testLog, testsLog};
 ghost use Rattle.block.specs.Tabulated.{ruleOf};
-ghost use Rattle.block.specs.Logged.{observation};
+ghost use Rattle.block.specs.Logged.{logBytes};
 ghost use Rattle.logs.specs.Tests.{inputsAt, testsAt, TestAt, TestsAt};
 ghost use Rattle.logs.specs.Recorded.{Written, Recorded};
 ghost use Rattle.logs.specs.Suites.{SuiteIn, Logged};
-
-fn observed(x: u8, o: u8) -> u16
-    requires { ⌜ (x < 16) × (o < 16) ⌝ }
-    ensures { λ r. ⌜ observation r ≡ seen x o ⌝ }
-{
-    (x as u16) * 16 + (o as u16)
-}
 
 // Writes a reset and the inputs of the test whose PRESS commands start at `start`, from a place of the log on; gives the place after
 // them.
@@ -26,14 +18,14 @@ pub fn record_test(
     start: usize,
     inputs: usize,
     block: &Block,
-    log: &mut [u16],
+    log: &mut [u8],
     from: usize,
 ) -> usize
     requires { ⌜ TestAt (ruleOf (now block)) (now sheet) start inputs ⌝ }
-    requires { ⌜ from + length (reset ∷ testLog (ruleOf (now block)) 0 (inputsAt (now sheet) start inputs)) ≤ length (now log) ⌝ }
-    ensures { λ r. ⌜ Written (now (log .entry)) (now (log .exit)) from r (reset ∷ testLog (ruleOf (now (block .entry))) 0 (inputsAt (now (sheet .entry)) start inputs)) [] ⌝ }
+    requires { ⌜ from + length (logBytes (reset ∷ testLog (ruleOf (now block)) 0 (inputsAt (now sheet) start inputs))) ≤ length (now log) ⌝ }
+    ensures { λ r. ⌜ Written (now (log .entry)) (now (log .exit)) from r (logBytes (reset ∷ testLog (ruleOf (now (block .entry))) 0 (inputsAt (now (sheet .entry)) start inputs))) [] ⌝ }
 {
-    log[from] = 256;
+    log[from] = PULSE;
     let mut to = from + 1;
     let mut at = start;
     let mut left = inputs;
@@ -41,9 +33,11 @@ pub fn record_test(
     while left > 0 {
         let x = sheet[at + 1];
         let k = place(s, x);
-        log[to] = observed(x, rule_output(block, k));
+        log[to] = SEEN;
+        log[to + 1] = x;
+        log[to + 2] = rule_output(block, k);
         s = rule_target(block, k);
-        to += 1;
+        to += 3;
         at += 2;
         left -= 1;
     }
@@ -57,11 +51,11 @@ fn record_suite(
     lengths: &[u16; 256],
     tests: usize,
     block: &Block,
-    log: &mut [u16],
+    log: &mut [u8],
 ) -> usize
     requires { ⌜ TestsAt (ruleOf (now block)) (now sheet) (now starts) (now lengths) tests ⌝ }
-    requires { ⌜ length (testsLog (ruleOf (now block)) (testsAt (now sheet) (now starts) (now lengths) tests)) ≤ length (now log) ⌝ }
-    ensures { λ r. ⌜ Recorded (now (log .entry)) (now (log .exit)) r (testsLog (ruleOf (now (block .entry))) (testsAt (now (sheet .entry)) (now (starts .entry)) (now (lengths .entry)) tests)) ⌝ }
+    requires { ⌜ length (logBytes (testsLog (ruleOf (now block)) (testsAt (now sheet) (now starts) (now lengths) tests))) ≤ length (now log) ⌝ }
+    ensures { λ r. ⌜ Recorded (now (log .entry)) (now (log .exit)) r (logBytes (testsLog (ruleOf (now (block .entry))) (testsAt (now (sheet .entry)) (now (starts .entry)) (now (lengths .entry)) tests))) ⌝ }
 {
     let mut to: usize = 0;
     let mut t: usize = 0;
@@ -79,7 +73,7 @@ pub fn log_suite<'a>(
     lengths: &'a [u16; 256],
     tests: usize,
     block: &Block,
-    log: &mut [u16],
+    log: &mut [u8],
 ) -> usize
     requires { ⌜ ((sh : Sheet) × SuiteIn sh (now sheet) (now starts) (now lengths) tests (now block) (length (now log))) ⌝ }
     ensures { λ r. ⌜ ((sh : Sheet) → SuiteIn sh (now (sheet .entry)) (now (starts .entry)) (now (lengths .entry)) tests (now (block .entry)) (length (now (log .entry))) → Logged sh (now (log .exit)) r) ⌝ }

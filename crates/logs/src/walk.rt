@@ -23,7 +23,7 @@ fn last(begun: usize) -> usize
 }
 
 // The first output of the log that the mutant does not give: at state * 16 + input the tables hold its outputs and next states.
-pub fn first_wrong(log: &[u16], outputs: &[u8; 256], targets: &[u8; 256], start: u8) -> Wrong
+pub fn first_wrong(log: &[u8], outputs: &[u8; 256], targets: &[u8; 256], start: u8) -> Wrong
     ensures { λ r. ⌜ r ≡ wrongOf (failedIn (movesIn (now (outputs .entry)) (now (targets .entry))) start start 0 0 (observations (now (log .entry)))) ⌝ }
 {
     let mut s = start;
@@ -31,12 +31,16 @@ pub fn first_wrong(log: &[u16], outputs: &[u8; 256], targets: &[u8; 256], start:
     let mut position: usize = 0;
     let mut i: usize = 0;
     while i < log.len() {
-        let v = log[i];
-        i += 1;
+        let seen = observe(log, i);
+        let v = seen.code;
+        i = seen.next;
         if v == 256 {
             s = start;
             begun += 1;
             position = 0;
+            continue;
+        }
+        if v > 256 {
             continue;
         }
         let k = some_place(s, input_of(v));

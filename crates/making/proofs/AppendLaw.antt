@@ -4,7 +4,7 @@ use native.Mathlib.Omega.{arith}
 use mathlib.Core.Path.{_≡_, refl, sym, _∙_, ap}
 use mathlib.Core.Option.{Option}
 use mathlib.Core.List.{List, [], _∷_, _++_, append-assoc, append-nil}
-use lib.ListN.{length, take, drop, length-append, length-map, take-append-drop}
+use lib.ListN.{length, take, drop, length-append, take-append-drop}
 use lib.Seq.{append-snoc, length-take-le}
 use Rattle.sheet.specs.Sheet.{Sheet}
 use Rattle.sheet.specs.Encode.{pressBytes, testBytes, body, encode}
@@ -15,14 +15,16 @@ use Rattle.model.specs.Machine.{Move}
 use Rattle.model.specs.Mutant.{rule}
 use Rattle.model.specs.Log.{Observation, reset, testLog, testsLog, suiteLog}
 use Rattle.model.specs.Longer.{withTest}
-use Rattle.model.specs.laws.LogLaw.{log-most}
 use Rattle.model.specs.laws.LongerLaw.{rule-longer, body-longer, encode-longer, well-formed-longer}
-use Rattle.block.specs.Logged.{observation, observations}
+use Rattle.block.specs.Logged.{logBytes}
+use Rattle.block.specs.laws.LoggedLaw.{bytes-append}
 use Rattle.block.specs.Tabulated.{ruleOf}
 use Rattle.block.specs.laws.TabledLaw.{rule-same}
 use Rattle.logs.specs.Tests.{inputsAt, TestAt}
 use Rattle.logs.specs.Recorded.{Written}
 use Rattle.logs.specs.laws.TestsLaw.{inputs-at, rules-low}
+use Rattle.logs.specs.laws.SizeLaw.{log-bytes}
+use Rattle.logs.specs.laws.SuitesLaw.{logged-bytes}
 use Rattle.sweep.specs.laws.GrowingLaw.{tabled-longer}
 use Rattle.making.specs.words.Growing.{Held, Fits}
 
@@ -52,8 +54,8 @@ module _ {sh : Sheet} {m bytes log : List ℕ} {end n : ℕ} (he : Held sh m byt
   pub body-length : length (body sh) ≡ end
   body-length = sym (ap length (he .spelled)) ∙ length-take-le end bytes (omega (arith, he .short, he .long))
 
-  log-length : length (suiteLog sh) ≡ n
-  log-length = sym (ap length (he .suite .suite)) ∙ length-map (take n log) observation ∙ length-take-le n log (he .inside)
+  log-length : length (logBytes (suiteLog sh)) ≡ n
+  log-length = sym (ap length (he .recorded)) ∙ length-take-le n log (he .inside)
 
   module _ {xs : List ℕ} (fi : Fits sh xs end) where
     formed : WellFormed (withTest sh xs)
@@ -85,24 +87,29 @@ module _ {sh : Sheet} {m bytes log : List ℕ} {end n : ℕ} (he : Held sh m byt
             defined = rw inputs-there (fi .defined);
           })
 
-      pub log-room : n + length (reset ∷ testLog (ruleOf m) 0 (inputsAt bytes′ (end + 1) (length xs))) ≤ length log
-      log-room =
-          let most = log-most (withTest sh xs) formed (omega (arith, encode-longer sh xs, encode-long sh, body-length, fi .short)) in
-          let long = ap length (suite-longer sh xs) ∙ length-append (suiteLog sh) (reset ∷ testLog (rule sh) 0 xs) in
-          rw (inputs-there, rule-same (he .suite .tabled)) (omega (arith, most, long, log-length, he .log-long))
+      -- the bytes of the longer log
+      bytes-more : logBytes (suiteLog (withTest sh xs)) ≡ logBytes (suiteLog sh) ++ logBytes (reset ∷ testLog (rule sh) 0 xs)
+      bytes-more = ap logBytes (suite-longer sh xs) ∙ bytes-append (suiteLog sh) (reset ∷ testLog (rule sh) 0 xs)
 
-      pub appended : {log′ : List ℕ} {r : ℕ} → Written log log′ n r (reset ∷ testLog (ruleOf m) 0 (inputsAt bytes′ (end + 1) (length xs))) [] →
+      pub log-room : n + length (logBytes (reset ∷ testLog (ruleOf m) 0 (inputsAt bytes′ (end + 1) (length xs)))) ≤ length log
+      log-room =
+          let most = log-bytes (withTest sh xs) in
+          let short = encode-longer sh xs in
+          let long = ap length bytes-more ∙ length-append (logBytes (suiteLog sh)) (logBytes (reset ∷ testLog (rule sh) 0 xs)) in
+          rw (inputs-there, rule-same (he .suite .tabled)) (omega (arith, most, short, encode-long sh, body-length, fi .short, long, log-length, he .log-long))
+
+      pub appended : {log′ : List ℕ} {r : ℕ} → Written log log′ n r (logBytes (reset ∷ testLog (ruleOf m) 0 (inputsAt bytes′ (end + 1) (length xs)))) [] →
           Held (withTest sh xs) m bytes′ log′ (end + 1 + 2 * length xs) r
       appended {log′} {r} w =
+          let inside : r ≤ length log′ = omega (arith, w .room) in
+          let recorded : take r log′ ≡ logBytes (suiteLog (withTest sh xs)) =
+          sym (append-nil (take r log′)) ∙ w .is
+          ∙ rw (inputs-there, rule-same (he .suite .tabled)) (ap (λ (l : List ℕ). l ++ logBytes (reset ∷ testLog (rule sh) 0 xs)) (he .recorded))
+          ∙ sym bytes-more in
           record {
-            suite = record {
-              tabled = tabled-longer (sh .tests ++ xs ∷ []) formed (he .suite .tabled);
-              suite =
-                  sym (append-nil (observations (take r log′))) ∙ w .is
-                  ∙ rw (inputs-there, rule-same (he .suite .tabled)) (ap (λ (l : List Observation). l ++ (reset ∷ testLog (rule sh) 0 xs)) (he .suite .suite))
-                  ∙ sym (suite-longer sh xs);
-            };
-            inside = omega (arith, w .room);
+            suite = record { tabled = tabled-longer (sh .tests ++ xs ∷ []) formed (he .suite .tabled); suite = logged-bytes formed inside recorded .is };
+            inside = inside;
+            recorded = recorded;
             spelled = rw (← ends) (sp .front ∙ ap (λ (l : List ℕ). l ++ (4 ∷ pressBytes xs)) (he .spelled) ∙ sym (body-more sh xs));
             short = fi .short;
             long = sp .long ∙ he .long;

@@ -53,7 +53,7 @@ module _ {sh : Sheet} {s starts lengths m : List ℕ} {tests : ℕ} (rd : ReadFr
   pub some-bytes : 1 ≤ length s
   some-bytes = omega (arith, encode-long sh, ap length (rd .bytes))
 
-  pub grown-none : {old bytes log : List ℕ} {observed len : ℕ} → Logged sh log observed → length log ≡ 8448 → Spelled old bytes 0 len s → length old ≡ 16384 →
+  pub grown-none : {old bytes log : List ℕ} {observed len : ℕ} → Logged sh log observed → length log ≡ 24576 → Spelled old bytes 0 len s → length old ≡ 16384 →
       Growing (growFrom (256 - length (sh .tests)) 0 sh) sh m bytes log (len - 1) observed (256 - tests) 0
   grown-none lg ll sp lo =
       record {
@@ -63,6 +63,7 @@ module _ {sh : Sheet} {s starts lengths m : List ℕ} {tests : ℕ} (rd : ReadFr
         held = record {
           suite = record { tabled = rd .loads .tabled; suite = lg .is };
           inside = lg .inside;
+          recorded = lg .bytes;
           spelled = but-end sh (rd .bytes) sp;
           short = omega (arith, encode-long sh, ap length (rd .bytes), sp .many, rd .short);
           long = sp .long ∙ lo;

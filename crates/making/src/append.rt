@@ -7,13 +7,13 @@ ghost use Rattle.sheet.specs.Sheet.{Sheet};
 ghost use Rattle.model.specs.Longer.{withTest};
 ghost use Rattle.making.specs.words.Growing.{Held, Fits};
 
-// Appends the inputs as a test to a sheet whose END would stand at `end`, and to the first n numbers of its log; gives the log's length.
+// Appends the inputs as a test to a sheet whose END would stand at `end`, and to the first n bytes of its log; gives the log's length.
 pub(crate) fn append(
     inputs: &[u8],
     block: &[u8; BLOCK],
     bytes: &mut [u8],
     end: usize,
-    log: &mut [u16],
+    log: &mut [u8],
     n: usize,
 ) -> usize
     requires { ⌜ ((sh : Sheet) × Held sh (now block) (now bytes) (now log) end n × Fits sh (now inputs) end) ⌝ }

@@ -121,7 +121,7 @@ pub(crate) fn grow(
     store: &mut [u32],
     notes: &mut [u16],
     bytes: &mut [u8],
-    log: &mut [u16],
+    log: &mut [u8],
     from: Growth,
 ) -> Growth
     requires { ⌜ ((result : Result Grown) × (sh : Sheet) × GrowingIn result sh (now block) (now bytes) (now log) from) × (length (now facts) ≡ 832) ⌝ }

@@ -27,10 +27,10 @@ fn no_facts() -> [u16; FACTS]
     [0u16; FACTS]
 }
 
-fn no_log() -> [u16; 8448]
-    ensures { λ r. ⌜ length r ≡ 8448 ⌝ }
+fn no_log() -> [u8; 24576]
+    ensures { λ r. ⌜ length r ≡ 24576 ⌝ }
 {
-    [0u16; 8448]
+    [0u8; 24576]
 }
 
 fn no_bytes() -> [u8; 16384]
@@ -40,7 +40,7 @@ fn no_bytes() -> [u8; 16384]
 }
 
 // With a store of refutations, where the block has facts for them; otherwise with the least one, so that no sweep gives up.
-fn grow_whole(block: &[u8; BLOCK], bytes: &mut [u8], log: &mut [u16], from: Growth) -> Growth
+fn grow_whole(block: &[u8; BLOCK], bytes: &mut [u8], log: &mut [u8], from: Growth) -> Growth
     requires { ⌜ ((result : Result Grown) × (sh : Sheet) × GrowingIn result sh (now block) (now bytes) (now log) from) ⌝ }
     ensures { λ r. ⌜ ((result : Result Grown) (sh : Sheet) → GrowingIn result sh (now (block .entry)) (now (bytes .entry)) (now (log .entry)) from → Finished (r .state) result (now (bytes .exit)) r) ⌝ }
 {

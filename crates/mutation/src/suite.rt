@@ -33,7 +33,7 @@ fn failure(found: Wrong, used: Used) -> Failed
 }
 
 // The first output of the log that the machine in the tables does not give. Tables of one value are lent at one lifetime.
-fn wrong_along<'a>(log: &[u16], outputs: &'a [u8; 256], targets: &'a [u8; 256], start: u8) -> Wrong
+fn wrong_along<'a>(log: &[u8], outputs: &'a [u8; 256], targets: &'a [u8; 256], start: u8) -> Wrong
     ensures { λ r. ⌜ r ≡ wrongOf (failedIn (movesIn (now (outputs .entry)) (now (targets .entry))) start start 0 0 (observations (now (log .entry)))) ⌝ }
 {
     first_wrong(log, outputs, targets, start)
@@ -47,7 +47,7 @@ fn first_failed_logged<'a>(
     tests: usize,
     block: &[u8; BLOCK],
     mutant: &[u8],
-    log: &mut [u16],
+    log: &mut [u8],
 ) -> Failed
     requires { ⌜ ((sh : Sheet) × SuiteIn sh (now sheet) (now starts) (now lengths) tests (now block) (length (now log))) ⌝ }
     ensures { λ r. ⌜ ((sh : Sheet) → SuiteIn sh (now (sheet .entry)) (now (starts .entry)) (now (lengths .entry)) tests (now (block .entry)) (length (now (log .entry))) → r ≡ failedAnswer (withMutant sh (now (mutant .entry)) (accepted (findingOf sh (now (mutant .entry)))))) ⌝ }
@@ -85,9 +85,9 @@ pub(crate) fn first_failed_accepted<'a>(
     ensures { λ r. ⌜ ((sh : Sheet) → ReadFrom sh (now (sheet .entry)) (now (starts .entry)) (now (lengths .entry)) tests (now (block .entry)) → r ≡ failedAnswer (withMutant sh (now (mutant .entry)) (accepted (findingOf sh (now (mutant .entry)))))) ⌝ }
 {
     if sheet.len() <= 1024 {
-        let mut short = [0u16; 1024];
+        let mut short = [0u8; 1536];
         return first_failed_logged(sheet, starts, lengths, tests, block, mutant, &mut short);
     }
-    let mut long = [0u16; 8448];
+    let mut long = [0u8; 24576];
     first_failed_logged(sheet, starts, lengths, tests, block, mutant, &mut long)
 }

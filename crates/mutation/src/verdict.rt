@@ -48,7 +48,7 @@ fn told_by(found: Difference) -> Judged
 // The judgement of a tabulated sheet by its suite's log, with room in both buffers; and how many nodes the search looked at.
 fn conclude(
     block: &[u8; BLOCK],
-    log: &[u16],
+    log: &[u8],
     board: &mut [u8],
     sequence: &mut [u8],
     nodes: &mut u32,
@@ -90,11 +90,11 @@ fn judge_suite<'a>(
     ensures { λ r. ⌜ Measured r (now (nodes .entry)) (now (nodes .exit)) ⌝ }
 {
     if sheet.len() <= 1024 {
-        let mut short = [0u16; 1024];
+        let mut short = [0u8; 1536];
         let n = log_suite(sheet, starts, lengths, tests, block, &mut short);
         return conclude(block, &short[..n], board, sequence, nodes);
     }
-    let mut long = [0u16; 8448];
+    let mut long = [0u8; 24576];
     let n = log_suite(sheet, starts, lengths, tests, block, &mut long);
     conclude(block, &long[..n], board, sequence, nodes)
 }

@@ -18,7 +18,7 @@ ghost use Rattle.store.specs.Store.{StoreOk, ToldOk};
 ghost use Rattle.nodes.specs.Refuting.{Ready, Found};
 
 // That no mutant of a proposal gives a test's part of the log.
-fn by_test(block: &Block, facts: &Facts, log: &[u16], node: Node, t: usize) -> Told
+fn by_test(block: &Block, facts: &Facts, log: &[u8], node: Node, t: usize) -> Told
     requires { ⌜ Ready (now block) (now facts) ⌝ }
     ensures { λ r. ⌜ ((goal : Sort) → ToldOk goal (now (block .entry)) (now (log .entry)) r) ⌝ }
 {
@@ -54,7 +54,7 @@ fn by_pairs(block: &Block, facts: &Facts, goal: Goal, node: Node) -> Told
 }
 
 // What the node's hint says: a test, or an entry of the store.
-fn by_hint(block: &Block, facts: &Facts, log: &[u16], store: &mut [u32], node: Node) -> Told
+fn by_hint(block: &Block, facts: &Facts, log: &[u8], store: &mut [u32], node: Node) -> Told
     requires { ⌜ Ready (now block) (now facts) ⌝ }
     ensures { λ r. ⌜ ((goal : Sort) → StoreOk goal (now (block .entry)) (now (log .entry)) (now (store .entry)) → Found goal (now (block .entry)) (now (log .entry)) (now (store .exit)) r) ⌝ }
 {
@@ -90,7 +90,7 @@ fn consult(
 pub fn look(
     block: &Block,
     facts: &Facts,
-    log: &[u16],
+    log: &[u8],
     goal: Goal,
     store: &mut [u32],
     notes: &mut [u16],

@@ -210,7 +210,7 @@ fn survivor(notes: &[u16], w: usize) -> [u16; 32] {
 }
 
 // Forgets a survivor that a test tells from the specification, or may.
-fn test_one(block: &[u8; BLOCK], log: &[u16], notes: &mut [u16], w: usize, at: usize)
+fn test_one(block: &[u8; BLOCK], log: &[u8], notes: &mut [u16], w: usize, at: usize)
     requires { ⌜ Wf (now block) × (w < 8) ⌝ }
     ensures { λ r. ⌜ Changed 9856 9872 (now (notes .entry)) (now (notes .exit)) ⌝ }
 {
@@ -225,7 +225,7 @@ fn test_one(block: &[u8; BLOCK], log: &[u16], notes: &mut [u16], w: usize, at: u
 }
 
 // After a test was appended whose reset stands at a place of the log: more may be spent, and survivors are forgotten; nothing else changes.
-pub fn test_survivors(block: &[u8; BLOCK], log: &[u16], notes: &mut [u16], at: usize)
+pub fn test_survivors(block: &[u8; BLOCK], log: &[u8], notes: &mut [u16], at: usize)
     requires { ⌜ Wf (now block) ⌝ }
     ensures { λ r. ⌜ Changed 9856 9872 (now (notes .entry)) (now (notes .exit)) ⌝ }
 {

@@ -25,7 +25,7 @@ ghost use Rattle.refutation.specs.Branching.{SplitOk, TurnOk, JoinedOk};
 fn next_suspect(
     block: &Block,
     facts: &Facts,
-    log: &[u16],
+    log: &[u8],
     notes: &mut [u16],
     node: Node,
     cursors: &[u32; 256],
@@ -95,7 +95,7 @@ fn split_at(block: &Block, i: u8, left: u8) -> Split
 fn next_split(
     block: &Block,
     facts: &Facts,
-    log: &[u16],
+    log: &[u8],
     notes: &mut [u16],
     node: Node,
     cursors: &[u32; 256],
@@ -224,7 +224,7 @@ fn finish(store: &mut [u32], notes: &mut [u16], all: &Cube, i: u8) -> Told
 pub(crate) fn explore(
     block: &Block,
     facts: &Facts,
-    log: &[u16],
+    log: &[u8],
     goal: Goal,
     store: &mut [u32],
     notes: &mut [u16],

@@ -24,7 +24,7 @@ ghost use Rattle.nodes.specs.Refuting.{Ready, Found};
 ghost use Rattle.nodes.specs.Prefix.{PrefixIn};
 
 // Fills the facts of a block and a log; false where it has none.
-pub fn prepare(block: &Block, log: &[u16], facts: &mut Facts) -> bool
+pub fn prepare(block: &Block, log: &[u8], facts: &mut Facts) -> bool
     requires { ⌜ Wf (now block) × (length (now facts) ≡ 832) ⌝ }
     ensures { λ r. ⌜ (length (now (facts .exit)) ≡ 832) × (r ≡ true → Ready (now (block .entry)) (now (facts .exit))) ⌝ }
 {
@@ -48,7 +48,7 @@ pub fn note_test(facts: &mut Facts, at: usize)
 pub fn told_from(
     block: &Block,
     facts: &Facts,
-    log: &[u16],
+    log: &[u8],
     goal: Goal,
     store: &mut [u32],
     notes: &mut [u16],
@@ -75,7 +75,7 @@ pub fn told_from(
 pub fn none_from(
     block: &Block,
     facts: &Facts,
-    log: &[u16],
+    log: &[u8],
     goal: Goal,
     store: &mut [u32],
     notes: &mut [u16],

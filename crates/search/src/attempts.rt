@@ -49,7 +49,7 @@ fn long_notes() -> [u16; LONG] {
 // The first wanted mutant by a search with a store of refutations.
 fn find_thoroughly(
     block: &Block,
-    log: &[u16],
+    log: &[u8],
     goal: Goal,
     from: Beginning,
     last: &[u8],
@@ -82,7 +82,7 @@ fn find_thoroughly(
 // before its first reset.
 fn find(
     block: &Block,
-    log: &[u16],
+    log: &[u8],
     goal: Goal,
     from: Beginning,
     last: &[u8],
@@ -112,7 +112,7 @@ fn find(
 // buffers' fronts; and how many nodes the engine looked at, which is free.
 pub fn first(
     block: &Block,
-    log: &[u16],
+    log: &[u8],
     goal: Goal,
     from: Beginning,
     last: &[u8],

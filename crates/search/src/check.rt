@@ -41,7 +41,7 @@ fn meets<'a>(
 }
 
 // Whether the mutant with the choices p gives the log and meets the goal.
-pub(crate) fn wanted(block: &Block, log: &[u16], goal: Goal, p: &[u16; 32]) -> bool
+pub(crate) fn wanted(block: &Block, log: &[u8], goal: Goal, p: &[u16; 32]) -> bool
     requires { ⌜ ((sh : Sheet) × Searching sh (now block) (now log) (now p) (length (slotsOf sh))) ⌝ }
     ensures { λ r. ⌜ ((sh : Sheet) → Searching sh (now (block .entry)) (now (log .entry)) (now (p .entry)) (length (slotsOf sh)) → Decides (Wanted goal sh (mutantIn sh (now (p .entry)))) r) ⌝ }
 {

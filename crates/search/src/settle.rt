@@ -38,7 +38,7 @@ pub(crate) struct Attempt {
 fn refuted(
     block: &Block,
     facts: &[Facts],
-    log: &[u16],
+    log: &[u8],
     goal: Goal,
     store: &mut [u32],
     notes: &mut [u16],
@@ -76,7 +76,7 @@ fn settled(wanted: bool, p: [u16; 32]) -> Attempt
 pub(crate) fn search(
     block: &Block,
     facts: &[Facts],
-    log: &[u16],
+    log: &[u8],
     goal: Goal,
     store: &mut [u32],
     notes: &mut [u16],
@@ -111,7 +111,7 @@ pub(crate) fn search(
 fn search_from(
     block: &Block,
     facts: &[Facts],
-    log: &[u16],
+    log: &[u8],
     goal: Goal,
     store: &mut [u32],
     notes: &mut [u16],
@@ -166,7 +166,7 @@ fn settled_as(last: &[u8]) -> [u16; 32]
 fn search_after(
     block: &Block,
     facts: &[Facts],
-    log: &[u16],
+    log: &[u8],
     goal: Goal,
     store: &mut [u32],
     notes: &mut [u16],
@@ -200,7 +200,7 @@ fn search_after(
 pub(crate) fn begin(
     block: &Block,
     facts: &[Facts],
-    log: &[u16],
+    log: &[u8],
     goal: Goal,
     store: &mut [u32],
     notes: &mut [u16],

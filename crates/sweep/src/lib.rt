@@ -43,7 +43,7 @@ fn ended(turned: Turned) -> Outcome
 pub fn next_survivor(
     block: &[u8; BLOCK],
     facts: &[u16; FACTS],
-    log: &[u16],
+    log: &[u8],
     store: &mut [u32],
     notes: &mut [u16],
     p: &mut [u16; 32],

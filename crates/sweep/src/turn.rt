@@ -69,7 +69,7 @@ fn nothing() -> Asked
 fn ask(
     block: &[u8; BLOCK],
     facts: &[u16; FACTS],
-    log: &[u16],
+    log: &[u8],
     store: &mut [u32],
     notes: &mut [u16],
     p: &[u16; 32],
@@ -95,7 +95,7 @@ fn ask(
 fn ask_on(
     block: &[u8; BLOCK],
     facts: &[u16; FACTS],
-    log: &[u16],
+    log: &[u8],
     store: &mut [u32],
     notes: &mut [u16],
     p: &[u16; 32],
@@ -124,7 +124,7 @@ fn ask_on(
 fn ask_conforming(
     block: &[u8; BLOCK],
     facts: &[u16; FACTS],
-    log: &[u16],
+    log: &[u8],
     store: &mut [u32],
     notes: &mut [u16],
     p: &[u16; 32],
@@ -145,7 +145,7 @@ fn ask_conforming(
 fn conformed(
     block: &[u8; BLOCK],
     facts: &[u16; FACTS],
-    log: &[u16],
+    log: &[u8],
     store: &mut [u32],
     notes: &mut [u16],
     p: &[u16; 32],
@@ -176,7 +176,7 @@ pub(crate) enum Turned {
 fn take_look(
     block: &[u8; BLOCK],
     facts: &[u16; FACTS],
-    log: &[u16],
+    log: &[u8],
     store: &mut [u32],
     notes: &mut [u16],
     p: &[u16; 32],
@@ -207,7 +207,7 @@ fn take_look(
 pub(crate) fn turn(
     block: &[u8; BLOCK],
     facts: &[u16; FACTS],
-    log: &[u16],
+    log: &[u8],
     store: &mut [u32],
     notes: &mut [u16],
     p: &[u16; 32],

@@ -1,10 +1,11 @@
 -- Mutants that have the choices settled at some suspects, along a log.
-use Rattle.lists.specs.Proving.{arith, ℕ, _+_, _/_, _%_, _^_, _<_, _≡_, sym, _∙_, ap, subst, List, [], _∷_, length, getD, drop, ℕ-discrete}
+use Rattle.lists.specs.Proving.{arith, ℕ, _+_, _/_, _%_, _^_, _<_, _≤_, _≡_, refl, sym, _∙_, ap, subst, List, [], _∷_, length, getD, drop, ℕ-discrete}
 use Rattle.model.specs.Log.{GivesFrom}
 use Rattle.model.specs.Machine.{Move}
 use Rattle.block.specs.Layout.{pair, waking, siteAt, statesOf, inputsOf}
 use Rattle.block.specs.Tabulated.{Wf, Ranged, StepIs, choicesAt, choiceOf, chosen, stepOf, startOf}
-use Rattle.block.specs.Logged.{observation, observations, GivesOf}
+use Rattle.block.specs.Logged.{observations, ObservedAt, GivesOf}
+use Rattle.block.specs.declared.logged.Observed.{Observed}
 use Rattle.block.specs.declared.layout.Step.{Step}
 use Rattle.block.specs.laws.ChoiceLaw.{choice-waking, chosen-none, chosen-some, chosen-low, step-inside, start-is, start-low}
 use Rattle.cubes.specs.Sets.{Has, HasAll, Joined}
@@ -12,7 +13,7 @@ use Rattle.cubes.specs.Cube.{Sought}
 use Rattle.cubes.specs.declared.goal.Goal.{Goal}
 use Rattle.cubes.specs.laws.ConformLaw.{step-low}
 use Rattle.cubes.specs.laws.SetLaw.{one-same}
-use Rattle.cubes.specs.laws.WalkLaw.{later-part, after-reset, after-seen}
+use Rattle.cubes.specs.laws.WalkLaw.{later-part, observed-reset, after-seen}
 use Rattle.walks.specs.Walks.{Agrees, NoneBy, Settled, ChoiceIs, UsedWith, PairAt, Begins, Here, Stands}
 use Rattle.walks.specs.declared.walk.Place.{Place}
 
@@ -59,47 +60,47 @@ pub start-settled : {m p b : List ℕ} {used : ℕ} {step : Step} → Settled m 
 start-settled {m} {b = b} se w g = start-is m b ∙ sym (se .target b w g)
 
 from-any : (move : ℕ → ℕ → Move) (start s q : ℕ) (log : List ℕ) → Begins log → GivesFrom move start s (observations log) → GivesFrom move start q (observations log)
-unfolding GivesFrom observation
+unfolding GivesFrom observations
 from-any move start s q [] be g = tt
-from-any move start s q (v ∷ log) be g = let e : v ≡ 256 = be .at (omega arith) in rw e (rw e at g)
+from-any move start s q (v ∷ log) be g = let e : v ≡ 16 = be .at (omega arith) in rw e (rw e at g)
 
 pub stands-start : {m log p : List ℕ} → Wf m → Begins log → Stands m log p (record { at = 0; state = 0; used = 0 })
 unfolding GivesOf
 stands-start {m} {log} wf be = record { at = λ b w g y. record { low = wf .some-states; goes = from-any (stepOf m b) (startOf m b) (startOf m b) 0 log be y } }
 
 -- after a reset what was before does not matter
-stands-reset : {m log p : List ℕ} {at used : ℕ} {step : Step} → Wf m → at < length log → getD log at 0 ≡ 256 → Settled m p used waking step → Stands m log p (record { at = at + 1; state = step .target; used = used })
+stands-reset : {m log p : List ℕ} {at used : ℕ} {step : Step} {s : Observed} → Wf m → ObservedAt log at s → s .code ≡ 256 → Settled m p used waking step → Stands m log p (record { at = s .next; state = step .target; used = used })
 unfolding GivesOf
-stands-reset {m} {log} {p} {at} wf l e se = record {
+stands-reset {m} {log} {p} {at} {s = s} wf ob e se = record {
   at = λ b w g y.
       let h = later-part (stepOf m b) (startOf m b) log at (startOf m b) y in
       let here = start-settled se w g in
       record {
         low = subst (λ (q : ℕ). q < statesOf m) here (start-low wf w);
-        goes = subst (λ (q : ℕ). GivesFrom (stepOf m b) (startOf m b) q (observations (drop (at + 1) log))) here (after-reset (stepOf m b) (startOf m b) log at (h .0) l e (h .1));
+        goes = subst (λ (q : ℕ). GivesFrom (stepOf m b) (startOf m b) q (observations (drop (s .next) log))) here (observed-reset (stepOf m b) (startOf m b) ob (omega arith) (h .0) e (h .1));
       };
 }
 
 -- an input x with the output o, where the step is settled
-module _ {m log p : List ℕ} {place : Place} {x o k used : ℕ} {step : Step} (wf : Wf m) (st : Stands m log p place) (l : place .at < length log) (n : getD log (place .at) 0 ≡ 256 → ⊥)
-    (ex : x ≡ getD log (place .at) 0 / 16) (eo : o ≡ getD log (place .at) 0 % 16) (lx : x < inputsOf m) (ek : k ≡ pair (place .state % 16) (x % 16)) (more : HasAll (place .used) used) (se : Settled m p used k step) where
-  seen : (b : List ℕ) → Ranged m b → Agrees p used b → GivesOf m b log → (step .output ≡ o) × Here m b (step .target) (drop (place .at + 1) log)
+module _ {m log p : List ℕ} {place : Place} {x o k used : ℕ} {step : Step} {s : Observed} (wf : Wf m) (st : Stands m log p place) (ob : ObservedAt log (place .at) s) (few : s .code ≤ 256)
+    (n : s .code ≡ 256 → ⊥) (ex : x ≡ s .code / 16) (eo : o ≡ s .code % 16) (lx : x < inputsOf m) (ek : k ≡ pair (place .state % 16) (x % 16)) (more : HasAll (place .used) used) (se : Settled m p used k step) where
+  seen : (b : List ℕ) → Ranged m b → Agrees p used b → GivesOf m b log → (step .output ≡ o) × Here m b (step .target) (drop (s .next) log)
   seen b w g y =
       let q = place .state in
       let h = st .at b w (agrees-fewer more g) y in
-      let f = rw (← ex, ← eo) at (after-seen (stepOf m b) (startOf m b) log (place .at) q l n (h .goes)) in
+      let f = rw (← ex, ← eo) at (after-seen (stepOf m b) (startOf m b) ob few q n (h .goes)) in
       let ep : pair q x ≡ k = omega (arith, ek, h .low, wf .few-states, wf .few-inputs) in
       let inside : stepOf m b q x ≡ choiceOf m k (chosen m b k) = step-inside m b q x (h .low) lx ∙ ap (λ (j : ℕ). choiceOf m j (chosen m b j)) ep in
       let et : stepOf m b q x .target ≡ step .target = ap (λ (v : Move). v .target) inside ∙ sym (se .target b w g) in (
         se .output b w g ∙ sym (ap (λ (v : Move). v .output) inside) ∙ f .0,
         record {
-          low = subst (λ (s : ℕ). s < statesOf m) et (step-low wf w (h .low) lx);
-          goes = subst (λ (s : ℕ). GivesFrom (stepOf m b) (startOf m b) s (observations (drop (place .at + 1) log))) et (f .1);
+          low = subst (λ (q : ℕ). q < statesOf m) et (step-low wf w (h .low) lx);
+          goes = subst (λ (q : ℕ). GivesFrom (stepOf m b) (startOf m b) q (observations (drop (s .next) log))) et (f .1);
         },
       )
 
   -- the walk goes on
-  stands-on : Stands m log p (record { at = place .at + 1; state = step .target; used = used })
+  stands-on : Stands m log p (record { at = s .next; state = step .target; used = used })
   stands-on = record { at = λ b w g y. seen b w g y .1 }
 
   -- or no such mutant gives the log
@@ -107,19 +108,19 @@ module _ {m log p : List ℕ} {place : Place} {x o k used : ℕ} {step : Step} (
   unfolding Sought
   stands-not wrong goal = record { at = λ b w g y. wrong (seen b w g (y .0) .0) }
 
--- ---- one observation v, at the pair k
-module _ {m log p : List ℕ} {at state before since used v k i : ℕ} {step : Step} (wf : Wf m) (st : Stands m log p (record { at = at; state = state; used = before })) (l : at < length log) (ev : v ≡ getD log at 0)
-    (pa : PairAt m state v k) (lk : k < 257) (es : (v ≡ 256 → ⊥) → since ≡ before) (us : UsedWith since i used) (se : Settled m p used k step) where
-  pub step-on : Stands m log p (record { at = at + 1; state = step .target; used = used })
-  step-on = go (ℕ-discrete v 256)
+-- ---- one observation, at the pair k
+module _ {m log p : List ℕ} {at state before since used k i : ℕ} {step : Step} {s : Observed} (wf : Wf m) (st : Stands m log p (record { at = at; state = state; used = before })) (ob : ObservedAt log at s)
+    (pa : PairAt m state (s .code) k) (lk : k < 257) (es : (s .code ≡ 256 → ⊥) → since ≡ before) (us : UsedWith since i used) (se : Settled m p used k step) where
+  pub step-on : Stands m log p (record { at = s .next; state = step .target; used = used })
+  step-on = go (ℕ-discrete (s .code) 256)
     where
-      go : Dec (v ≡ 256) → Stands m log p (record { at = at + 1; state = step .target; used = used })
-      go (yes e) = stands-reset wf l (sym ev ∙ e) (subst (λ (j : ℕ). Settled m p used j step) (pa .reset e) se)
-      go (no n) = let s = pa .seen n lk in stands-on wf st l (λ z. n (ev ∙ z)) (ap (λ (w : ℕ). w / 16) ev) (ap (λ (w : ℕ). w % 16) ev) (s .0) (s .1) (λ j h. us .more j (rw (es n) h)) se
+      go : Dec (s .code ≡ 256) → Stands m log p (record { at = s .next; state = step .target; used = used })
+      go (yes e) = stands-reset wf ob e (subst (λ (j : ℕ). Settled m p used j step) (pa .reset e) se)
+      go (no n) = let h = pa .seen n lk in stands-on wf st ob (pa .some lk) n refl refl (h .0) (h .1) (λ j z. us .more j (rw (es n) z)) se
 
-  pub step-not : (step .output ≡ v % 16 → ⊥) → (goal : Goal) → NoneBy goal m log p used
-  step-not wrong goal = go (ℕ-discrete v 256)
+  pub step-not : (step .output ≡ s .code % 16 → ⊥) → (goal : Goal) → NoneBy goal m log p used
+  step-not wrong goal = go (ℕ-discrete (s .code) 256)
     where
-      go : Dec (v ≡ 256) → NoneBy goal m log p used
+      go : Dec (s .code ≡ 256) → NoneBy goal m log p used
       go (yes e) = record { at = λ b w g y. wrong (se .output b w g ∙ ap (λ (j : ℕ). choiceOf m j (chosen m b j) .output) (pa .reset e) ∙ ap (λ (u : Move). u .output) (choice-waking m (chosen m b waking)) ∙ sym (ap (λ (w : ℕ). w % 16) e)) }
-      go (no n) = let s = pa .seen n lk in stands-not wf st l (λ z. n (ev ∙ z)) (ap (λ (w : ℕ). w / 16) ev) (ap (λ (w : ℕ). w % 16) ev) (s .0) (s .1) (λ j h. us .more j (rw (es n) h)) se wrong goal
+      go (no n) = let h = pa .seen n lk in stands-not wf st ob (pa .some lk) n refl refl (h .0) (h .1) (λ j z. us .more j (rw (es n) z)) se wrong goal

@@ -2,7 +2,7 @@
 use mathlib.Core.Path.{_≡_}
 use mathlib.Core.Bool.{true}
 use mathlib.Core.List.{List}
-use Prim.Native.Nat.{ℕ, _/_, _%_, _<_}
+use Prim.Native.Nat.{ℕ, _/_, _%_, _<_, _≤_}
 use lib.ListN.{length, getD, drop}
 use Rattle.model.specs.Log.{GivesFrom}
 use Rattle.block.specs.Layout.{pair, waking, statesOf, inputsOf, choicesOf}
@@ -42,6 +42,7 @@ pub record UsedWith (before i used : ℕ) : Type 0 where
 
 -- k is the pair of the observation v in a state, or none
 pub record PairAt (m : List ℕ) (state v k : ℕ) : Type 0 where
+  pub some : k < 257 → v ≤ 256
   pub reset : v ≡ 256 → k ≡ waking
   pub seen : (v ≡ 256 → ⊥) → k < 257 → (v / 16 < inputsOf m) × (k ≡ pair (state % 16) (v / 16 % 16))
 
@@ -52,7 +53,7 @@ pub record Here (m b : List ℕ) (q : ℕ) (left : List ℕ) : Type 0 where
 
 -- nothing is seen before the first reset: a mutant gives the log from any state
 pub record Begins (log : List ℕ) : Type 0 where
-  pub at : 0 < length log → getD log 0 0 ≡ 256
+  pub at : 0 < length log → getD log 0 0 ≡ 16
 
 -- a mutant that has the choices settled at the suspects used and gives the log is at the place after the observations before it
 pub record Stands (m log p : List ℕ) (place : Place) : Type 0 where
@@ -68,7 +69,7 @@ Halts goal m log p halt.Lost = Unit {0}
 abbrev pub Starts : List ℕ → ℕ → Halt → Type 0
 Starts log at (halt.Fails used) = Unit {0}
 Starts log at (halt.Waits i place) = Unit {0}
-Starts log at (halt.Ends place) = (at < length log) × (getD log at 0 ≡ 256)
+Starts log at (halt.Ends place) = (at < length log) × (getD log at 0 ≡ 16)
 Starts log at halt.Lost = Unit {0}
 
 abbrev pub ToldOk : Goal → List ℕ → List ℕ → List ℕ → Told → Type 0

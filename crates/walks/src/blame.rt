@@ -19,14 +19,14 @@ ghost use Rattle.cubes.specs.declared.goal.Goal.the-variants.{Nonconforming};
 ghost use Rattle.walks.specs.Walks.{Halts, Starts, ToldOk};
 
 // Where a walk from the reset at a place of the log halts; it is lost where no reset stands there.
-fn walk_from(block: &Block, log: &[u16], p: &[u16; 32], at: usize) -> Halt
+fn walk_from(block: &Block, log: &[u8], p: &[u16; 32], at: usize) -> Halt
     requires { ⌜ Wf (now block) ⌝ }
     ensures { λ r. ⌜ ((goal : Goal) → Halts goal (now (block .entry)) (now (log .entry)) (now (p .entry)) r) × Starts (now (log .entry)) at r ⌝ }
 {
     if at >= log.len() {
         return Halt::Lost;
     }
-    if log[at] != 256 {
+    if log[at] != PULSE {
         return Halt::Lost;
     }
     let state = 0;
@@ -35,7 +35,7 @@ fn walk_from(block: &Block, log: &[u16], p: &[u16; 32], at: usize) -> Halt
 }
 
 // By a wrong output in the log from the reset at a place on; `ok` only if there is one.
-pub fn by_log(block: &Block, log: &[u16], p: &[u16; 32], at: usize) -> Told
+pub fn by_log(block: &Block, log: &[u8], p: &[u16; 32], at: usize) -> Told
     requires { ⌜ Wf (now block) ⌝ }
     ensures { λ r. ⌜ ((goal : Goal) → ToldOk goal (now (block .entry)) (now (log .entry)) (now (p .entry)) r) ⌝ }
 {
@@ -56,9 +56,9 @@ pub fn by_reach(block: &Block, p: &[u16; 32]) -> Told
 }
 
 // Whether the log from the reset at a place on is given by a mutant with the settled choices, which it does not leave.
-pub fn gives_from(block: &Block, log: &[u16], p: &[u16; 32], at: usize) -> bool
+pub fn gives_from(block: &Block, log: &[u8], p: &[u16; 32], at: usize) -> bool
     requires { ⌜ Wf (now block) ⌝ }
-    ensures { λ r. ⌜ (r ≡ true → (at < length (now (log .entry))) × (getD (now (log .entry)) at 0 ≡ 256)) ⌝ }
+    ensures { λ r. ⌜ (r ≡ true → (at < length (now (log .entry))) × (getD (now (log .entry)) at 0 ≡ 16)) ⌝ }
 {
     match walk_from(block, log, p, at) {
         Halt::Ends(_) => true,

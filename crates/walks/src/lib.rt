@@ -25,19 +25,19 @@ ghost use Rattle.cubes.specs.Cube.{NoneIf};
 ghost use Rattle.walks.specs.Walks.{Begins};
 
 // Whether a log has nothing before its first reset: then any state will do to begin with.
-pub fn begins(log: &[u16]) -> bool
+pub fn begins(log: &[u8]) -> bool
     ensures { λ r. ⌜ (r ≡ true → Begins (now (log .entry))) ⌝ }
 {
     if log.len() == 0 {
         return true;
     }
-    log[0] == 256
+    log[0] == PULSE
 }
 
 // Whether no mutant with all the choices of the prefix is sought; false promises nothing.
 pub fn none_from(
     block: &Block,
-    log: &[u16],
+    log: &[u8],
     goal: Goal,
     notes: &mut [u16],
     prefix: &[u16; 32],

@@ -52,7 +52,7 @@ fn by_pairs(block: &Block, notes: &mut [u16], p: &[u16; 32], place: Place) -> Ha
 // By the log and then, where a nonconforming mutant is sought, by the pairs; nothing where the budget is spent.
 fn look(
     block: &Block,
-    log: &[u16],
+    log: &[u8],
     goal: Goal,
     notes: &mut [u16],
     p: &[u16; 32],
@@ -117,7 +117,7 @@ fn is_final(told: Told, i: u8) -> bool
 // Refutes the settled part p, with the walk at a place. `left` falls: so many more may be settled.
 pub(crate) fn refute(
     block: &Block,
-    log: &[u16],
+    log: &[u8],
     goal: Goal,
     notes: &mut [u16],
     p: &[u16; 32],

@@ -53,7 +53,7 @@ fn since_reset(v: u16, used: u32) -> u32
 }
 
 // Walks the log from a place on. A reset is the transition into the waking state, with the output 0.
-pub(crate) fn walk(block: &Block, log: &[u16], p: &[u16; 32], from: Place) -> Halt
+pub(crate) fn walk(block: &Block, log: &[u8], p: &[u16; 32], from: Place) -> Halt
     requires { ⌜ Wf (now block) × Stands (now block) (now log) (now p) from ⌝ }
     ensures { λ r. ⌜ ((goal : Goal) → Halts goal (now (block .entry)) (now (log .entry)) (now (p .entry)) r) ⌝ }
 {
@@ -61,7 +61,8 @@ pub(crate) fn walk(block: &Block, log: &[u16], p: &[u16; 32], from: Place) -> Ha
     let mut state = from.state;
     let mut used = from.used;
     while at < log.len() {
-        let v = log[at];
+        let seen = observe(log, at);
+        let v = seen.code;
         let k = pair_at(block, state, v);
         if k > WAKING {
             return Halt::Lost;
@@ -77,7 +78,7 @@ pub(crate) fn walk(block: &Block, log: &[u16], p: &[u16; 32], from: Place) -> Ha
             return Halt::Fails(used);
         }
         state = step.target;
-        at += 1;
+        at = seen.next;
     }
     Halt::Ends(Place { at, state, used })
 }

@@ -1,6 +1,6 @@
 -- A cube along a log.
-use Rattle.lists.specs.Proving.{arith, ℕ, zero, suc, _+_, _*_, _/_, _%_, _^_, _<_, _≤_, _≡_, sym, _∙_, subst, List, [], _∷_, length, getD, drop, drop-cons, add-one, below-more, ne-eqb}
-use Rattle.model.specs.Log.{Observation, reset, seen, GivesFrom}
+use Rattle.lists.specs.Proving.{arith, ℕ, zero, suc, _+_, _*_, _/_, _%_, _^_, _<_, _≤_, _≡_, sym, _∙_, subst, Bool, true, false, cond, List, [], _∷_, length, getD, drop, below-more, eqb, ne-eqb}
+use Rattle.model.specs.Log.{reset, seen, GivesFrom}
 use Rattle.model.specs.Machine.{Move}
 use Rattle.cubes.specs.Sets.{Has, Joined}
 use Rattle.block.specs.Layout.{pair, siteAt, statesOf, inputsOf}
@@ -10,7 +10,9 @@ use Rattle.block.specs.declared.layout.Step.{Step}
 use Rattle.block.specs.laws.ChoiceLaw.{choice-lone, step-closed, start-low}
 use Rattle.cubes.specs.Cube.{Given, In, NoneIn, StartsOk, Sought, GoingOk}
 use Rattle.cubes.specs.declared.goal.Goal.{Goal}
-use Rattle.block.specs.Logged.{observation, observations, GivesOf}
+use Rattle.block.specs.Logged.{observation, observations, ObservedAt, GivesOf}
+use Rattle.block.specs.declared.logged.Observed.{Observed}
+use Rattle.block.specs.laws.LoggedLaw.{drop-reset}
 use Rattle.cubes.specs.Walk.{LoneLead, LeadOk, OnwardOk}
 use Rattle.cubes.specs.laws.SetLaw.{nothing, one-same}
 use Rattle.cubes.specs.laws.SuspectedLaw.{suspected}
@@ -61,29 +63,34 @@ on-all on l = record { at = λ q h. on .at q (omega arith) }
 module _ (move : ℕ → ℕ → Move) (start : ℕ) where
   -- what gives a log gives each later part of it from some state
   pub later-part : (log : List ℕ) (i s : ℕ) → GivesFrom move start s (observations log) → (q : ℕ) × GivesFrom move start q (observations (drop i log))
-  unfolding GivesFrom
+  unfolding GivesFrom observations
   later-part log zero s g = (s, g)
   later-part [] (suc i) s g = (s, g)
-  later-part (v ∷ log) (suc i) s g = go (λ t. later-part log i t) (observation v) g
+  later-part (v ∷ log) (suc i) s g = go (λ t. later-part log i t) (eqb v 16) (eqb v 17) g
     where
-      go : ((t : ℕ) → GivesFrom move start t (observations log) → (q : ℕ) × GivesFrom move start q (observations (drop i log))) →
-          (o : Observation) → GivesFrom move start s (o ∷ observations log) → (q : ℕ) × GivesFrom move start q (observations (drop i log))
-      go on reset h = on start h
-      go on (seen x o) h = on (move s x .target) (h .1)
-
-  at-offset : (log : List ℕ) (at s : ℕ) → at < length log → GivesFrom move start s (observations (drop at log)) → GivesFrom move start s (observation (getD log at 0) ∷ observations (drop (at + 1) log))
-  at-offset log at s l g = rw add-one (subst (λ (r : List ℕ). GivesFrom move start s (observations r)) (drop-cons log at 0 l) g)
+      go : ((t : ℕ) → GivesFrom move start t (observations log) → (q : ℕ) × GivesFrom move start q (observations (drop i log))) → (p r : Bool) →
+          GivesFrom move start s (cond p (reset ∷ observations log) (cond r (seen (getD log 0 0 % 16) (getD log 1 0 % 16) ∷ observations log) (observations log))) →
+          (q : ℕ) × GivesFrom move start q (observations (drop i log))
+      go on true r h = on start h
+      go on false true h = on (move s (getD log 0 0 % 16) .target) (h .1)
+      go on false false h = on s h
 
   -- a reset
-  pub after-reset : (log : List ℕ) (at s : ℕ) → at < length log → getD log at 0 ≡ 256 → GivesFrom move start s (observations (drop at log)) → GivesFrom move start start (observations (drop (at + 1) log))
-  unfolding GivesFrom observation
-  after-reset log at s l e g = rw e at (at-offset log at s l g)
+  pub after-reset : (log : List ℕ) (at s : ℕ) → at < length log → getD log at 0 ≡ 16 → GivesFrom move start s (observations (drop at log)) → GivesFrom move start start (observations (drop (at + 1) log))
+  unfolding GivesFrom
+  after-reset log at s l e g = rw (drop-reset log at l e) at g
 
-  -- an input with its output
-  pub after-seen : (log : List ℕ) (at s : ℕ) → at < length log → (getD log at 0 ≡ 256 → ⊥) → GivesFrom move start s (observations (drop at log))
-      → (move s (getD log at 0 / 16) .output ≡ getD log at 0 % 16) × GivesFrom move start (move s (getD log at 0 / 16) .target) (observations (drop (at + 1) log))
-  unfolding GivesFrom observation
-  after-seen log at s l n g = rw (ne-eqb (getD log at 0) 256 n) at (at-offset log at s l g)
+  -- the same, as it is observed
+  module _ {log : List ℕ} {at : ℕ} {r : Observed} (ob : ObservedAt log at r) (few : r .code ≤ 256) (s : ℕ) where
+    pub observed-reset : r .code ≡ 256 → GivesFrom move start s (observations (drop at log)) → GivesFrom move start start (observations (drop (r .next) log))
+    unfolding GivesFrom observation
+    observed-reset e g = rw (ob .is few, e) at g
+
+    -- an input with its output
+    pub after-seen : (r .code ≡ 256 → ⊥) → GivesFrom move start s (observations (drop at log))
+        → (move s (r .code / 16) .output ≡ r .code % 16) × GivesFrom move start (move s (r .code / 16) .target) (observations (drop (r .next) log))
+    unfolding GivesFrom observation
+    after-seen n g = rw (ob .is few, ne-eqb (r .code) 256 n) at g
 
 -- ---- the walk: a mutant in the cube that gives the log is in one of the states, with the log from `at` on still to come
 pub record Standing (m b : List ℕ) (set : ℕ) (left : List ℕ) : Type 0 where
@@ -95,7 +102,7 @@ pub record Standing (m b : List ℕ) (set : ℕ) (left : List ℕ) : Type 0 wher
 pub record Walking (m log cube : List ℕ) (at set : ℕ) : Type 0 where
   pub here : (b : List ℕ) → Ranged m b → In m cube b → GivesOf m b log → Standing m b set (drop at log)
 
-pub walk-start : {m log cube : List ℕ} {from set : ℕ} → Wf m → from < length log → getD log from 0 ≡ 256 → StartsOk m cube set → Walking m log cube (from + 1) set
+pub walk-start : {m log cube : List ℕ} {from set : ℕ} → Wf m → from < length log → getD log from 0 ≡ 16 → StartsOk m cube set → Walking m log cube (from + 1) set
 unfolding GivesOf
 walk-start {m} {log} {cube} {from} wf l e st = record {
   here = λ b r g y.
@@ -104,12 +111,12 @@ walk-start {m} {log} {cube} {from} wf l e st = record {
 }
 
 -- one observation more: an input x with the output o
-module _ {m log cube : List ℕ} {at set x o w : ℕ} (wf : Wf m) (wk : Walking m log cube at set) (l : at < length log) (n : getD log at 0 ≡ 256 → ⊥)
-    (ex : x ≡ getD log at 0 / 16) (eo : o ≡ getD log at 0 % 16) (lx : x < inputsOf m) (on : OnwardOk m cube set x o w) where
-  moved : (b : List ℕ) → Ranged m b → In m cube b → GivesOf m b log → Standing m b w (drop (at + 1) log)
+module _ {m log cube : List ℕ} {at set x o w : ℕ} {s : Observed} (wf : Wf m) (wk : Walking m log cube at set) (ob : ObservedAt log at s) (few : s .code < 256)
+    (ex : x ≡ s .code / 16) (eo : o ≡ s .code % 16) (lx : x < inputsOf m) (on : OnwardOk m cube set x o w) where
+  moved : (b : List ℕ) → Ranged m b → In m cube b → GivesOf m b log → Standing m b w (drop (s .next) log)
   moved b r g y =
       let st = wk .here b r g y in
-      let h = rw (← ex, ← eo) at (after-seen (stepOf m b) (startOf m b) log at (st .state) l n (st .goes)) in
+      let h = rw (← ex, ← eo) at (after-seen (stepOf m b) (startOf m b) ob (omega arith) (st .state) (λ z. omega arith) (st .goes)) in
       record {
         state = stepOf m b (st .state) x .target;
         low = step-low wf r (st .low) lx;
@@ -117,7 +124,7 @@ module _ {m log cube : List ℕ} {at set x o w : ℕ} (wf : Wf m) (wk : Walking 
         goes = h .1;
       }
 
-  pub walk-more : Walking m log cube (at + 1) w
+  pub walk-more : Walking m log cube (s .next) w
   walk-more = record { here = moved }
 
   -- no state is left: no mutant in the cube gives the log

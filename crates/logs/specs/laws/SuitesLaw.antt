@@ -1,17 +1,30 @@
 -- The suite of an accepted sheet: where its tests stand, and that their log is the suite's.
-use Rattle.lists.specs.Proving.{arith, ℕ, _≤_, _≡_, refl, _∙_, ap, List, length}
+use Rattle.lists.specs.Proving.{arith, ℕ, _*_, _≤_, _≡_, refl, sym, _∙_, ap, List, [], length, take}
+use mathlib.Core.List.{append-nil}
 use Rattle.sheet.specs.Sheet.{Sheet}
 use Rattle.sheet.specs.Tables.{tablesOf}
 use Rattle.sheet.specs.WellFormed.{WellFormed}
 use Rattle.model.specs.Log.{suiteLog, testsLog}
-use Rattle.model.specs.laws.LogLaw.{log-below, log-most}
 use Rattle.block.specs.Tabulated.{ruleOf}
 use Rattle.block.specs.Tabled.{ReadFrom}
+use Rattle.block.specs.Logged.{observations, logBytes}
 use Rattle.block.specs.laws.TabledLaw.{rule-same}
+use Rattle.block.specs.laws.LoggedLaw.{bytes-observed}
 use Rattle.logs.specs.Tests.{testsAt, TestsAt}
 use Rattle.logs.specs.Recorded.{Recorded}
 use Rattle.logs.specs.Suites.{SuiteIn, Logged}
+use Rattle.logs.specs.laws.SizeLaw.{log-bytes, log-low}
 use Rattle.logs.specs.laws.TestsLaw.{tests-are, tests-at, tests-log}
+
+-- bytes of the suite's log are that log
+pub logged-bytes : {sh : Sheet} {log : List ℕ} {n : ℕ} → WellFormed sh → n ≤ length log → take n log ≡ logBytes (suiteLog sh) → Logged sh log n
+unfolding observations
+logged-bytes {sh} {log} {n} wf inside e =
+    record {
+      inside = inside;
+      bytes = e;
+      is = ap observations (e ∙ sym (append-nil (logBytes (suiteLog sh)))) ∙ bytes-observed (suiteLog sh) [] (log-low sh wf) ∙ append-nil (suiteLog sh);
+    }
 
 module _ {sh : Sheet} {s starts lengths m : List ℕ} {tests room : ℕ} (su : SuiteIn sh s starts lengths tests m room) where
   pub wf : WellFormed sh
@@ -28,16 +41,16 @@ module _ {sh : Sheet} {s starts lengths m : List ℕ} {tests room : ℕ} (su : S
   log-is = rw (su .starts-are, su .lengths-are) (tests-log sh wf (rule-same (su .tabled)) (su .bytes) {tables = tablesOf sh} refl (su .many))
 
   -- there is room for their log, and it is the suite's
-  pub roomy : length (testsLog (ruleOf m) (testsAt s starts lengths tests)) ≤ room
+  pub roomy : length (logBytes (testsLog (ruleOf m) (testsAt s starts lengths tests))) ≤ room
   roomy = rw log-is (su .fits)
 
-  pub logged : {old new : List ℕ} {n : ℕ} → Recorded old new n (testsLog (ruleOf m) (testsAt s starts lengths tests)) → Logged sh new n
-  logged re = record { inside = re .inside; is = re .is ∙ log-is }
+  pub logged : {old new : List ℕ} {n : ℕ} → Recorded old new n (logBytes (testsLog (ruleOf m) (testsAt s starts lengths tests))) → Logged sh new n
+  logged re = logged-bytes wf (re .inside) (re .is ∙ ap logBytes log-is)
 
 -- ---- a sheet that was read
 
 module _ {sh : Sheet} {s starts lengths m : List ℕ} {tests : ℕ} (rd : ReadFrom sh s starts lengths tests m) where
-  suite-in : {room : ℕ} → length (suiteLog sh) ≤ room → SuiteIn sh s starts lengths tests m room
+  suite-in : {room : ℕ} → length (logBytes (suiteLog sh)) ≤ room → SuiteIn sh s starts lengths tests m room
   suite-in l =
       record {
         tabled = rd .loads .tabled;
@@ -48,9 +61,9 @@ module _ {sh : Sheet} {s starts lengths m : List ℕ} {tests : ℕ} (rd : ReadFr
         fits = l;
       }
 
-  -- with an array as long as the sheet, or as long as any suite's log
-  pub suite-short : {room : ℕ} → length s ≤ room → SuiteIn sh s starts lengths tests m room
-  suite-short l = suite-in (omega (arith, log-below sh, ap length (rd .bytes)))
+  -- with an array half as long again as the sheet, or as long as any suite's log
+  pub suite-short : {room : ℕ} → 3 * length s ≤ 2 * room → SuiteIn sh s starts lengths tests m room
+  suite-short l = suite-in (omega (arith, log-bytes sh, ap length (rd .bytes)))
 
-  pub suite-long : {room : ℕ} → 8448 ≤ room → SuiteIn sh s starts lengths tests m room
-  suite-long l = suite-in (omega (arith, log-most sh (rd .loads .tabled .formed) (rw (rd .bytes) (rd .short))))
+  pub suite-long : {room : ℕ} → 24576 ≤ room → SuiteIn sh s starts lengths tests m room
+  suite-long l = suite-in (omega (arith, log-bytes sh, ap length (rd .bytes), rd .short))

@@ -10,7 +10,9 @@ use Rattle.sheet.specs.Encode.{body}
 use Rattle.sheet.specs.Reading.{Result, accepted, refused}
 use Rattle.sheet.specs.WellFormed.{TestIn}
 use Rattle.model.specs.Mutant.{rule}
+use Rattle.model.specs.Log.{suiteLog}
 use Rattle.model.specs.Making.{Grown, growFrom}
+use Rattle.block.specs.Logged.{logBytes}
 use Rattle.logs.specs.Tests.{Defined}
 use Rattle.search.specs.Search.{ForSheet}
 use Rattle.sweep.specs.declared.Outcome.{Outcome}
@@ -21,14 +23,15 @@ use Rattle.making.specs.declared.grow.Next.the-variants as next
 use Rattle.making.specs.declared.grow.State.{State}
 use Rattle.making.specs.declared.grow.State.the-variants as state
 
--- the bytes before `end` are all of the sheet but its END, the block holds its tables, and the first n numbers of the log are its suite's
+-- the bytes before `end` are all of the sheet but its END, the block holds its tables, and the first n bytes of the log are its suite's
 pub record Held (sh : Sheet) (m bytes log : List ℕ) (end n : ℕ) : Type 0 where
   pub suite : ForSheet sh m (take n log)
   pub inside : n ≤ length log
+  pub recorded : take n log ≡ logBytes (suiteLog sh)
   pub spelled : take end bytes ≡ body sh
   pub short : end < 16384
   pub long : length bytes ≡ 16384
-  pub log-long : length log ≡ 8448
+  pub log-long : length log ≡ 24576
 
 -- the test xs may be appended, and there is room for it
 pub record Fits (sh : Sheet) (xs : List ℕ) (end : ℕ) : Type 0 where

@@ -10,7 +10,7 @@ narrow-once-spec = own.Tie.close (own.Tie.spec
     (λ c. search needs) (λ c κs. search needs) (λ c. (omega arith, omega arith, omega arith, narrowed-none))
     (λ c. narrowed-more (c .before .before .before .narrow-step .ensures) (c .before .before .loop .inv .3))
     (λ c. narrowed-more (c .before .before .before .before .narrow-step .ensures) (c .before .before .before .loop .inv .3))
-    (λ c. search needs) (λ c κs. search needs) (λ c. search needs) (λ c. search needs) (λ c. search needs)
+    (λ c. search needs) (λ c. search needs) (λ c κs. search needs) (λ c. search needs) (λ c. search needs) (λ c. search needs)
     (λ c. search needs) (λ c κs. search needs) (λ c. search needs) (λ c. search needs)
     (λ c. let at-if1 = c .before .before .before .before .before in (omega arith, omega arith, omega arith, narrowed-more (at-if1 .before .before .loop .inv .3) (c .narrow-states .ensures)))
     (λ c. narrowed-more (c .before .before .narrow-step .ensures) (c .before .loop .inv .3)))
