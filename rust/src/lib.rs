@@ -37,11 +37,13 @@ pub mod draw;
 pub mod explain;
 pub mod list;
 pub mod machine;
+mod names;
 mod operations;
 pub mod raw;
 mod refusal;
 pub mod text;
 
+pub use names::Names;
 pub use operations::{
     Comparison, Failure, Made, Run, Summary, Trial, Used, Verdict, compare, first_failed, generate,
     judge, make, read, run, test_part, test_span, write,
