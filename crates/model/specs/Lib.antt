@@ -10,6 +10,7 @@ pub mod Verdict
 pub mod Walk
 pub mod Operations
 pub mod Longer
+pub mod Relisted
 pub mod Making
 pub mod Tray
 pub mod laws

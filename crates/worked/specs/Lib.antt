@@ -4,3 +4,4 @@ pub mod Refusals
 pub mod WrittenRows
 pub mod GeneratedRows
 pub mod MadeRows
+pub mod ListRows

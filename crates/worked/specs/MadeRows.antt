@@ -51,10 +51,10 @@ ab = 0x04 ∷ 0x05 ∷ 0 ∷ 0x05 ∷ 1 ∷ []
 abbrev aba : List ℕ
 aba = 0x04 ∷ 0x05 ∷ 0 ∷ 0x05 ∷ 1 ∷ 0x05 ∷ 0 ∷ []
 
-abbrev babaaba : List ℕ
+abbrev pub babaaba : List ℕ
 babaaba = 0x04 ∷ 0x05 ∷ 1 ∷ 0x05 ∷ 0 ∷ 0x05 ∷ 1 ∷ 0x05 ∷ 0 ∷ 0x05 ∷ 0 ∷ 0x05 ∷ 1 ∷ 0x05 ∷ 0 ∷ []
 
-abbrev baa : List ℕ
+abbrev pub baa : List ℕ
 baa = 0x04 ∷ 0x05 ∷ 1 ∷ 0x05 ∷ 0 ∷ 0x05 ∷ 0 ∷ []
 
 -- P1's machine with that many empty tests, then others

@@ -1,24 +1,27 @@
 -- 02's Point 14: suites in another order, and longer ones. These hold of every sheet, with START and QUIET as they come.
-use Prim.Native.Nat.{ℕ, suc, _+_}
+use Prim.Native.Nat.{ℕ, suc, _+_, _*_}
 use native.Mathlib.Omega.{arith}
 use mathlib.Core.Path.{_≡_, refl, sym, _∙_, ap, subst}
 use mathlib.Core.Logic.{_⊎_, ⊎-elim}
+use mathlib.Core.Bool.{Bool, true, false}
 use mathlib.Core.Option.{Option, none, some}
 use mathlib.Core.List.{List, [], _∷_, _++_, List·Memᴰ, List·Memᴰ·head, List·Memᴰ·tail, List·Memᴰ·cases-cons, Memᴰ·append-left, List·Permᴰ, List·Permᴰ·nil, List·Permᴰ·cons, List·Permᴰ·swap, List·Permᴰ·trans, Permᴰ·symm}
+use lib.Dec.{ltb}
 use lib.ListN.{length, length-append}
 use Rattle.lists.specs.Lists.{maybe, All, Before}
 use Rattle.lists.specs.laws.TestLaw.{never}
 use Rattle.sheet.specs.Sheet.{Sheet}
 use Rattle.sheet.specs.Encode.{pressBytes, testBytes, machineBytes, body, encode}
-use Rattle.sheet.specs.Reading.{accepted, reading, withTests}
+use Rattle.sheet.specs.Reading.{Result, accepted, reading, withTests}
 use Rattle.sheet.specs.WellFormed.{TestIn, WellFormed}
 use Rattle.sheet.specs.laws.AcceptedLaw.{well-formed, short-enough}
 use Rattle.sheet.specs.laws.AcceptsLaw.{accepts}
 use Rattle.sheet.specs.laws.EncodedLaw.{encoded}
-use Rattle.model.specs.Mutant.{mutants, IsMutant}
-use Rattle.model.specs.Suite.{Place, firstFailedOf, compareOf, complete, survivor, orElse, survivorAmong, judgeOf}
-use Rattle.model.specs.Operations.{judgeOn, judging}
+use Rattle.model.specs.Mutant.{mutants, slots, IsMutant}
+use Rattle.model.specs.Suite.{Place, Judgement, firstFailedOf, compareOf, complete, survivor, orElse, survivorAmong, judgeOf}
+use Rattle.model.specs.Operations.{refuseIf, judgeOn, judging}
 use Rattle.model.specs.Longer.{Among}
+use Rattle.model.specs.Relisted.{Relisted, NoEarlier, Advances}
 use Rattle.model.specs.laws.JudgeLaw.{judge-none, judged-none, judged-first}
 use Rattle.model.specs.laws.LongerLaw.{slots-longer, mutant-longer, mutant-shorter, compare-longer, passes-fewer, open-longer}
 
@@ -169,7 +172,56 @@ module _ (sh : Sheet) (us : List (List ℕ)) (p : List·Permᴰ (sh .tests) us) 
         accepts (withTests sh us) (well-formed-reordered (well-formed s sh read))
         (omega (arith, length-reordered, ap length (encoded s sh read), short-enough s sh read))
 
-    -- and Judge answers and writes the same
-    pub judging-reordered : (boardRoom sequenceRoom : ℕ) → judging (encode (withTests sh us)) boardRoom sequenceRoom ≡ judging s boardRoom sequenceRoom
-    unfolding judging judgeOn
-    judging-reordered boardRoom sequenceRoom = rw (accepted-reordered, read, slots-longer sh us, sym (judge-reordered sh (sh .tests) us p)) refl
+-- ---- through the bytes: two accepted sheets that differ in their tests alone
+-- what Judge answers, by the two tests for room and the judgement
+answered : Bool → Bool → Judgement → Result Judgement
+answered short narrow j = refuseIf short 16 0 (refuseIf narrow 16 1 (accepted j))
+
+no-earlier : (b : List ℕ) (k : Judgement) → ((c ys : List ℕ) → k ≡ survivor c ys → (c ≡ b) ⊎ Before b c) → NoEarlier b k
+no-earlier b complete later = tt
+no-earlier b (survivor c ys) later = later c ys refl
+
+advances :
+    (short narrow : Bool) (j k : Judgement) → (j ≡ complete → k ≡ complete) →
+    ((b xs c ys : List ℕ) → j ≡ survivor b xs → k ≡ survivor c ys → (c ≡ b) ⊎ Before b c) →
+    Advances (answered short narrow j) (answered short narrow k)
+unfolding answered
+advances true narrow j k stays later = refl
+advances false true j k stays later = refl
+advances false false complete k stays later = ap accepted (stays refl)
+advances false false (survivor b xs) k stays later = (k, refl, no-earlier b k (λ c ys e. later b xs c ys refl e))
+
+module _ (s t : List ℕ) (ts us : List (List ℕ)) (sheets : Relisted s t ts us) (boardRoom sequenceRoom : ℕ) where
+  abbrev sh : Sheet
+  sh = sheets .machine
+
+  -- whether a buffer is too short
+  abbrev short : Bool
+  short = ltb boardRoom (length (slots sh))
+
+  abbrev narrow : Bool
+  narrow = ltb sequenceRoom (sh .size .states * sh .size .states)
+
+  asked :
+      (r : List ℕ) (vs : List (List ℕ)) → reading r ≡ accepted (withTests sh vs) →
+      judging r boardRoom sequenceRoom ≡ answered short narrow (judgeOf (withTests sh vs))
+  unfolding judging judgeOn answered
+  asked r vs read = rw (read, slots-longer sh vs) refl
+
+  -- the same tests, in whatever order and however often each: Judge answers and writes the same
+  pub judging-same : Among ts us → Among us ts → judging t boardRoom sequenceRoom ≡ judging s boardRoom sequenceRoom
+  judging-same there back =
+      asked t us (sheets .second)
+      ∙ ap (answered short narrow) (sym (judge-same sh ts us there back))
+      ∙ sym (asked s ts (sheets .first))
+
+  -- any reordering of a list leaves the verdict, its board and its press sequence the same
+  pub judging-reordered : List·Permᴰ ts us → judging t boardRoom sequenceRoom ≡ judging s boardRoom sequenceRoom
+  judging-reordered p = judging-same (reordered-among p) (reordered-among (Permᴰ·symm p))
+
+  -- tests added, none removed: complete stays complete, and a survivor is the shorter list's or a later one in dictionary order
+  pub judging-longer : Among ts us → Advances (judging s boardRoom sequenceRoom) (judging t boardRoom sequenceRoom)
+  judging-longer there =
+      rw (asked s ts (sheets .first), asked t us (sheets .second))
+      (advances short narrow (judgeOf (withTests sh ts)) (judgeOf (withTests sh us))
+      (judge-complete-longer sh ts us there) (judge-survivor-longer sh ts us there))
