@@ -221,3 +221,61 @@ fn no_survivor_among_some(random: &mut Random, sheet: &Sheet) {
         assert!(!survives, "{board:?} of {}", spelled(&sheet.encode()));
     }
 }
+
+/// 02, Point 14: any reordering gives the same verdict, board and sequence, and so does a test given twice.
+#[test]
+fn shuffled_lists() {
+    let mut random = Random::new(0x5EED_000C);
+    let mut moved = 0;
+    for i in 0..3_000 {
+        let shape = if i % 3 == 0 { generator::LARGE } else { SMALL };
+        let mut sheet = generator::sheet(&mut random, &Shape { open_pairs: 12, ..shape });
+        let (before, first) = (judge(&sheet.encode()), sheet.tests.clone());
+        random.shuffle(&mut sheet.tests);
+        moved += usize::from(sheet.tests != first);
+        assert_eq!(judge(&sheet.encode()), before, "{}", spelled(&sheet.encode()));
+        if !sheet.tests.is_empty() {
+            let again = sheet.tests[random.below(sheet.tests.len())].clone();
+            sheet.tests.insert(random.below(sheet.tests.len() + 1), again);
+            assert_eq!(judge(&sheet.encode()), before, "{}", spelled(&sheet.encode()));
+        }
+    }
+    assert!(moved > 1_000);
+}
+
+/// 02, Point 14: with tests added anywhere and none removed a complete list stays complete, and a survivor is the
+/// shorter list's or a later one.
+#[test]
+fn longer_lists() {
+    let mut random = Random::new(0x5EED_000D);
+    let (mut later, mut same, mut complete) = (0, 0, 0);
+    for i in 0..6_000 {
+        let mut sheet = generator::sheet(&mut random, &few_boards(2_000));
+        if i % 4 == 0 {
+            sheet = agree_until_complete(sheet);
+        }
+        let mut before = judge(&sheet.encode());
+        for _ in 0..4 {
+            let length = random.below(12);
+            let test = generator::walk(&mut random, &sheet, length);
+            sheet.tests.insert(random.below(sheet.tests.len() + 1), test);
+            let after = judge(&sheet.encode());
+            let told = spelled(&sheet.encode());
+            match (&before, &after) {
+                (None, _) => {
+                    assert_eq!(after, None, "{told}");
+                    complete += 1;
+                }
+                (Some(shorter), Some(longer)) => {
+                    assert!(shorter.board <= longer.board, "{told}");
+                    assert_eq!(shorter.board == longer.board, shorter == longer, "{told}");
+                    later += usize::from(shorter.board < longer.board);
+                    same += usize::from(shorter == longer);
+                }
+                (Some(_), None) => {}
+            }
+            before = after;
+        }
+    }
+    assert!(later > 100 && same > 100 && complete > 1_000);
+}
