@@ -1,14 +1,19 @@
-//! Pictures of a machine, or of a board with its departing sequence: Graphviz's DOT, or SVG.
+//! Pictures of a machine, or of a board with its departing sequence: Graphviz's DOT, SVG, a table, a Mealy machine in DOT.
 
 mod dot;
+mod mealy;
 mod svg;
+mod table;
 
-use crate::machine::{Choice, Machine, Move, Origin, Pair};
+use crate::machine::{Board, Choice, Machine, Move, Origin, Pair};
+use crate::names::Names;
 use crate::{Comparison, Refusal, compare};
 use std::collections::BTreeMap;
 
 pub use dot::dot;
+pub use mealy::mealy;
 pub use svg::svg;
+pub use table::table;
 
 /// What an arrow stands for.
 #[derive(Clone, Copy, Debug, PartialEq, Eq, PartialOrd, Ord)]
@@ -19,6 +24,8 @@ pub enum Line {
     Fault,
     /// What a board does where there is no RULE; drawn dotted.
     Unspecified,
+    /// What is specified where a board does something else; drawn in grey.
+    Specified,
 }
 
 /// Where an arrow leads.
@@ -39,37 +46,126 @@ pub struct Arrow {
     pub marked: bool,
 }
 
-/// A picture: arrows with their labels, one for each press, and a title.
-#[derive(Clone, Debug, Default, PartialEq, Eq)]
-pub struct Picture {
-    pub title: String,
-    pub states: u8,
-    pub arrows: BTreeMap<Arrow, Vec<String>>,
+/// What a press does at a state, and at which positions the departing sequence comes by.
+#[derive(Clone, Debug, PartialEq, Eq)]
+pub struct Transition {
+    pub state: u8,
+    pub press: u8,
+    /// None for any sound and any next state.
+    pub to: Option<Move>,
+    pub line: Line,
+    pub positions: Vec<usize>,
 }
 
-impl Picture {
-    fn new(machine: &Machine, title: String) -> Self {
-        Picture {
-            title,
-            states: machine.states,
-            arrows: BTreeMap::new(),
+/// A state after a fresh start, and whether the departing sequence begins there.
+#[derive(Clone, Copy, Debug, PartialEq, Eq)]
+pub struct Waking {
+    pub state: u8,
+    pub line: Line,
+    pub marked: bool,
+}
+
+/// What a picture shows.
+#[derive(Clone, Debug, Default, PartialEq, Eq)]
+pub struct Picture {
+    /// Of a board: what it is. Empty for a machine.
+    pub title: String,
+    pub names: Names,
+    pub states: u8,
+    pub presses: u8,
+    pub sounds: u8,
+    pub wakings: Vec<Waking>,
+    /// Ascending by state and press.
+    pub transitions: Vec<Transition>,
+}
+
+impl Transition {
+    fn arrow(&self) -> Arrow {
+        Arrow {
+            from: Some(self.state),
+            to: self.to.map_or(Target::Any, |to| Target::State(to.next)),
+            line: self.line,
+            marked: !self.positions.is_empty(),
         }
     }
 
-    fn add(&mut self, arrow: Arrow, label: String) {
-        self.arrows.entry(arrow).or_default().push(label);
+    /// `press/sound`, with the positions of the departing sequence.
+    fn label(&self, names: &Names) -> String {
+        let sound = self.to.map_or("?".to_string(), |to| names.sound(to.sound));
+        names.press(self.press) + "/" + &sound + &at(&self.positions)
+    }
+}
+
+/// ` at 0, 3`, or nothing.
+fn at(positions: &[usize]) -> String {
+    let positions: Vec<String> = positions.iter().map(usize::to_string).collect();
+    match positions.as_slice() {
+        [] => String::new(),
+        all => format!(" at {}", all.join(", ")),
+    }
+}
+
+impl Picture {
+    fn new(machine: &Machine, names: &Names) -> Self {
+        Picture {
+            names: names.clone(),
+            states: machine.states,
+            presses: machine.presses,
+            sounds: machine.sounds,
+            ..Picture::default()
+        }
     }
 
-    fn add_fresh_start(&mut self, state: u8, line: Line, marked: bool) {
-        let (from, to) = (None, Target::State(state));
-        self.arrows
-            .entry(Arrow {
-                from,
-                to,
-                line,
-                marked,
-            })
-            .or_default();
+    fn add_waking(&mut self, state: u8, line: Line, marked: bool) {
+        self.wakings.push(Waking {
+            state,
+            line,
+            marked,
+        });
+    }
+
+    fn add(&mut self, pair: Pair, to: Option<Move>, line: Line, positions: Vec<usize>) {
+        self.transitions.push(Transition {
+            state: pair.0,
+            press: pair.1,
+            to,
+            line,
+            positions,
+        });
+    }
+
+    /// The arrows, each with its labels: one for each press, none for a fresh start.
+    pub fn arrows(&self) -> BTreeMap<Arrow, Vec<String>> {
+        let mut arrows: BTreeMap<Arrow, Vec<String>> = BTreeMap::new();
+        for waking in &self.wakings {
+            let arrow = Arrow {
+                from: None,
+                to: Target::State(waking.state),
+                line: waking.line,
+                marked: waking.marked,
+            };
+            arrows.entry(arrow).or_default();
+        }
+        for transition in &self.transitions {
+            let labels = arrows.entry(transition.arrow()).or_default();
+            labels.push(transition.label(&self.names));
+        }
+        arrows
+    }
+
+    /// `A machine with 3 states, 2 presses and 2 sounds`, or what the board is.
+    fn heading(&self) -> String {
+        let many = |number: u8, one: &str, more: &str| match number {
+            1 => format!("1 {one}"),
+            _ => format!("{number} {more}"),
+        };
+        let states = many(self.states, "state", "states");
+        let presses = many(self.presses, "press", "presses");
+        let sounds = many(self.sounds, "sound", "sounds");
+        match self.title.as_str() {
+            "" => format!("A machine with {states}, {presses} and {sounds}"),
+            title => title.to_string(),
+        }
     }
 }
 
@@ -83,18 +179,13 @@ impl Line {
     }
 }
 
-/// `press/sound`
-fn label(press: u8, to: Move) -> String {
-    format!("{press}/{}", to.sound)
-}
-
 /// The machine of a sheet with its FAULTs; on demand also the presses without a RULE.
 ///
 /// ```
-/// use ranthelo::{draw, machine::Machine};
+/// use ranthelo::{Names, draw, machine::Machine};
 ///
 /// let sheet = ranthelo::text::assemble(b"SIZE 1 1 2\n RULE 0 0 0 0\n FAULT 0 0 1 0")?;
-/// let picture = draw::machine(&Machine::of(&sheet)?, false);
+/// let picture = draw::machine(&Machine::of(&sheet)?, &Names::default(), false);
 /// assert_eq!(
 ///     draw::dot(&picture),
 ///     r#"digraph {
@@ -109,107 +200,97 @@ fn label(press: u8, to: Move) -> String {
 /// );
 /// # Ok::<(), Box<dyn std::error::Error>>(())
 /// ```
-pub fn machine(machine: &Machine, unspecified: bool) -> Picture {
-    let mut picture = Picture::new(machine, String::new());
-    picture.add_fresh_start(0, Line::Rule, false);
+pub fn machine(machine: &Machine, names: &Names, unspecified: bool) -> Picture {
+    let mut picture = Picture::new(machine, names);
+    picture.add_waking(0, Line::Rule, false);
     for &state in &machine.starts {
-        picture.add_fresh_start(state, Line::Fault, false);
+        picture.add_waking(state, Line::Fault, false);
     }
     for pair in machine.pairs() {
-        for (to, line, label) in transitions(machine, pair) {
-            let (from, marked) = (Some(pair.0), false);
+        for (to, line) in transitions(machine, pair) {
             if line != Line::Unspecified || unspecified {
-                picture.add(
-                    Arrow {
-                        from,
-                        to,
-                        line,
-                        marked,
-                    },
-                    label,
-                );
+                picture.add(pair, to, line, Vec::new());
             }
         }
     }
     picture
 }
 
-/// Where the choices at a pair lead, with labels; an unspecified pair leads to any state.
-fn transitions(machine: &Machine, pair: Pair) -> Vec<(Target, Line, String)> {
-    let (choices, press) = (machine.choices(pair), pair.1);
+/// What the choices at a pair do; an unspecified pair leads to any state.
+fn transitions(machine: &Machine, pair: Pair) -> Vec<(Option<Move>, Line)> {
+    let choices = machine.choices(pair);
     if choices[0].origin == Origin::Unspecified && choices.len() > 1 {
-        return vec![(Target::Any, Line::Unspecified, format!("{press}/?"))];
+        return vec![(None, Line::Unspecified)];
     }
-    let arrow = |Choice { origin, to }| {
-        let target = Target::State(to.next);
-        (target, Line::of(origin), label(press, to))
-    };
-    choices.into_iter().map(arrow).collect()
+    let transition = |Choice { origin, to }| (Some(to), Line::of(origin));
+    choices.into_iter().map(transition).collect()
 }
 
-/// A board of a sheet; its departing sequence is marked, each press with its position. On demand also the presses without a
-/// RULE that the sequence does not meet.
-pub fn board(sheet: &[u8], choices: &[u8], unspecified: bool) -> Result<Picture, Refusal> {
+/// A board of a sheet; its departing sequence is marked, each press with its positions. What is specified stands beside each
+/// fault. On demand also the presses without a RULE that the sequence does not meet.
+pub fn board(
+    sheet: &[u8],
+    choices: &[u8],
+    names: &Names,
+    unspecified: bool,
+) -> Result<Picture, Refusal> {
     let sequence = match compare(sheet, choices)? {
         Comparison::Conforms => None,
         Comparison::Departs { sequence } => Some(sequence),
     };
     let machine = Machine::of(sheet)?;
     let board = machine.with(choices);
-    let mut picture = Picture::new(&machine, title(choices, sequence.as_deref()));
-    let met = positions(&machine, choices, sequence.as_deref().unwrap_or(&[]));
-    let wake = board.wake().to.next;
-    let waking = if wake == 0 { Line::Rule } else { Line::Fault };
-    picture.add_fresh_start(wake, waking, sequence.is_some());
-    for (state, press) in machine.pairs() {
-        let to = board.step(state, press).to;
-        let line = line(&machine, (state, press), to);
-        let mut text = label(press, to);
-        let positions = met.get(&(state, press));
-        if let Some(positions) = positions {
-            text += &format!(" at {}", positions.join(", "));
-        } else if line == Line::Unspecified && !unspecified {
-            continue;
+    let mut picture = Picture::new(&machine, names);
+    picture.title = title(choices, sequence.as_deref(), names);
+    add_wakings(&mut picture, &board, sequence.is_some());
+    let mut met = positions(&board, sequence.as_deref().unwrap_or(&[]));
+    for pair in machine.pairs() {
+        let to = board.step(pair.0, pair.1).to;
+        let positions = met.remove(&pair).unwrap_or_default();
+        match machine.rules.get(&pair) {
+            Some(&rule) if rule == to => picture.add(pair, Some(to), Line::Rule, positions),
+            Some(&rule) => {
+                picture.add(pair, Some(to), Line::Fault, positions);
+                picture.add(pair, Some(rule), Line::Specified, Vec::new());
+            }
+            None if unspecified || !positions.is_empty() => {
+                picture.add(pair, Some(to), Line::Unspecified, positions);
+            }
+            None => {}
         }
-        let (from, to, marked) = (Some(state), Target::State(to.next), positions.is_some());
-        picture.add(
-            Arrow {
-                from,
-                to,
-                line,
-                marked,
-            },
-            text,
-        );
     }
     Ok(picture)
 }
 
-fn title(choices: &[u8], sequence: Option<&[u8]>) -> String {
-    let numbers = |list: &[u8]| list.iter().map(|x| format!(" {x}")).collect::<String>();
-    let board = numbers(choices);
-    match sequence {
-        None => format!("board{board} conforms"),
-        Some(presses) => format!("board{board} departs on{}", numbers(presses)),
+/// The state in which a board wakes, and state 0 beside it if it is another.
+fn add_wakings(picture: &mut Picture, board: &Board, marked: bool) {
+    match board.wake().to.next {
+        0 => picture.add_waking(0, Line::Rule, marked),
+        state => {
+            picture.add_waking(state, Line::Fault, marked);
+            picture.add_waking(0, Line::Specified, false);
+        }
     }
 }
 
-/// What a transition of a board is.
-fn line(machine: &Machine, pair: Pair, to: Move) -> Line {
-    match machine.rules.get(&pair) {
-        None => Line::Unspecified,
-        Some(&rule) if rule == to => Line::Rule,
-        Some(_) => Line::Fault,
+fn title(choices: &[u8], sequence: Option<&[u8]>, names: &Names) -> String {
+    let choices: String = choices.iter().map(|choice| format!(" {choice}")).collect();
+    let presses = |presses: &[u8]| -> String {
+        let presses = presses.iter().map(|&press| names.press(press));
+        presses.map(|press| format!(" {press}")).collect()
+    };
+    match sequence {
+        None => format!("board{choices} conforms"),
+        Some(sequence) => format!("board{choices} departs on{}", presses(sequence)),
     }
 }
 
 /// The positions at which a board meets each pair.
-fn positions(machine: &Machine, choices: &[u8], presses: &[u8]) -> BTreeMap<Pair, Vec<String>> {
-    let board = machine.with(choices);
-    let mut met: BTreeMap<_, Vec<String>> = BTreeMap::new();
+fn positions(board: &Board, presses: &[u8]) -> BTreeMap<Pair, Vec<usize>> {
+    let mut met: BTreeMap<Pair, Vec<usize>> = BTreeMap::new();
     let mut state = board.wake().to.next;
     for (i, &press) in presses.iter().enumerate() {
-        met.entry((state, press)).or_default().push(i.to_string());
+        met.entry((state, press)).or_default().push(i);
         state = board.step(state, press).to.next;
     }
     met

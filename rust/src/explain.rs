@@ -1,10 +1,14 @@
 //! Answers in words. What is said to be refused, sounded or departing, the library said; this module says where and how.
 
+mod answers;
+
 use crate::commands::{Command, FAULT, PRESS, RULE, START, TEST, commands};
-use crate::machine::{Choice, Machine, Move, Origin, Site};
+use crate::machine::{Machine, Site};
+use crate::names::Names;
 use crate::text::{spelled, words};
-use crate::{MOST_OPEN_PAIRS, Refusal, meaning, run};
-use std::fmt::Write;
+use crate::{MOST_OPEN_PAIRS, Refusal, meaning};
+
+pub use answers::{board, comparison, sequence, trial, verdict};
 
 /// Why reading refuses a sheet, with what the number means at its place. For other numbers their meaning alone.
 ///
@@ -111,9 +115,12 @@ fn wrong_alternative(before: &Machine, command: Command) -> Option<String> {
     match *command.operands() {
         [s, x, _, _] if before.rules.contains_key(&(s, x)) => Some(format!(
             "it equals the RULE at {}",
-            site(Site::Pair((s, x)))
+            Names::NUMBERS.site(Site::Pair((s, x)))
         )),
-        [s, x, _, _] => Some(format!("no RULE at {}", site(Site::Pair((s, x))))),
+        [s, x, _, _] => Some(format!(
+            "no RULE at {}",
+            Names::NUMBERS.site(Site::Pair((s, x)))
+        )),
         _ => Some("every board may wake in state 0".to_string()),
     }
 }
@@ -159,76 +166,4 @@ fn unreached(before: &Machine) -> Option<String> {
             all.join(", ")
         )),
     }
-}
-
-/// `state 1, press 0`, or `waking`.
-pub(crate) fn site(site: Site) -> String {
-    match site {
-        Site::Waking => "waking".to_string(),
-        Site::Pair((state, press)) => format!("state {state}, press {press}"),
-    }
-}
-
-/// `sound 0, next state 1`
-pub(crate) fn to(to: Move) -> String {
-    format!("sound {}, next state {}", to.sound, to.next)
-}
-
-/// What one choice does, beside choice 0 where that is the specified one.
-fn choice(all: &[Choice], number: usize) -> String {
-    let chosen = all[number];
-    match chosen.origin {
-        Origin::Rule => format!("the RULE: {}", to(chosen.to)),
-        Origin::Fault => format!("a FAULT: {}; the RULE: {}", to(chosen.to), to(all[0].to)),
-        Origin::Unspecified => format!("{}; no RULE", to(chosen.to)),
-        Origin::Waking if number == 0 => "state 0, as specified".to_string(),
-        Origin::Waking => format!("START: state {}; specified: state 0", chosen.to.next),
-    }
-}
-
-/// Which open pair each choice of a board is, and what it does there. The board is one of the sheet's.
-///
-/// ```
-/// let sheet = ranthelo::text::assemble(b"SIZE 1 1 2\n RULE 0 0 0 0\n FAULT 0 0 1 0")?;
-/// let machine = ranthelo::machine::Machine::of(&sheet)?;
-/// assert_eq!(
-///     ranthelo::explain::board(&machine, &[1]),
-///     "open pair 0, state 0, press 0: choice 1, a FAULT: sound 1, next state 0; the RULE: sound 0, next state 0\n",
-/// );
-/// # Ok::<(), Box<dyn std::error::Error>>(())
-/// ```
-pub fn board(machine: &Machine, board: &[u8]) -> String {
-    let board = machine.with(board);
-    let lines = board.taken().enumerate().map(|(i, (pair, number))| {
-        let (site, does) = (site(pair.site), choice(&pair.choices, number));
-        format!("open pair {i}, {site}: choice {number}, {does}\n")
-    });
-    lines.collect()
-}
-
-/// A sequence of presses that the specification defines, step by step: the states, the specified sounds and those that the
-/// board gives. Both kinds of sounds are the library's: those specified are those of the board with choices 0.
-pub fn sequence(sheet: &[u8], choices: &[u8], presses: &[u8]) -> Result<String, Refusal> {
-    let machine = Machine::of(sheet)?;
-    let specified = run(sheet, &vec![0; choices.len()], presses)?.sounds;
-    let given = run(sheet, choices, presses)?.sounds;
-    let board = machine.with(choices);
-    let mut lines = "position  press  specified         given\n".to_string();
-    let (mut state, mut other) = (0, board.wake().to.next);
-    for (i, &press) in presses.iter().enumerate() {
-        let step = board.step(other, press);
-        let next = machine
-            .rules
-            .get(&(state, press))
-            .map_or(state, |to| to.next);
-        let one = format!("{state} -> {next}, sound {}", specified[i]);
-        let two = format!("{other} -> {}, sound {}", step.to.next, given[i]);
-        let pair = step.open_pair.map(|pair| format!("open pair {pair}"));
-        let departs = (specified[i] != given[i]).then(|| "departs".to_string());
-        let notes: Vec<String> = pair.into_iter().chain(departs).collect();
-        let line = format!("{i:<10}{press:<7}{one:<18}{two:<18}{}", notes.join(", "));
-        writeln!(lines, "{}", line.trim_end()).expect("a string takes all");
-        (state, other) = (next, step.to.next);
-    }
-    Ok(lines)
 }

@@ -32,6 +32,7 @@
 //! What the operations answer is proved. The modules [`text`], [`commands`], [`machine`], [`list`], [`explain`] and [`draw`]
 //! are plain Rust: they spell and show, and decide nothing of a sheet.
 
+mod columns;
 pub mod commands;
 pub mod draw;
 pub mod explain;

@@ -1,8 +1,9 @@
 //! A sheet command by command, accepted or not.
 
 use crate::commands::{Command, FAULT, PRESS, QUIET, RULE, SIZE, START, TEST, commands};
-use crate::explain::{reason, site, to};
+use crate::explain::reason;
 use crate::machine::{Machine, Move, OpenPair, Origin};
+use crate::names::Names;
 use crate::text::{spelled, words};
 use crate::{Refusal, read};
 use std::ops::Range;
@@ -73,7 +74,10 @@ fn meaning(command: Command) -> String {
             format!("{n}, {k}, {m}")
         }
         (RULE | FAULT, &[s, x, sound, next]) => {
-            format!("state {s}, press {x}: {}", to(Move { sound, next }))
+            format!(
+                "state {s}, press {x}: {}",
+                Names::NUMBERS.to(Move { sound, next })
+            )
         }
         (START, &[t]) => format!("a board may wake in state {t}"),
         (QUIET, _) => "a press without a RULE gives sound 0 and stays".to_string(),
@@ -122,14 +126,17 @@ fn in_words(sheet: &[u8], part: Range<usize>) -> String {
 /// An open pair with its choices by number.
 fn open_pair(number: usize, pair: &OpenPair) -> String {
     let count = pair.choices.len();
-    let mut lines = format!("open pair {number}: {}, {count} choices\n", site(pair.site));
+    let mut lines = format!(
+        "open pair {number}: {}, {count} choices\n",
+        Names::NUMBERS.site(pair.site)
+    );
     if pair.choices[0].origin == Origin::Unspecified {
         return lines + &unspecified(pair);
     }
     for (i, choice) in pair.choices.iter().enumerate() {
         let does = match choice.origin {
-            Origin::Rule => format!("RULE   {}", to(choice.to)),
-            Origin::Fault => format!("FAULT  {}", to(choice.to)),
+            Origin::Rule => format!("RULE   {}", Names::NUMBERS.to(choice.to)),
+            Origin::Fault => format!("FAULT  {}", Names::NUMBERS.to(choice.to)),
             _ if i == 0 => "state 0".to_string(),
             _ => format!("state {}", choice.to.next),
         };

@@ -24,6 +24,13 @@ fn called(names: &[String], number: u8) -> String {
 }
 
 impl Names {
+    /// No names: everything is called by its number.
+    pub const NUMBERS: Names = Names {
+        states: Vec::new(),
+        presses: Vec::new(),
+        sounds: Vec::new(),
+    };
+
     pub fn state(&self, state: u8) -> String {
         called(&self.states, state)
     }

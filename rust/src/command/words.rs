@@ -67,6 +67,16 @@ pub static SVG: Choice = Choice {
     value: None,
     does: "draw SVG and not DOT",
 };
+pub static TABLE: Choice = Choice {
+    name: "--table",
+    value: None,
+    does: "a table of text: states by presses",
+};
+pub static MEALY: Choice = Choice {
+    name: "--mealy",
+    value: None,
+    does: "a Mealy machine in DOT: an edge for each press",
+};
 
 const SHEET: &[&str] = &["SHEET"];
 
@@ -171,12 +181,15 @@ form alone. Status 0, or 2 if the sheet is refused.",
     },
     Word {
         name: "draw",
-        purpose: "a picture: Graphviz's DOT, or SVG",
+        purpose: "a picture: Graphviz's DOT, SVG, or a table",
         arguments: SHEET,
-        options: &[&BOARD, &UNSPECIFIED, &SVG, &OUTPUT],
+        options: &[&BOARD, &UNSPECIFIED, &SVG, &TABLE, &MEALY, &OUTPUT],
         details: "\
 Draws the machine: RULEs solid, FAULTs and STARTs dashed, arrows labelled press/sound. With --board that board, with its
-departing sequence marked in red, each press with its positions.",
+departing sequence thick and red, each press with its positions, and with what is specified in grey beside each fault.
+
+--table writes states by presses, each cell with sound and next state and with its faults: also for machines that are too
+large for a picture. --mealy writes the specified machine, or the board, as learners read and write them.",
         perform: showing::draw,
     },
 ];

@@ -7,20 +7,29 @@ pub fn dot(picture: &Picture) -> String {
     let mut text =
         "digraph {\n  rankdir=LR\n  node [shape=circle]\n  start [shape=point]\n".to_string();
     if !picture.title.is_empty() {
-        text += &format!("  label=\"{}\"\n", picture.title);
+        text += &format!("  label=\"{}\"\n", escaped(&picture.title));
     }
+    let arrows = picture.arrows();
     for state in 0..picture.states {
-        if !picture.arrows.keys().any(|arrow| touches(arrow, state)) {
+        let name = picture.names.state(state);
+        if name != state.to_string() {
+            text += &format!("  {state} [label=\"{}\"]\n", escaped(&name));
+        } else if !arrows.keys().any(|arrow| touches(arrow, state)) {
             text += &format!("  {state}\n");
         }
     }
-    if picture.arrows.keys().any(|arrow| arrow.to == Target::Any) {
+    if arrows.keys().any(|arrow| arrow.to == Target::Any) {
         text += "  any [label=\"any state\" shape=plaintext]\n";
     }
-    for (arrow, labels) in &picture.arrows {
+    for (arrow, labels) in &arrows {
         text += &line(arrow, labels);
     }
     text + "}\n"
+}
+
+/// The inside of a quoted string of DOT.
+pub(super) fn escaped(text: &str) -> String {
+    text.replace('\\', "\\\\").replace('"', "\\\"")
 }
 
 fn touches(arrow: &Arrow, state: u8) -> bool {
@@ -35,14 +44,18 @@ fn line(arrow: &Arrow, labels: &[String]) -> String {
         Target::State(state) => state.to_string(),
         Target::Any => "any".to_string(),
     };
+    let labels: Vec<String> = labels.iter().map(|label| escaped(label)).collect();
     let label = (!labels.is_empty()).then(|| format!("label=\"{}\"", labels.join("\\n")));
     let style = match arrow.line {
         Line::Rule => None,
         Line::Fault => Some("style=dashed".to_string()),
         Line::Unspecified => Some("style=dotted".to_string()),
+        Line::Specified => Some("color=gray fontcolor=gray".to_string()),
     };
-    let color = arrow.marked.then(|| "color=red fontcolor=red".to_string());
-    let attributes: Vec<String> = [label, style, color].into_iter().flatten().collect();
+    let mark = arrow
+        .marked
+        .then(|| "color=red fontcolor=red penwidth=3".to_string());
+    let attributes: Vec<String> = [label, style, mark].into_iter().flatten().collect();
     match attributes.as_slice() {
         [] => format!("  {from} -> {to}\n"),
         all => format!("  {from} -> {to} [{}]\n", all.join(" ")),

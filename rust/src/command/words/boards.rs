@@ -1,6 +1,5 @@
 //! `run`, `first-failed` and `compare`.
 
-use super::judging::departure;
 use super::{BOARD, EXPLAIN, PRESS, fields};
 use crate::command::Status;
 use crate::command::arguments::Arguments;
@@ -8,7 +7,7 @@ use crate::command::failure::Failure;
 use crate::command::input::Input;
 use crate::command::output::print;
 use ranthelo::commands::commands;
-use ranthelo::{Comparison, Failure as Failed, Refusal};
+use ranthelo::{Comparison, Failure as Failed, Names, explain};
 
 /// The sheet and the board.
 fn open(arguments: &Arguments) -> Result<(Input, Vec<u8>), Failure> {
@@ -29,27 +28,19 @@ pub fn first_failed(arguments: &Arguments) -> Result<Status, Failure> {
     let sheet = &input.sheet;
     let trial = ranthelo::first_failed(sheet, &board).map_err(|r| input.refused(r))?;
     let used = fields("used", trial.used.pairs());
-    let Some(Failed { test, position }) = trial.failure else {
-        return print(format!("passes\n{used}").as_bytes());
+    let (mut text, status) = match trial.failure {
+        None => (format!("passes\n{used}"), Status::Good),
+        Some(Failed { test, position }) => {
+            let text = format!("fails\ntest {test}\nposition {position}\n{used}");
+            (text, Status::Wanting)
+        }
     };
-    let mut text = format!("fails\ntest {test}\nposition {position}\n{used}");
     if arguments.has(EXPLAIN.name) {
-        let steps = failed_steps(sheet, &board, test, position);
-        text += &steps.map_err(|r| input.refused(r))?;
+        let told = explain::trial(sheet, &board, &trial, &Names::default());
+        text += &format!("\n{}", told.map_err(|r| input.refused(r))?);
     }
     print(text.as_bytes())?;
-    Ok(Status::Wanting)
-}
-
-/// The failed test up to its first wrong sound.
-fn failed_steps(
-    sheet: &[u8],
-    board: &[u8],
-    test: usize,
-    position: usize,
-) -> Result<String, Refusal> {
-    let presses = presses(ranthelo::test_part(sheet, test)?);
-    departure(sheet, board, &presses[..=position])
+    Ok(status)
 }
 
 /// The presses of PRESS commands.
@@ -61,14 +52,18 @@ pub fn presses(part: &[u8]) -> Vec<u8> {
 pub fn compare(arguments: &Arguments) -> Result<Status, Failure> {
     let (input, board) = open(arguments)?;
     let sheet = &input.sheet;
-    let sequence = match ranthelo::compare(sheet, &board).map_err(|r| input.refused(r))? {
-        Comparison::Conforms => return print(b"conforms\n"),
-        Comparison::Departs { sequence } => sequence,
+    let comparison = ranthelo::compare(sheet, &board).map_err(|r| input.refused(r))?;
+    let (mut text, status) = match &comparison {
+        Comparison::Conforms => ("conforms\n".to_string(), Status::Good),
+        Comparison::Departs { sequence } => {
+            let text = format!("departs\n{}", fields("press", sequence));
+            (text, Status::Wanting)
+        }
     };
-    let mut text = format!("departs\n{}", fields("press", &sequence));
     if arguments.has(EXPLAIN.name) {
-        text += &departure(sheet, &board, &sequence).map_err(|r| input.refused(r))?;
+        let told = explain::comparison(sheet, &board, &comparison, &Names::default());
+        text += &format!("\n{}", told.map_err(|r| input.refused(r))?);
     }
     print(text.as_bytes())?;
-    Ok(Status::Wanting)
+    Ok(status)
 }
