@@ -47,13 +47,13 @@ survivor
 board 0 1
 press 0 1 0
 
-open pair 0, state 0, press 1: choice 0, sound 0, next state 0; no RULE
 open pair 1, state 1, press 1: choice 1, a FAULT: sound 1, next state 1; the RULE: sound 1, next state 0
+the other open pair: choice 0, sound 0, next state 0; no RULE
 
-position  press  specified         given
-0         0      0 -> 1, sound 1   0 -> 1, sound 1
-1         1      1 -> 0, sound 1   1 -> 1, sound 1   open pair 1
-2         0      0 -> 1, sound 1   1 -> 1, sound 0   departs
+position   press   specified         given
+0          0       0 -> 1, sound 1   0 -> 1, sound 1
+1          1       1 -> 0, sound 1   1 -> 1, sound 1   open pair 1
+2          0       0 -> 1, sound 1   1 -> 1, sound 0   departs
 ";
     gives(&["judge", "--explain", "P4.sheet"], 1, expected, "");
 }
@@ -63,6 +63,10 @@ fn judge_explains_completeness_and_refusals() {
     let output = output(&["judge", "P2.sheet", "--explain"]);
     assert_eq!(status(&output), 0);
     assert!(text(&output.stdout).starts_with("complete\n\nEvery departing board fails some test."));
+    let nothing = common::output(&["judge", "--explain", "P6.sheet"]);
+    let told = "complete\n\nThe sheet has no FAULT and no START, so no board departs: ";
+    assert_eq!(status(&nothing), 0);
+    assert!(text(&nothing.stdout).starts_with(told));
     gives(
         &["judge", "--explain", "17-states.sheet"],
         2,
@@ -211,13 +215,28 @@ fn first_failed() {
     let steps = "
 open pair 0, state 1, press 1: choice 1, a FAULT: sound 1, next state 1; the RULE: sound 1, next state 0
 
-position  press  specified         given
-0         0      0 -> 1, sound 1   0 -> 1, sound 1
-1         1      1 -> 0, sound 1   1 -> 1, sound 1   open pair 0
-2         0      0 -> 1, sound 1   1 -> 1, sound 0   departs
+position   press   specified         given
+0          0       0 -> 1, sound 1   0 -> 1, sound 1
+1          1       1 -> 0, sound 1   1 -> 1, sound 1   open pair 0
+2          0       0 -> 1, sound 1   1 -> 1, sound 0   departs
 ";
     let explained = ["first-failed", "P2.sheet", "--board", "1", "--explain"];
     gives(&explained, 1, &format!("{failed}{steps}"), "");
+    let yet = "It gives the specified sounds in the one test.\nYet it departs, which no test shows:\n\nposition";
+    let missed = steps.replace("\nposition", &format!("\n{yet}"));
+    let explained = ["first-failed", "P1.sheet", "--board", "1", "--explain"];
+    gives(&explained, 0, &format!("passes\nused 0\n{missed}"), "");
+    let passes = "\
+passes
+used 0
+
+the open pair: choice 0, as specified
+
+It gives the specified sounds in the one test.
+It conforms: it gives the specified sound on every sequence of presses that the specification defines.
+";
+    let explained = ["first-failed", "P1.sheet", "--board", "0", "--explain"];
+    gives(&explained, 0, passes, "");
     gives(
         &["first-failed", "P2.sheet", "--board", "2"],
         2,
@@ -247,6 +266,22 @@ fn compare() {
         .strip_prefix("survivor\nboard 0 1\n")
         .expect("a survivor");
     assert_eq!(explained, format!("departs\n{steps}"));
+    let conforms = "\
+conforms
+
+open pair 0, state 0, press 1: choice 3, sound 1, next state 1; no RULE
+the other open pair: choice 0, as specified
+
+It conforms: it gives the specified sound on every sequence of presses that the specification defines.
+On these sequences the specification and the board are in the following states together, and there each RULE
+gives the sound that the board gives:
+
+specified   board
+0           0
+1           1
+";
+    let explained = ["compare", "P4.sheet", "--board", "3,0", "--explain"];
+    gives(&explained, 0, conforms, "");
     gives(
         &["compare", "P1.sheet", "--board", ""],
         2,
@@ -418,10 +453,10 @@ departs
 press 0
 
 open pair 0, waking: choice 1, START: state 1; specified: state 0
-open pair 1, state 1, press 1: choice 0, the RULE: sound 1, next state 0
+the other open pair: choice 0, as specified
 
-position  press  specified         given
-0         0      0 -> 1, sound 1   1 -> 1, sound 0   departs
+position   press   specified         given
+0          0       0 -> 1, sound 1   1 -> 1, sound 0   departs
 ";
     gives(
         &["compare", "--explain", "--board", "1,0", "P1-start.txt"],
@@ -500,7 +535,10 @@ digraph {
     let drawn = output(&["draw", "--board", "0,1", "P4.sheet"]);
     let drawn = text(&drawn.stdout);
     assert!(drawn.contains("label=\"board 0 1 departs on 0 1 0\""));
-    assert!(drawn.contains("1 -> 1 [label=\"1/1 at 1\" style=dashed color=red fontcolor=red]"));
+    let path = "1 -> 1 [label=\"1/1 at 1\" style=dashed color=red fontcolor=red penwidth=3]";
+    assert!(drawn.contains(path), "{drawn}");
+    let specified = "1 -> 0 [label=\"1/1\" color=gray fontcolor=gray]";
+    assert!(drawn.contains(specified), "{drawn}");
     gives(
         &["draw", "--board", "0", "P4.sheet"],
         2,
@@ -510,6 +548,56 @@ digraph {
     let picture = file("P4.svg", b"");
     gives(&["draw", "--svg", "P4.sheet", "-o", &picture], 0, "", "");
     assert!(fs::read_to_string(picture).unwrap().starts_with("<svg "));
+}
+
+#[test]
+fn draw_a_table() {
+    let table = "\
+fresh start: state 0
+
+state   press 0   press 1
+0       1 -> 1    ?
+1       0 -> 1    1 -> 0
+                  ! 1 -> 1
+
+sound -> next state; ! a FAULT; ? no RULE
+";
+    gives(&["draw", "--table", "P4.sheet"], 0, table, "");
+    let table = "\
+board 1 0 departs on 0
+
+fresh start: ! state 1, = state 0
+
+state   press 0       press 1
+0       1 -> 1        0 -> 0
+1       0 -> 1 at 0   1 -> 0
+
+sound -> next state; ! a START; = what is specified there; at a position of the departing sequence
+";
+    gives(
+        &["draw", "--table", "--board", "1,0", "P1-start.txt"],
+        0,
+        table,
+        "",
+    );
+}
+
+#[test]
+fn draw_a_mealy_machine() {
+    let nodes = "  __start0 [label=\"\" shape=\"none\"];\n  s0 [shape=\"circle\" label=\"s0\"];\n  \
+                 s1 [shape=\"circle\" label=\"s1\"];\n  __start0 -> s0;\n";
+    let rules = "  s0 -> s1 [label=\"0/1\"];\n  s1 -> s1 [label=\"0/0\"];\n";
+    let specified = format!("digraph {{\n{nodes}{rules}  s1 -> s0 [label=\"1/1\"];\n}}\n");
+    gives(&["draw", "--mealy", "P4.sheet"], 0, &specified, "");
+    let board = format!("digraph {{\n{nodes}{rules}  s1 -> s1 [label=\"1/1\"];\n}}\n");
+    gives(
+        &["draw", "--mealy", "--board", "0,1", "P4.sheet"],
+        0,
+        &board,
+        "",
+    );
+    let both = "ranthelo: draw takes --svg or --mealy, not both; see ranthelo draw --help\n";
+    gives(&["draw", "--mealy", "--svg", "P4.sheet"], 3, "", both);
 }
 
 #[test]

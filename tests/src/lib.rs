@@ -7,5 +7,6 @@ pub mod enumeration;
 pub mod generator;
 pub mod guarded;
 pub mod listed;
+pub mod pictures;
 pub mod reference;
 pub mod seeded;

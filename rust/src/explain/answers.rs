@@ -1,6 +1,7 @@
 //! What answers mean: which choices a board takes, how it sounds step by step, why a good answer is good.
 
 use crate::columns::columns;
+use crate::commands::commands;
 use crate::machine::{Choice, Machine, OpenPair, Origin};
 use crate::names::Names;
 use crate::{Comparison, Failure, Refusal, Trial, Verdict, compare, run, test_part};
@@ -17,7 +18,7 @@ FAULTs and STARTs say what production may do wrong; with them there is something
 ";
 
 const CONFORMS: &str = "\
-It gives the specified sound on every sequence of presses that the specification defines.
+It conforms: it gives the specified sound on every sequence of presses that the specification defines.
 ";
 
 const TOGETHER: &str = "\
@@ -76,7 +77,8 @@ pub fn trial(
 ) -> Result<String, Refusal> {
     if let Some(Failure { test, position }) = trial.failure {
         let presses = presses(test_part(sheet, test)?);
-        return departure(sheet, choices, &presses[..=position], names);
+        let until = presses.get(..=position).unwrap_or(&presses);
+        return departure(sheet, choices, until, names);
     }
     let choices_told = board(sheet, choices, names)?;
     let passes = match Machine::of(sheet)?.tests.len() {
@@ -85,18 +87,18 @@ pub fn trial(
         tests => format!("It gives the specified sounds in all {tests} tests."),
     };
     let told = match compare(sheet, choices)? {
-        Comparison::Conforms => format!(" And it conforms.\n{CONFORMS}"),
+        Comparison::Conforms => CONFORMS.to_string(),
         Comparison::Departs { sequence: presses } => {
             let steps = sequence(sheet, choices, &presses, names)?;
-            format!(" Yet it departs, which no test shows:\n\n{steps}")
+            format!("Yet it departs, which no test shows:\n\n{steps}")
         }
     };
-    Ok(format!("{choices_told}\n{passes}{told}"))
+    Ok(format!("{choices_told}\n{passes}\n{told}"))
 }
 
 /// The presses of PRESS commands.
 fn presses(part: &[u8]) -> Vec<u8> {
-    let operands = crate::commands::commands(part).flat_map(|command| command.operands());
+    let operands = commands(part).flat_map(|command| command.operands());
     operands.copied().collect()
 }
 

@@ -7,7 +7,7 @@ use std::collections::BTreeMap;
 
 /// The room around a label, and between it and its arrow.
 const ROOM: f64 = 1.5;
-const BESIDE: f64 = 3.0;
+const BESIDE: f64 = 4.5;
 
 /// How far from a label another arrow is near.
 const NEAR: f64 = 5.0;
@@ -130,10 +130,11 @@ fn candidates(half: Point, route: &Route) -> Vec<(f64, Area)> {
     }
 }
 
-/// The area beyond a place in a direction.
+/// The area beyond a place in a direction: beside it by an edge, or in a slanting direction by a corner.
 fn area_beyond(half: Point, place: Point, direction: Point, gap: f64) -> Area {
-    let reach = direction.x.abs() * half.x + direction.y.abs() * half.y;
-    Area::around(place + direction * (reach + gap), half)
+    let part = |x: f64| (1.6 * x).clamp(-1.0, 1.0);
+    let reach = Point::new(part(direction.x) * half.x, part(direction.y) * half.y);
+    Area::around(place + direction * gap + reach, half)
 }
 
 /// Along the curve, from its middle on: to one side, to the other, on it.
