@@ -1,4 +1,5 @@
-//! Pictures of a machine, or of a board with its departing sequence: Graphviz's DOT, SVG, a table, a Mealy machine in DOT.
+//! Pictures of a machine, or of a board with its departing sequence: Graphviz's DOT, SVG, a table, a Mealy machine in
+//! DOT.
 
 mod dot;
 mod mealy;
@@ -36,8 +37,8 @@ pub enum Target {
     Any,
 }
 
-/// An arrow: where from (none for a fresh start) and where to, what it stands for, and whether the departing sequence goes
-/// along it.
+/// An arrow: where from (none for a fresh start) and where to, what it stands for, and whether the departing sequence
+/// goes along it.
 #[derive(Clone, Copy, Debug, PartialEq, Eq, PartialOrd, Ord)]
 pub struct Arrow {
     pub from: Option<u8>,
@@ -226,8 +227,8 @@ fn transitions(machine: &Machine, pair: Pair) -> Vec<(Option<Move>, Line)> {
     choices.into_iter().map(transition).collect()
 }
 
-/// A board of a sheet; its departing sequence is marked, each press with its positions. What is specified stands beside each
-/// fault. On demand also the presses without a RULE that the sequence does not meet.
+/// A board of a sheet; its departing sequence is marked, each press with its positions. What is specified stands beside
+/// each fault. On demand also the presses without a RULE that the sequence does not meet.
 pub fn board(
     sheet: &[u8],
     choices: &[u8],

@@ -1,5 +1,5 @@
-//! Pictures: DOT that a small grammar accepts; SVG with balanced elements, nothing outside the frame, no label on a state or on
-//! another label; tables and Mealy machines with every transition.
+//! Pictures: DOT that a small grammar accepts; SVG with balanced elements, nothing outside the frame, no label on a
+//! state or on another label; tables and Mealy machines with every transition.
 
 use ranthelo::draw::{self, Line, Picture, Target};
 use ranthelo::machine::Machine;

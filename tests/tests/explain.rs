@@ -1,4 +1,5 @@
-//! The package's own view of a sheet, against the library and the enumeration: open pairs, choices, steps; and answers in words.
+//! The package's own view of a sheet, against the library and the enumeration: open pairs, choices, steps; and answers
+//! in words.
 
 use ranthelo::machine::{Machine, Origin, Site};
 use ranthelo::{explain, Comparison, Names, Verdict};

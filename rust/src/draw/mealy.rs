@@ -1,9 +1,11 @@
-//! A Mealy machine in DOT, as learners and benchmarks write it: an edge for each press, and `__start0` before the first state.
+//! A Mealy machine in DOT, as learners and benchmarks write it: an edge for each press, and `__start0` before the first
+//! state.
 
 use super::dot::escaped;
 use super::{Line, Picture, Transition};
 
-/// The picture as a Mealy machine: what is specified, or what a board does. The other lines of the picture are left out.
+/// The picture as a Mealy machine: what is specified, or what a board does. The other lines of the picture are left
+/// out.
 ///
 /// ```
 /// use ranthelo::{Names, draw, machine::Machine};

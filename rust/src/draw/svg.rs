@@ -1,5 +1,5 @@
-//! SVG. The frame is as large as what is drawn, and no label lies on a state or on another label: if there is no room for that,
-//! the states move apart.
+//! SVG. The frame is as large as what is drawn, and no label lies on a state or on another label: if there is no room
+//! for that, the states move apart.
 
 mod geometry;
 mod labels;

@@ -68,7 +68,8 @@ pub fn comparison(
     }
 }
 
-/// What a trial means: how a board comes to its first wrong sound, or whether the list misses something by letting it pass.
+/// What a trial means: how a board comes to its first wrong sound, or whether the list misses something by letting it
+/// pass.
 pub fn trial(
     sheet: &[u8],
     choices: &[u8],
@@ -188,7 +189,8 @@ fn rest(pairs: &[&OpenPair], all: usize, names: &Names) -> String {
 }
 
 /// A sequence of presses step by step: the states, the specified sounds and those that the board gives, as long as the
-/// specification defines it. Both kinds of sounds are the library's: those specified are those of the board with choices 0.
+/// specification defines it. Both kinds of sounds are the library's: those specified are those of the board with
+/// choices 0.
 pub fn sequence(
     sheet: &[u8],
     choices: &[u8],

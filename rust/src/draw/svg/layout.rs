@@ -9,16 +9,16 @@ use std::f64::consts::{FRAC_PI_2, PI};
 const ROOM: f64 = 110.0;
 const PASSING: f64 = 9.0;
 
-/// How far the first of several arrows between two states bends, at least and as a part of its length; and how many times that
-/// lies between two of them.
+/// How far the first of several arrows between two states bends, at least and as a part of its length; and how many
+/// times that lies between two of them.
 const BEND: f64 = 14.0;
 const BENT: f64 = 0.035;
 const FURTHER: f64 = 1.8;
 const BENDS: i32 = 12;
 
-/// How near the ends of two arrows should not come, and how many further bends may keep them apart.
-const HEAD: f64 = 8.0;
-const CROWDED: f64 = 0.4;
+/// How far apart the ends of arrows at a state are, where there is room, and how often they push each other away.
+const APART: f64 = 10.0;
+const PUSHES: usize = 60;
 
 /// The length of a loop, and of an arrow that comes from nowhere or goes there; and how much longer further ones are.
 const LOOP: f64 = 38.0;
@@ -89,7 +89,7 @@ impl Layout {
     pub fn routes<'a>(&self, arrows: impl Iterator<Item = &'a Arrow>) -> Option<Vec<Route>> {
         let arrows: Vec<&Arrow> = arrows.collect();
         let mut around = Around::new(self);
-        let (mut between, mut ends) = (BTreeMap::new(), Vec::new());
+        let mut between = BTreeMap::new();
         let back = |from, to| {
             let back = |arrow: &&Arrow| (arrow.from, arrow.to) == (Some(to), Target::State(from));
             arrows.iter().any(back)
@@ -102,31 +102,52 @@ impl Layout {
                 (Some(from), Target::State(to)) if from == to => around.turn(from),
                 (Some(from), Target::State(to)) => {
                     let used = between.entry((from.min(to), from.max(to))).or_default();
-                    let route = self.chord(from, to, back(from, to), used, &ends)?;
-                    let Curve([start, .., end]) = route.curve;
-                    ends.extend([start, end]);
-                    route
+                    self.chord(from, to, back(from, to), used)?
                 }
                 (Some(from), Target::Any) => around.leave(from),
                 (None, Target::State(to)) => around.arrive(to),
-                (None, Target::Any) => continue,
+                (None, Target::Any) => unreachable!("a fresh start leads to a state"),
             };
             routes.insert(i, route);
         }
-        Some(routes.into_values().collect())
+        let mut routes: Vec<Route> = routes.into_values().collect();
+        self.spread(&arrows, &mut routes);
+        Some(routes)
     }
 
-    /// From one state to another, bent so that it keeps away from all others and from the arrows between the two, which have
-    /// used some bends already; and, as far as it can, from the ends of other arrows. If arrows lead back, they have the other
-    /// side.
-    fn chord(
-        &self,
-        from: u8,
-        to: u8,
-        back: bool,
-        used: &mut Vec<f64>,
-        ends: &[Point],
-    ) -> Option<Route> {
+    /// Moves the ends of arrows at each state apart, as long as the arrows keep away from the other states.
+    fn spread(&self, arrows: &[&Arrow], routes: &mut [Route]) {
+        let mut moved: Vec<Curve> = routes.iter().map(|route| route.curve).collect();
+        for (state, at) in self.states() {
+            let mut ends = ends(state, at, arrows, routes);
+            push_apart(&mut ends, APART / self.state);
+            for End {
+                route, last, angle, ..
+            } in ends
+            {
+                let Curve(points) = &mut moved[route];
+                let (end, pulled) = if last { (3, 2) } else { (0, 1) };
+                let (pull, direction) = (
+                    (points[pulled] - points[end]).length(),
+                    Point::at_angle(angle),
+                );
+                points[end] = at + direction * self.state;
+                points[pulled] = points[end] + direction * pull;
+            }
+        }
+        for ((arrow, route), curve) in arrows.iter().zip(routes).zip(moved) {
+            let states = (arrow.from, arrow.to);
+            if let (Some(from), Target::State(to)) = states
+                && self.passes(&curve, from, to)
+            {
+                route.curve = curve;
+            }
+        }
+    }
+
+    /// From one state to another, bent so that it keeps away from all others and from the arrows between the two, which
+    /// have used some bends already. If arrows lead back, they have the other side.
+    fn chord(&self, from: u8, to: u8, back: bool, used: &mut Vec<f64>) -> Option<Route> {
         let side = if from < to { 1.0 } else { -1.0 };
         let length = (self.place(to) - self.place(from)).length();
         let first = BEND.max(BENT * length);
@@ -140,9 +161,7 @@ impl Layout {
         });
         let curves = free.map(|(bend, cost)| (bend, cost, self.bow(from, to, bend)));
         let passing = curves.filter(|(_, _, curve)| self.passes(curve, from, to));
-        let (bend, _, curve) = passing
-            .map(|(bend, cost, curve)| (bend, cost + further * crowding(&curve, ends), curve))
-            .min_by(|one, other| one.1.total_cmp(&other.1))?;
+        let (bend, _, curve) = passing.min_by(|one, other| one.1.total_cmp(&other.1))?;
         used.push(bend * side);
         let labels = if bend > 0.0 {
             Labels::Left
@@ -173,14 +192,61 @@ impl Layout {
     }
 }
 
-/// What speaks against a curve that ends where others end.
-fn crowding(curve: &Curve, ends: &[Point]) -> f64 {
-    let Curve([start, .., end]) = *curve;
-    let near = |place: Point| {
-        ends.iter()
-            .filter(move |other| (**other - place).length() < HEAD)
-    };
-    CROWDED * (near(start).count() + near(end).count()) as f64
+/// An end of an arrow at a state: which arrow, whether its last end, and where on the state's rim. Those of loops and
+/// of arrows to and from nowhere stay where they are.
+struct End {
+    route: usize,
+    last: bool,
+    angle: f64,
+    stays: bool,
+}
+
+/// The ends at a state.
+fn ends(state: u8, at: Point, arrows: &[&Arrow], routes: &[Route]) -> Vec<End> {
+    let mut ends = Vec::new();
+    for (route, (arrow, Route { curve, .. })) in arrows.iter().zip(routes).enumerate() {
+        let Curve([start, .., end]) = *curve;
+        let stays = is_loop(arrow) || arrow.from.is_none() || arrow.to == Target::Any;
+        let mut add = |last: bool, place: Point| {
+            let gap = place - at;
+            let angle = gap.y.atan2(gap.x);
+            ends.push(End {
+                route,
+                last,
+                angle,
+                stays,
+            });
+        };
+        if arrow.from == Some(state) {
+            add(false, start);
+        }
+        if arrow.to == Target::State(state) {
+            add(true, end);
+        }
+    }
+    ends
+}
+
+/// Turns neighbours away from each other until they are so far apart, or as far as there is room.
+fn push_apart(ends: &mut [End], apart: f64) {
+    ends.sort_by(|one, other| one.angle.total_cmp(&other.angle));
+    let count = ends.len();
+    let apart = apart.min(1.6 * PI / count as f64);
+    for _ in 0..PUSHES {
+        for i in 0..count.saturating_sub(1) {
+            let missing = apart - (ends[i + 1].angle - ends[i].angle);
+            if missing > 0.0 {
+                let (one, other) = match (ends[i].stays, ends[i + 1].stays) {
+                    (true, true) => (0.0, 0.0),
+                    (true, false) => (0.0, missing),
+                    (false, true) => (missing, 0.0),
+                    (false, false) => (missing / 2.0, missing / 2.0),
+                };
+                ends[i].angle -= one;
+                ends[i + 1].angle += other;
+            }
+        }
+    }
 }
 
 fn is_loop(arrow: &Arrow) -> bool {
@@ -203,8 +269,8 @@ impl<'a> Around<'a> {
     fn direction(&mut self, state: u8, side: f64) -> (Point, f64) {
         let turns: &[f64] = match self.layout.count {
             1 => &[0.0, 90.0, -90.0, 180.0],
-            2..=4 => &[0.0, 50.0, -50.0, 100.0, -100.0],
-            _ => &[0.0, 50.0, -50.0],
+            2..=4 => &[0.0, 56.0, -56.0, 108.0, -108.0],
+            _ => &[0.0, 56.0, -56.0],
         };
         let levels = [(0.0, 0.0), (25.0, LONGER), (-25.0, 2.0 * LONGER)];
         let all = levels
