@@ -27,5 +27,5 @@ pub record PairEntered (m old new : List ℕ) (k : ℕ) (r : Bool) : Type 0 wher
   pub has : r ≡ true → PairIn m new k
 
 pub record AllEntered (m facts : List ℕ) (r : Bool) : Type 0 where
-  pub long : length facts ≡ 832
+  pub long : length facts ≡ 1088
   pub has : r ≡ true → FreeOk m facts

@@ -15,8 +15,9 @@ ghost use Rattle.cubes.specs.Facts.{Entered, PairEntered, AllEntered};
 pub type Facts = [u16; FACTS];
 
 // How many numbers the facts of a block are, and where in them are: by suspect, its outputs; by state, those that can be exchanged with
-// it; where each test begins; how many tests there are. Before them, by suspect and output, the next states.
-pub const FACTS: usize = 832;
+// it; where each test begins, the low half of its place; how many tests there are; the high half. Before them, by suspect and output, the
+// next states.
+pub const FACTS: usize = 1088;
 
 pub const OUTPUTS: usize = 512;
 
@@ -26,8 +27,10 @@ pub const TESTS: usize = 560;
 
 pub const TEST_COUNT: usize = 816;
 
+pub const TESTS_HIGH: usize = 832;
+
 fn put(facts: &mut Facts, at: usize, s: u8)
-    requires { ⌜ (length (now facts) ≡ 832) × (at < 832) × (s < 16) ⌝ }
+    requires { ⌜ (length (now facts) ≡ 1088) × (at < 1088) × (s < 16) ⌝ }
     ensures { λ r. ⌜ Put (now (facts .entry)) (now (facts .exit)) at s ⌝ }
 {
     let set = union(facts[at], one(s));
@@ -36,7 +39,7 @@ fn put(facts: &mut Facts, at: usize, s: u8)
 
 // One choice of a suspect; false where its output is none of the sheet's.
 fn enter(block: &Block, facts: &mut Facts, k: usize, i: u8, c: u16) -> bool
-    requires { ⌜ Wf (now block) × (k < 257) × (i ≡ siteAt (now block) k) × (i < 32) × (c < choicesOf (now block) i) × (length (now facts) ≡ 832) ⌝ }
+    requires { ⌜ Wf (now block) × (k < 257) × (i ≡ siteAt (now block) k) × (i < 32) × (c < choicesOf (now block) i) × (length (now facts) ≡ 1088) ⌝ }
     ensures { λ r. ⌜ Entered (now (block .entry)) (now (facts .entry)) (now (facts .exit)) k c r ⌝ }
 {
     let step = transition(block, k, c);
@@ -52,7 +55,7 @@ fn enter(block: &Block, facts: &mut Facts, k: usize, i: u8, c: u16) -> bool
 
 // Every choice of a pair.
 fn enter_pair(block: &Block, facts: &mut Facts, k: usize) -> bool
-    requires { ⌜ Wf (now block) × (k < 257) × (length (now facts) ≡ 832) ⌝ }
+    requires { ⌜ Wf (now block) × (k < 257) × (length (now facts) ≡ 1088) ⌝ }
     ensures { λ r. ⌜ PairEntered (now (block .entry)) (now (facts .entry)) (now (facts .exit)) k r ⌝ }
 {
     let i = site(block, k);
@@ -70,7 +73,7 @@ fn enter_pair(block: &Block, facts: &mut Facts, k: usize) -> bool
 
 // Every choice of every suspect; false where an output is none of the sheet's.
 pub fn enter_all(block: &Block, facts: &mut Facts) -> bool
-    requires { ⌜ Wf (now block) × (length (now facts) ≡ 832) ⌝ }
+    requires { ⌜ Wf (now block) × (length (now facts) ≡ 1088) ⌝ }
     ensures { λ r. ⌜ AllEntered (now (block .entry)) (now (facts .exit)) r ⌝ }
 {
     for k in 0..257 {

@@ -10,7 +10,7 @@ use Rattle.leaves.specs.Noted.{Changed}
 
 -- a test before its reset: where that stands, the state 16, and that it has not begun
 abbrev pub begin : List ℕ → ℕ → ℕ
-begin facts t = getD facts (560 + t) 0 * 65536 + 16 * 256 + 254
+begin facts t = (getD facts (832 + t) 0 * 65536 + getD facts (560 + t) 0) * 65536 + 16 * 256 + 254
 
 -- each of the first n tests is before its reset
 pub record Begun (n : ℕ) (facts cursors : List ℕ) : Type 0 where

@@ -21,4 +21,4 @@ pub use wanted::pick;
 
 // By test: the index in the log of its next observation * 65536 + the mutant's state (16: before its reset) * 256 + the suspect it
 // waits for (255: through, 254: not begun).
-pub type Cursors = [u32; 256];
+pub type Cursors = [u64; 256];

@@ -20,35 +20,35 @@ const FAILED: u8 = 253;
 // The state of a test before its reset, from which the waking state is the next one.
 const ASLEEP: u8 = 16;
 
-fn cursor(at: usize, state: u8, wait: u8) -> u32
-    ensures { λ r. ⌜ r ≡ at % 65536 * 65536 + state * 256 + wait ⌝ }
+fn cursor(at: usize, state: u8, wait: u8) -> u64
+    ensures { λ r. ⌜ r ≡ at % 4294967296 * 65536 + state * 256 + wait ⌝ }
 {
-    ((at % 65536) as u32) * 65536 + (state as u32) * 256 + (wait as u32)
+    ((at % 4294967296) as u64) * 65536 + (state as u64) * 256 + (wait as u64)
 }
 
-pub fn at_of(c: u32) -> usize {
+pub fn at_of(c: u64) -> usize {
     (c / 65536) as usize
 }
 
-fn state_of(c: u32) -> u8 {
+fn state_of(c: u64) -> u8 {
     (c / 256 % 256) as u8
 }
 
-pub fn wait_of(c: u32) -> u8
+pub fn wait_of(c: u64) -> u8
     ensures { λ r. ⌜ r ≡ c % 256 ⌝ }
 {
     (c % 256) as u8
 }
 
 // A test before its reset.
-pub fn begun(facts: &Facts, t: usize) -> u32
+pub fn begun(facts: &Facts, t: usize) -> u64
     ensures { λ r. ⌜ r ≡ begin (now (facts .entry)) (t % 256) ⌝ }
 {
     cursor(test_at(facts, t), ASLEEP, NOT_BEGUN)
 }
 
 // Every test before its reset.
-pub fn start_cursors(facts: &Facts, cursors: &mut [u32; 256])
+pub fn start_cursors(facts: &Facts, cursors: &mut [u64; 256])
     ensures { λ r. ⌜ Begun 256 (now (facts .entry)) (now (cursors .exit)) ⌝ }
 {
     for t in 0..256 {
@@ -96,7 +96,7 @@ fn go_on(block: &Block, p: &[u8; 32], settled: u32, state: u8, v: u16) -> u16 {
 }
 
 // A test as far as the settled part goes.
-fn advance(block: &Block, log: &[u8], p: &[u8; 32], settled: u32, from: u32) -> u32 {
+fn advance(block: &Block, log: &[u8], p: &[u8; 32], settled: u32, from: u64) -> u64 {
     let mut state = state_of(from);
     let mut at = at_of(from);
     while at < log.len() {
@@ -112,7 +112,7 @@ fn advance(block: &Block, log: &[u8], p: &[u8; 32], settled: u32, from: u32) -> 
 }
 
 // The same if it waits for `last`.
-fn advance_if(block: &Block, log: &[u8], p: &[u8; 32], settled: u32, from: u32, last: u8) -> u32
+fn advance_if(block: &Block, log: &[u8], p: &[u8; 32], settled: u32, from: u64, last: u8) -> u64
     ensures { λ r. ⌜ ((from % 256 ≡ last → ⊥) → r ≡ from) ⌝ }
 {
     if wait_of(from) != last {
@@ -128,7 +128,7 @@ pub fn advance_all(
     log: &[u8],
     p: &[u8; 32],
     settled: u32,
-    cursors: &mut [u32; 256],
+    cursors: &mut [u64; 256],
     last: u8,
 ) -> usize
     ensures { λ r. ⌜ Advanced last (now (cursors .entry)) (now (cursors .exit)) × (r ≤ 256) × (r < 256 → r < getD (now (facts .entry)) 816 0) ⌝ }
@@ -148,7 +148,7 @@ pub fn advance_all(
 }
 
 // The settled suspects that a test meets, up to its wrong output.
-pub fn met(block: &Block, log: &[u8], p: &[u8; 32], settled: u32, from: u32) -> u32
+pub fn met(block: &Block, log: &[u8], p: &[u8; 32], settled: u32, from: u64) -> u32
     ensures { λ r. ⌜ HasAll r settled ⌝ }
 {
     let mut used: u32 = 0;

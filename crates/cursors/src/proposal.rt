@@ -13,7 +13,7 @@ ghost use Rattle.cursors.specs.Steering.{SpeaksOf, Narrowed};
 
 // How many inputs follow a reset.
 fn length_of(log: &[u8], from: usize) -> usize
-    requires { ⌜ from ≤ 65536 ⌝ }
+    requires { ⌜ from ≤ 4294967296 ⌝ }
     ensures { λ r. ⌜ r ≤ 256 ⌝ }
 {
     for l in 0..256 {
@@ -62,7 +62,7 @@ fn fill_bad(
     length: usize,
     bad: &mut [u16; 257],
 )
-    requires { ⌜ (from ≤ 65536) × (length ≤ 256) ⌝ }
+    requires { ⌜ (from ≤ 4294967296) × (length ≤ 256) ⌝ }
 {
     let mut l = length;
     while l > 0 {
@@ -153,7 +153,7 @@ fn narrow_once<'a>(
     bad: &'a [u16; 257],
     length: usize,
 ) -> bool
-    requires { ⌜ (from ≤ 65536) × (length ≤ 256) ⌝ }
+    requires { ⌜ (from ≤ 4294967296) × (length ≤ 256) ⌝ }
     ensures { λ r. ⌜ Narrowed (now (base .entry)) (now (cube .entry)) (now (cube .exit)) ⌝ }
 {
     let mut next = narrow_step(block, facts, base, cube, WAKING, 0, bad[0]);
@@ -181,7 +181,7 @@ fn narrow_all<'a>(
     bad: &'a [u16; 257],
     length: usize,
 )
-    requires { ⌜ (from ≤ 65536) × (length ≤ 256) ⌝ }
+    requires { ⌜ (from ≤ 4294967296) × (length ≤ 256) ⌝ }
     ensures { λ r. ⌜ Narrowed (now (base .entry)) (now (cube .entry)) (now (cube .exit)) ⌝ }
 {
     for rounds in 0..600u16 {

@@ -74,7 +74,7 @@ fn one_more(waiting: &mut [u16; 32], j: u8) {
 
 // Notes the choices that a test refutes, if it waits, and counts it. One that waits at its reset refutes none: a reset reads as the
 // output 0, which every choice of the waking state has.
-fn mark_want(facts: &Facts, log: &[u8], c: u32, notes: &mut [u16], waiting: &mut [u16; 32], h: u16)
+fn mark_want(facts: &Facts, log: &[u8], c: u64, notes: &mut [u16], waiting: &mut [u16; 32], h: u16)
     ensures { λ r. ⌜ Changed 64 8768 (now (notes .entry)) (now (notes .exit)) ⌝ }
 {
     let j = wait_of(c);
@@ -89,7 +89,7 @@ fn mark_want(facts: &Facts, log: &[u8], c: u32, notes: &mut [u16], waiting: &mut
 pub fn mark_wants(
     facts: &Facts,
     log: &[u8],
-    cursors: &[u32; 256],
+    cursors: &[u64; 256],
     notes: &mut [u16],
     waiting: &mut [u16; 32],
 )

@@ -140,7 +140,7 @@ module _ {result : Result Grown} {m bytes log p blame : List ℕ} {g : Growth} (
 pub record Turning (m store₀ notes₀ bytes₀ log₀ : List ℕ) (from : Growth) (facts store notes bytes log p blame sequence : List ℕ) (g : Growth) : Type 0 where
   pub some : (result : Result Grown) × At result m bytes log p blame g
   pub each : (result : Result Grown) (sh : Sheet) → GrowingIn result sh m bytes₀ log₀ from → At result m bytes log p blame g
-  pub facts-long : length facts ≡ 832
+  pub facts-long : length facts ≡ 1088
   pub ready : 34 ≤ length store₀ → Ready m facts
   pub ok : StoreOk Nonconforming m (take (g .observed) log) store
   pub same-store : length store ≡ length store₀
@@ -153,7 +153,7 @@ at-first : {result : Result Grown} {sh : Sheet} {m bytes log p blame : List ℕ}
 at-first {sh = sh} gr ep eb = record { sheet = sh; growing = gr; swept = rw (ep, eb) (swept-first (gr .held .suite .tabled)) }
 
 pub turning-start : {m facts store notes bytes log p blame sequence : List ℕ} {g : Growth} →
-    ((result : Result Grown) × (sh : Sheet) × GrowingIn result sh m bytes log g) × (length facts ≡ 832) →
+    ((result : Result Grown) × (sh : Sheet) × GrowingIn result sh m bytes log g) × (length facts ≡ 1088) →
     (34 ≤ length store → Ready m facts) × StoreOk Nonconforming m (take (g .observed) log) store →
     p ≡ replicate 32 0 → blame ≡ replicate 32 0 → length sequence ≡ 256 → Turning m store notes bytes log g facts store notes bytes log p blame sequence g
 turning-start pre kept ep eb l =
@@ -267,7 +267,7 @@ module _ {m store₀ notes₀ bytes₀ log₀ : List ℕ} {from : Growth} {facts
             let z = at-survivor at (rw (is .0) at sw) in
             at-more (z .0) (z .1) (is .1) (ap (z .0 .sheet) (z .0 .growing .held) (fits-at (z .0) (z .1) (is .1)))
 
-        pub turning-more : (g′ : Growth) → g′ ≡ longerBy g d observed → (length facts′ ≡ 832) × ((m′ : List ℕ) → Ready m′ facts → Ready m′ facts′) →
+        pub turning-more : (g′ : Growth) → g′ ≡ longerBy g d observed → (length facts′ ≡ 1088) × ((m′ : List ℕ) → Ready m′ facts → Ready m′ facts′) →
             StoreOk Nonconforming m (take (g .observed) log) store′ → length store′ ≡ length store → length notes′ ≡ length notes → length bytes′ ≡ length bytes → length log′ ≡ length log →
             length sequence′ ≡ length sequence → Turning m store₀ notes₀ bytes₀ log₀ from facts′ store′ notes′ bytes′ log′ p′ blame′ sequence′ g′
         turning-more g′ eg fs ok es en eb el eq =

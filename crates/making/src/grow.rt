@@ -124,7 +124,7 @@ pub(crate) fn grow(
     log: &mut [u8],
     from: Growth,
 ) -> Growth
-    requires { ⌜ ((result : Result Grown) × (sh : Sheet) × GrowingIn result sh (now block) (now bytes) (now log) from) × (length (now facts) ≡ 832) ⌝ }
+    requires { ⌜ ((result : Result Grown) × (sh : Sheet) × GrowingIn result sh (now block) (now bytes) (now log) from) × (length (now facts) ≡ 1088) ⌝ }
     requires { ⌜ (34 ≤ length (now store) → Ready (now block) (now facts)) × StoreOk Nonconforming (now block) (take (from .observed) (now log)) (now store) ⌝ }
     ensures { λ r. ⌜ ((result : Result Grown) (sh : Sheet) → GrowingIn result sh (now (block .entry)) (now (bytes .entry)) (now (log .entry)) from → Reached (r .state) result (now (block .entry)) (now (bytes .exit)) (now (log .exit)) r) ⌝ }
     ensures { λ r. ⌜ (r .state ≡ Unknown → length (now (store .entry)) ≡ 0) ⌝ }

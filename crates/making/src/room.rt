@@ -22,7 +22,7 @@ ghost use Rattle.making.specs.Answers.{Makes};
 ghost use Rattle.making.specs.words.Growing.{GrowingIn, Finished};
 
 fn no_facts() -> [u16; FACTS]
-    ensures { λ r. ⌜ length r ≡ 832 ⌝ }
+    ensures { λ r. ⌜ length r ≡ 1088 ⌝ }
 {
     [0u16; FACTS]
 }

@@ -83,11 +83,11 @@ known-partner {a = a} {b} p l h e = each-one b e (exchangeable-back (p .at b l .
 -- ---- the facts, the sets of the states below n written
 pub record SwapsTo (m old new : List ℕ) (n : ℕ) : Type 0 where
   pub low : n ≤ 16
-  pub long : length new ≡ 832
+  pub long : length new ≡ 1088
   pub sets : Partnered m new n
   pub others : (j : ℕ) → (j < 544) ⊎ (560 ≤ j) → getD new j 0 ≡ getD old j 0
 
-pub swaps-none : {m facts : List ℕ} → length facts ≡ 832 → SwapsTo m facts facts 0
+pub swaps-none : {m facts : List ℕ} → length facts ≡ 1088 → SwapsTo m facts facts 0
 swaps-none l = record { low = omega arith; long = l; sets = record { at = λ a h. absurd (omega arith) }; others = λ j h. refl }
 
 pub swaps-more : {m old new : List ℕ} {n s : ℕ} (k : ℕ) → SwapsTo m old new n → n < 16 → k ≡ 544 + n → Each (λ b. Exchangeable m n b) s → SwapsTo m old (set new k s) (n + 1)

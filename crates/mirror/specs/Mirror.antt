@@ -76,6 +76,6 @@ SwapsOk m facts = Partnered m facts 16
 
 -- these are filled in, and nothing else is changed
 pub record Exchanged (m old new : List ℕ) : Type 0 where
-  pub long : length new ≡ 832
+  pub long : length new ≡ 1088
   pub swaps : SwapsOk m new
   pub others : (j : ℕ) → (j < 544) ⊎ (560 ≤ j) → getD new j 0 ≡ getD old j 0

@@ -212,7 +212,7 @@ fn partner(block: &Block, fixed: u16, a: u8, b: u8) -> u16
 
 // The same of a state below a, as it stands in the facts.
 fn known_partner(facts: &Facts, a: u8, b: u8) -> u16
-    requires { ⌜ (length (now facts) ≡ 832) × (a < 16) × (b < a) ⌝ }
+    requires { ⌜ (length (now facts) ≡ 1088) × (a < 16) × (b < a) ⌝ }
     ensures { λ r. ⌜ ((m : List ℕ) → Partnered m (now (facts .entry)) a → Each (λ t. Exchangeable m a t) r) ⌝ }
 {
     let set = facts[EXCHANGES + wide(b)];
@@ -225,7 +225,7 @@ fn known_partner(facts: &Facts, a: u8, b: u8) -> u16
 // The same of any state.
 fn partner_of(block: &Block, facts: &Facts, fixed: u16, a: u8, b: u8) -> u16
     requires { ⌜ Wf (now block) × FixedOk (now block) fixed × (a < statesOf (now block)) × (b < statesOf (now block)) × Movable (now block) a ⌝ }
-    requires { ⌜ (length (now facts) ≡ 832) × Partnered (now block) (now facts) a ⌝ }
+    requires { ⌜ (length (now facts) ≡ 1088) × Partnered (now block) (now facts) a ⌝ }
     ensures { λ r. ⌜ Each (λ t. Exchangeable (now (block .entry)) a t) r ⌝ }
 {
     if b < a {
@@ -237,7 +237,7 @@ fn partner_of(block: &Block, facts: &Facts, fixed: u16, a: u8, b: u8) -> u16
 // The states that can be exchanged with a.
 fn partners(block: &Block, facts: &Facts, fixed: u16, a: u8) -> u16
     requires { ⌜ Wf (now block) × FixedOk (now block) fixed × (a < 16) ⌝ }
-    requires { ⌜ (length (now facts) ≡ 832) × Partnered (now block) (now facts) a ⌝ }
+    requires { ⌜ (length (now facts) ≡ 1088) × Partnered (now block) (now facts) a ⌝ }
     ensures { λ r. ⌜ Each (λ t. Exchangeable (now (block .entry)) a t) r ⌝ }
 {
     let end = states(block);
@@ -256,7 +256,7 @@ fn partners(block: &Block, facts: &Facts, fixed: u16, a: u8) -> u16
 
 // Fills in, by state a at 544 + a of the facts, the states that can be exchanged with it.
 pub fn exchange_all(block: &Block, facts: &mut Facts)
-    requires { ⌜ Given (now block) (now facts) × (length (now facts) ≡ 832) ⌝ }
+    requires { ⌜ Given (now block) (now facts) × (length (now facts) ≡ 1088) ⌝ }
     ensures { λ r. ⌜ Exchanged (now (block .entry)) (now (facts .entry)) (now (facts .exit)) ⌝ }
 {
     let keep = fixed(block, facts);

@@ -15,6 +15,7 @@ use Rattle.sheet.specs.WellFormed.{WellFormed}
 use Rattle.sheet.specs.laws.AcceptedLaw.{well-formed}
 use Rattle.lists.specs.laws.TestLaw.{never}
 use Rattle.model.specs.Mutant.{slots}
+use Rattle.model.specs.Log.{Observation, suiteLog}
 use Rattle.model.specs.Suite.{Judgement, complete, survivor, judgeOf}
 use Rattle.model.specs.Operations.{judging, judgeOn}
 use Rattle.model.specs.Verdict.{Complete, JudgedMeans}
@@ -71,20 +72,20 @@ pub by-log : {sh : Sheet} {s starts lengths m log : List ℕ} {tests n : ℕ} �
 by-log rd lg = record { tabled = rd .loads .tabled; suite = lg .is }
 
 -- from the first mutant on
-pub from-front : {sh : Sheet} {m log last : List ℕ} → ForSheet sh m log → Leaving sh m log Front last
-from-front s = record { sheet = s; is = tt }
+pub from-front : {sh : Sheet} {m log last : List ℕ} → ForSheet sh m log → Leaving sh m Front last
+from-front s = record { tabled = s .tabled; is = tt }
 
 -- ---- what the search found
 
-module _ {sh : Sheet} {board board′ sequence sequence′ : List ℕ} where
+module _ {sh : Sheet} {l : List Observation} {board board′ sequence sequence′ : List ℕ} (suite : l ≡ suiteLog sh) where
   -- no survivor
-  pub judges-complete : NoneOf Nonconforming sh every × Untouched board board′ sequence sequence′ → Judges (accepted (judgeOf sh)) judged.Complete board board′ sequence sequence′
-  judges-complete f = let h = none-judged (f .0) in record { answer = rw h refl; board = rw h (f .1 .board); sequence = rw h (f .1 .sequence) }
+  pub judges-complete : NoneOf Nonconforming sh l every × Untouched board board′ sequence sequence′ → Judges (accepted (judgeOf sh)) judged.Complete board board′ sequence sequence′
+  judges-complete f = let h = none-judged (subst (λ (k : List Observation). NoneOf Nonconforming sh k every) suite (f .0)) in record { answer = rw h refl; board = rw h (f .1 .board); sequence = rw h (f .1 .sequence) }
 
   -- the first survivor, with what compare shows
-  pub judges-survivor : {d : Difference} {r : Judged} → Shown Nonconforming sh every d board board′ sequence sequence′ → r ≡ judgedBy d → Judges (accepted (judgeOf sh)) r board board′ sequence sequence′
-  judges-survivor shown er =
-      let s = first-judged shown in
+  pub judges-survivor : {d : Difference} {r : Judged} → Shown Nonconforming sh l every d board board′ sequence sequence′ → r ≡ judgedBy d → Judges (accepted (judgeOf sh)) r board board′ sequence sequence′
+  judges-survivor {d} shown er =
+      let s = first-judged (subst (λ (k : List Observation). Shown Nonconforming sh k every d board board′ sequence sequence′) suite shown) in
       record { answer = rw (s .judged) (er ∙ ap judgedBy (s .long)); board = rw (s .judged) (s .board); sequence = rw (s .judged) (s .sequence) }
 
 -- ---- what it tells

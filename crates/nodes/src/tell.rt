@@ -95,7 +95,7 @@ pub fn look(
     store: &mut [u32],
     notes: &mut [u16],
     node: Node,
-    cursors: &mut [u32; 256],
+    cursors: &mut [u64; 256],
 ) -> Told
     requires { ⌜ Ready (now block) (now facts) × StoreOk goal (now block) (now log) (now store) ⌝ }
     ensures { λ r. ⌜ Found goal (now (block .entry)) (now (log .entry)) (now (store .exit)) r ⌝ }

@@ -28,7 +28,7 @@ fn next_suspect(
     log: &[u8],
     notes: &mut [u16],
     node: Node,
-    cursors: &[u32; 256],
+    cursors: &[u64; 256],
 ) -> u8 {
     let mut waiting = [0u16; 32];
     cursors::mark_wants(facts, log, cursors, notes, &mut waiting);
@@ -98,7 +98,7 @@ fn next_split(
     log: &[u8],
     notes: &mut [u16],
     node: Node,
-    cursors: &[u32; 256],
+    cursors: &[u64; 256],
     known: &mut [u16; 272],
 ) -> Split
     ensures { λ r. ⌜ (r .k < 257 → SplitOk (now (block .entry)) (node .left) r) ⌝ }
@@ -229,7 +229,7 @@ pub(crate) fn explore(
     store: &mut [u32],
     notes: &mut [u16],
     node: Node,
-    from: &[u32; 256],
+    from: &[u64; 256],
 ) -> Told
     requires { ⌜ Ready (now block) (now facts) × StoreOk goal (now block) (now log) (now store) ⌝ }
     ensures { λ r. ⌜ Found goal (now (block .entry)) (now (log .entry)) (now (store .exit)) r ⌝ }

@@ -25,8 +25,8 @@ ghost use Rattle.nodes.specs.Prefix.{PrefixIn};
 
 // Fills the facts of a block and a log; false where it has none.
 pub fn prepare(block: &Block, log: &[u8], facts: &mut Facts) -> bool
-    requires { ⌜ Wf (now block) × (length (now facts) ≡ 832) ⌝ }
-    ensures { λ r. ⌜ (length (now (facts .exit)) ≡ 832) × (r ≡ true → Ready (now (block .entry)) (now (facts .exit))) ⌝ }
+    requires { ⌜ Wf (now block) × (length (now facts) ≡ 1088) ⌝ }
+    ensures { λ r. ⌜ (length (now (facts .exit)) ≡ 1088) × (r ≡ true → Ready (now (block .entry)) (now (facts .exit))) ⌝ }
 {
     if !cubes::tables::enter_all(block, facts) {
         return false;
@@ -38,8 +38,8 @@ pub fn prepare(block: &Block, log: &[u8], facts: &mut Facts) -> bool
 
 // Notes one test more, whose reset stands at a place of the log.
 pub fn note_test(facts: &mut Facts, at: usize)
-    requires { ⌜ length (now facts) ≡ 832 ⌝ }
-    ensures { λ r. ⌜ (length (now (facts .exit)) ≡ 832) × ((m : List ℕ) → Ready m (now (facts .entry)) → Ready m (now (facts .exit))) ⌝ }
+    requires { ⌜ length (now facts) ≡ 1088 ⌝ }
+    ensures { λ r. ⌜ (length (now (facts .exit)) ≡ 1088) × ((m : List ℕ) → Ready m (now (facts .entry)) → Ready m (now (facts .exit))) ⌝ }
 {
     cursors::add_test(facts, at);
 }
@@ -59,7 +59,7 @@ pub fn told_from(
 {
     let node = nodes::root(block, prefix);
     store::admit_all(notes, node.settled);
-    let mut cursors = [0u32; 256];
+    let mut cursors = [0u64; 256];
     cursors::start_cursors(facts, &mut cursors);
     let told = branch::explore(block, facts, log, goal, store, notes, node, &cursors);
     if !told.ok {

@@ -5,6 +5,7 @@ use Rattle.lists.specs.Lists.{Before}
 use Rattle.sheet.specs.Sheet.{Sheet}
 use Rattle.sheet.specs.laws.RowLaw.{before-irreflexive}
 use Rattle.model.specs.Mutant.{slots, IsMutant}
+use Rattle.model.specs.Log.{Observation}
 use Rattle.model.specs.laws.SuspectLaw.{slot-count}
 use Rattle.model.specs.laws.OperationLaw.{mutant-length, in-range-at}
 use Rattle.block.specs.Layout.{slotsOf}
@@ -14,7 +15,7 @@ use Rattle.search.specs.declared.settle.Found.{Found}
 use Rattle.search.specs.declared.settle.Found.the-variants.{Nothing, First, GaveUp}
 use Rattle.search.specs.declared.settle.Beginning.{Beginning}
 use Rattle.search.specs.declared.settle.Beginning.the-variants.{After}
-use Rattle.search.specs.Search.{Wanted, Begins, next, after, In, NoneOf, FirstOf, Prefix, Answers, ForSheet, Searching, Settled, Leaving, unsettled}
+use Rattle.search.specs.Search.{Wanted, Begins, next, after, In, NoneOf, FirstOf, Prefix, Answers, Searching, Settled, Leaving, unsettled}
 use Rattle.search.proofs.SearchLaw.{before-at}
 
 -- the same up to a place, and a larger number there: it stands after
@@ -62,36 +63,36 @@ pub filled-all : {last p : List ℕ} {j : ℕ} → FilledTo last p j → length 
 filled-all f l = record { long = f .long; at = λ i h k. f .at i h (omega (arith, f .low)); rest = λ i h k. f .rest i h (omega (arith, f .low)) }
 
 -- the choices of the mutant before i are settled in p, and no mutant that begins so and stands after it is wanted
-pub record Left (goal : Goal) (sh : Sheet) (m log last p : List ℕ) (i : ℕ) : Type 0 where
-  pub searching : Searching sh m log p i
+pub record Left (goal : Goal) (sh : Sheet) (l : List Observation) (m last p : List ℕ) (i : ℕ) : Type 0 where
+  pub searching : Searching sh m p i
   pub same : (j : ℕ) → j < i → getD p j 0 ≡ getD last j 0
-  pub none : NoneOf goal sh (after last i)
+  pub none : NoneOf goal sh l (after last i)
 
-pub down : {goal : Goal} {sh : Sheet} {m log last p : List ℕ} {i : ℕ} → Left goal sh m log last p i → 0 < i → Left goal sh m log last p ((i - 1) + 1)
-down {goal} {sh} {m} {log} {last} {p} {i} h l = subst (λ (k : ℕ). Left goal sh m log last p k) (omega arith) h
+pub down : {goal : Goal} {sh : Sheet} {l : List Observation} {m last p : List ℕ} {i : ℕ} → Left goal sh l m last p i → 0 < i → Left goal sh l m last p ((i - 1) + 1)
+down {goal} {sh} {l} {m} {last} {p} {i} h k = subst (λ (k : ℕ). Left goal sh l m last p k) (omega arith) h
 
 -- a search begins after a mutant
-pub leaving-after : {from : Beginning} {sh : Sheet} {m log last : List ℕ} → from ≡ After → Leaving sh m log from last → Leaving sh m log After last
-leaving-after {from} {sh} {m} {log} {last} e le = subst (λ (f : Beginning). Leaving sh m log f last) e le
+pub leaving-after : {from : Beginning} {sh : Sheet} {m last : List ℕ} → from ≡ After → Leaving sh m from last → Leaving sh m After last
+leaving-after {from} {sh} {m} {last} e le = subst (λ (f : Beginning). Leaving sh m f last) e le
 
 -- none of them is left
-pub left-all : {goal : Goal} {sh : Sheet} {m log last p : List ℕ} {i : ℕ} → Left goal sh m log last p i → i ≤ 0 → NoneOf goal sh (after last 0)
-left-all {goal} {sh} {m} {log} {last} {p} {i} h l = subst (λ (k : ℕ). NoneOf goal sh (after last k)) (omega arith) (h .none)
+pub left-all : {goal : Goal} {sh : Sheet} {l : List Observation} {m last p : List ℕ} {i : ℕ} → Left goal sh l m last p i → i ≤ 0 → NoneOf goal sh l (after last 0)
+left-all {goal} {sh} {l} {m} {last} {p} {i} h z = subst (λ (k : ℕ). NoneOf goal sh l (after last k)) (omega arith) (h .none)
 
-module _ {sh : Sheet} {m log last : List ℕ} (le : Leaving sh m log After last) where
+module _ {sh : Sheet} {m last : List ℕ} (le : Leaving sh m After last) where
   long : length last ≡ length (slots sh)
   long = mutant-length sh last (le .is)
 
   pub few : length last ≤ 32
-  few = omega (arith, long, slot-count sh, le .sheet .tabled .formed .few-open)
+  few = omega (arith, long, slot-count sh, le .tabled .formed .few-open)
 
   -- all of them: it is the only one
-  pub left-none : {goal : Goal} {p : List ℕ} → Settled last p → Left goal sh m log last p (length last)
+  pub left-none : {goal : Goal} {l : List Observation} {p : List ℕ} → Settled last p → Left goal sh l m last p (length last)
   unfolding IsMutant
   left-none st =
       record {
         searching = record {
-          sheet = le .sheet;
+          tabled = le .tabled;
           prefix = record {
             long = st .long;
             few = omega (arith, few, long);
@@ -108,22 +109,22 @@ module _ {sh : Sheet} {m log last : List ℕ} (le : Leaving sh m log After last)
       only b is be = ext-getD 0 b last (mutant-length sh b is ∙ sym long) (λ i h. be .at i (omega (arith, mutant-length sh b is, long)))
 
   -- one fewer
-  module _ {goal : Goal} {p : List ℕ} (i : ℕ) (h : Left goal sh m log last p (i + 1)) where
+  module _ {goal : Goal} {l : List Observation} {p : List ℕ} (i : ℕ) (h : Left goal sh l m last p (i + 1)) where
     pub within : (i < 32) × (i < slotsOf m)
-    within = let pre = h .searching .prefix in (omega (arith, pre .within, pre .few), omega (arith, pre .within, le .sheet .tabled .count))
+    within = let pre = h .searching .prefix in (omega (arith, pre .within, pre .few), omega (arith, pre .within, le .tabled .count))
 
     -- a choice is a byte
     pub choice-low : getD p i 0 < 256
     choice-low =
         let pre = h .searching .prefix in
         let li : i < length (slots sh) = omega (arith, pre .within) in
-        omega (arith, pre .low i (omega arith), rw (getD-default (slots sh) i 1 0 li) at (slot-few sh (le .sheet .tabled .formed) i))
+        omega (arith, pre .low i (omega arith), rw (getD-default (slots sh) i 1 0 li) at (slot-few sh (le .tabled .formed) i))
 
-    pub left-unset : Searching sh m log (set p i 256) i
+    pub left-unset : Searching sh m (set p i 256) i
     left-unset =
         let pre = h .searching .prefix in
         record {
-          sheet = le .sheet;
+          tabled = le .tabled;
           prefix = record {
             long = length-set p i 256 ∙ pre .long;
             few = pre .few;
@@ -139,7 +140,7 @@ module _ {sh : Sheet} {m log last : List ℕ} (le : Leaving sh m log After last)
 
     -- what begins as the mutant's first i choices and stands after it has a larger one next, or the same
     module _ {c : ℕ} (ec : c ≡ getD p i 0) where
-      split : (b : List ℕ) → IsMutant sh b → In (after last i) b → Wanted goal sh b → In (next (set p i 256) i (c + 1)) b
+      split : (b : List ℕ) → IsMutant sh b → In (after last i) b → Wanted goal sh l b → In (next (set p i 256) i (c + 1)) b
       split b is be w =
           by-cases (ℕ-discrete (getD b i 0) (getD last i 0))
           (λ e. absurd (h .none .at b is (record { at = below-more _ i (be .0 .at) e }, be .1) w))
@@ -147,15 +148,15 @@ module _ {sh : Sheet} {m log last : List ℕ} (le : Leaving sh m log After last)
           let low = before-at last b i (be .1) (λ j l. sym (be .0 .at j l)) in
           (record { at = λ j l. be .0 .at j l ∙ sym (same-unset j l) }, omega (arith, h .same i (omega arith), ec)))
 
-      pub left-more : NoneOf goal sh (next (set p i 256) i (c + 1)) → Left goal sh m log last (set p i 256) i
+      pub left-more : NoneOf goal sh l (next (set p i 256) i (c + 1)) → Left goal sh l m last (set p i 256) i
       left-more nf = record { searching = left-unset; same = same-unset; none = record { at = λ b is be w. nf .at b is (split b is be w) w } }
 
       -- what was found with a larger choice, if it was not nothing, is the answer
-      pub left-found : (r : Found) (q : List ℕ) → (r ≡ Nothing → ⊥) → Answers goal sh (next (set p i 256) i (c + 1)) r q → Answers goal sh (after last 0) r q
+      pub left-found : (r : Found) (q : List ℕ) → (r ≡ Nothing → ⊥) → Answers goal sh l (next (set p i 256) i (c + 1)) r q → Answers goal sh l (after last 0) r q
       left-found Nothing q n a = absurd (n refl)
       left-found First q n a = record { long = a .long; first = first (a .first) }
         where
-          first : {d : List ℕ} → FirstOf goal sh (next (set p i 256) i (c + 1)) d → FirstOf goal sh (after last 0) d
+          first : {d : List ℕ} → FirstOf goal sh l (next (set p i 256) i (c + 1)) d → FirstOf goal sh l (after last 0) d
           first {d} f =
               record {
                 is = f .is;

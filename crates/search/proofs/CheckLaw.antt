@@ -7,8 +7,9 @@ use Rattle.lists.specs.Lists.{overlay}
 use Rattle.sheet.specs.Sheet.{Sheet}
 use Rattle.model.specs.Mutant.{slots, IsMutant, step, initial}
 use Rattle.model.specs.Compare.{comparePair, found}
-use Rattle.model.specs.Suite.{Place, firstFailedOf, compareOf}
+use Rattle.model.specs.Suite.{Place, compareOf}
 use Rattle.model.specs.Log.{failedIn}
+use Rattle.model.specs.laws.LogLaw.{none-gives}
 use Rattle.model.specs.laws.StaysLaw.{start-below}
 use Rattle.model.specs.laws.SuspectLaw.{slot-count}
 use Rattle.model.specs.laws.OperationLaw.{mutant-length, in-range-at}
@@ -20,7 +21,7 @@ use Rattle.block.specs.laws.TabledLaw.{getD-default, slot-few, well-formed}
 use Rattle.logs.specs.declared.walk.Wrong.{Wrong}
 use Rattle.logs.specs.declared.walk.Wrong.the-variants as wrong
 use Rattle.logs.specs.Walked.{movesIn, wrongOf}
-use Rattle.logs.specs.laws.WalkedLaw.{walked-failed}
+use Rattle.logs.specs.laws.WalkedLaw.{gives-none, walked}
 use Rattle.machine.specs.declared.product.Difference.{Difference}
 use Rattle.machine.specs.declared.product.Difference.the-variants as difference
 use Rattle.machine.specs.declared.laying.Machine.{Machine}
@@ -84,9 +85,9 @@ right : (o : Option Place) → wrongOf o ≡ wrong.Nothing → o ≡ none
 right none e = refl
 right (some f) e = never (cc)
 
-module _ {sh : Sheet} {m log p : List ℕ} (w : Searching sh m log p (length (slots sh))) where
+module _ {sh : Sheet} {m p : List ℕ} (w : Searching sh m p (length (slots sh))) where
   tb : Tabled sh m
-  tb = w .sheet .tabled
+  tb = w .tabled
 
   is : IsMutant sh (mutantIn sh p)
   is = full-mutant (w .prefix)
@@ -108,23 +109,24 @@ module _ {sh : Sheet} {m log p : List ℕ} (w : Searching sh m log p (length (sl
     pub meets-asks : Valid m targets × (start < statesOf m)
     meets-asks = (tables-valid tb (mutantIn sh p) moved, rw (starts, tb .states) (start-below sh (mutantIn sh p) (tb .formed)))
 
-    walked : failedIn (movesIn outputs targets) start start 0 0 (observations log) ≡ firstFailedOf sh (mutantIn sh p)
-    walked = rw (w .sheet .suite) (walked-failed sh (tb .formed) (mutantIn sh p) (tabulates (tb .formed) (mutantIn sh p) moved) start starts)
-
     compared : comparePair (tables m start outputs targets) ≡ compareOf sh (mutantIn sh p)
     unfolding compareOf
     compared = ap comparePair (tables-against tb (mutantIn sh p) moved start starts)
 
-    module _ {goal : Goal} {r : Wrong} (er : r ≡ wrongOf (failedIn (movesIn outputs targets) start start 0 0 (observations log))) where
+    along : (log : List ℕ) {r : Wrong} → r ≡ wrongOf (failedIn (movesIn outputs targets) start start 0 0 (observations log)) →
+        r ≡ wrongOf (failedIn (step sh (mutantIn sh p)) (initial sh (mutantIn sh p)) (initial sh (mutantIn sh p)) 0 0 (observations log))
+    along log er = er ∙ ap wrongOf (walked sh (tb .formed) (mutantIn sh p) (tabulates (tb .formed) (mutantIn sh p) moved) start starts log)
+
+    module _ {goal : Goal} (log : List ℕ) {r : Wrong} (er : r ≡ wrongOf (failedIn (movesIn outputs targets) start start 0 0 (observations log))) where
       -- a wrong output: it is not
-      pub fails : {t i : ℕ} → r ≡ wrong.At t i → Decides (Wanted goal sh (mutantIn sh p)) false
-      fails e = record { yes = λ t. never (cc); no = λ f h. let z = er ∙ ap wrongOf (walked ∙ h .passes) in never (cc) }
+      pub fails : {t i : ℕ} → r ≡ wrong.At t i → Decides (Wanted goal sh (observations log) (mutantIn sh p)) false
+      fails e = record { yes = λ t. never (cc); no = λ f h. let z = along log er ∙ ap wrongOf (gives-none _ _ (observations log) _ 0 0 (h .gives)) in never (cc) }
 
       -- none: as the goal asks
-      pub passes : r ≡ wrong.Nothing → {s : Bool} → Decides (Meets goal (comparePair (tables m start outputs targets))) s → Decides (Wanted goal sh (mutantIn sh p)) s
+      pub passes : r ≡ wrong.Nothing → {s : Bool} → Decides (Meets goal (comparePair (tables m start outputs targets))) s → Decides (Wanted goal sh (observations log) (mutantIn sh p)) s
       passes e d =
           record {
-            yes = λ t. record { passes = sym walked ∙ right _ (sym er ∙ e); meets = subst (Meets goal) compared (d .yes t) };
+            yes = λ t. record { gives = none-gives _ _ (observations log) _ 0 0 (right _ (sym (along log er) ∙ e)); meets = subst (Meets goal) compared (d .yes t) };
             no = λ f h. d .no f (subst (Meets goal) (sym compared) (h .meets));
           }
 

@@ -7,11 +7,12 @@ use Rattle.sheet.specs.Sheet.{Sheet}
 use Rattle.sheet.specs.laws.RowLaw.{before-irreflexive}
 use Rattle.model.specs.Mutant.{slots, IsMutant}
 use Rattle.model.specs.Suite.{compareOf}
+use Rattle.model.specs.Log.{Observation}
 use Rattle.model.specs.laws.JudgeLaw.{some-nonconforming}
-use Rattle.model.specs.laws.LogLaw.{passes-gives}
 use Rattle.model.specs.laws.SuspectLaw.{slot-count}
 use Rattle.model.specs.laws.OperationLaw.{mutant-length, in-range-at, in-range}
 use Rattle.block.specs.Layout.{choicesOf, slotsOf}
+use Rattle.block.specs.Logged.{observations}
 use Rattle.block.specs.Tabled.{Tabled}
 use Rattle.block.specs.laws.TabledLaw.{getD-default, start-same, pair-same, ranged, gives-same, well-formed}
 use Rattle.cubes.specs.Cube.{Sought, Meets as Asked, Extends, NoneIf}
@@ -21,7 +22,7 @@ use Rattle.refutation.specs.Refuting.{Ready}
 use Rattle.search.specs.declared.settle.Found.{Found}
 use Rattle.search.specs.declared.settle.Found.the-variants.{Nothing, First, GaveUp}
 use Rattle.search.proofs.settle.Found.{the-type}
-use Rattle.search.specs.Search.{FactsOk, Meets, Wanted, Begins, Part, next, NoneOf, FirstOf, Tried, Prefix, mutantIn, FirstIn, Answers, foundIf, ForSheet, Searching, Decides, unsettled}
+use Rattle.search.specs.Search.{FactsOk, Meets, Wanted, Begins, Part, next, NoneOf, FirstOf, Tried, Prefix, mutantIn, FirstIn, Answers, foundIf, Searching, Decides, unsettled, every, Given}
 use Rattle.search.specs.Shown.{Showing}
 
 -- one table of facts is lent if it is ready, else none
@@ -68,11 +69,11 @@ module _ {sh : Sheet} {p : List ℕ} where
         in-range (slots sh) (mutantIn sh p) long (λ j h. let k : j < length (slots sh) = omega (arith, long) in rw (getD-take (length (slots sh)) p j 0 k) (re .low j k))
 
     -- it is not wanted: none that begins so is
-    pub full-none : {goal : Goal} → (Wanted goal sh (mutantIn sh p) → ⊥) → NoneOf goal sh (next p (length (slots sh)) 0)
+    pub full-none : {goal : Goal} {l : List Observation} → (Wanted goal sh l (mutantIn sh p) → ⊥) → NoneOf goal sh l (next p (length (slots sh)) 0)
     full-none h = record { at = λ b is be w. h (rw (whole b is (be .0)) at w) }
 
     -- it is: it is the first that begins so
-    pub full-first : {goal : Goal} → Wanted goal sh (mutantIn sh p) → FirstIn goal sh (next p (length (slots sh)) 0) p
+    pub full-first : {goal : Goal} {l : List Observation} → Wanted goal sh l (mutantIn sh p) → FirstIn goal sh l (next p (length (slots sh)) 0) p
     full-first w =
         record {
           long = re .long;
@@ -111,16 +112,16 @@ module _ {sh : Sheet} {p : List ℕ} where
     begins-unset : (b : List ℕ) (c : ℕ) → Begins (i + 1) b (set p i c) → Begins i b p
     begins-unset b c be = record { at = λ j h. be .at j (omega arith) ∙ getD-set-other p i j c 0 (λ s. omega arith) }
 
-    module _ {goal : Goal} {from : ℕ} (c : ℕ) (tr : Tried goal sh p i from c) where
+    module _ {goal : Goal} {l : List Observation} {from : ℕ} (c : ℕ) (tr : Tried goal sh l p i from c) where
       -- one more tried
-      pub tried-more : NoneOf goal sh (next (set p i c) (i + 1) 0) → Tried goal sh p i from (c + 1)
+      pub tried-more : NoneOf goal sh l (next (set p i c) (i + 1) 0) → Tried goal sh l p i from (c + 1)
       tried-more nf =
           record {
             at = λ b is be ge lt. by-cases (ℕ-discrete (getD b i 0) c) (λ e. nf .at b is (begins-set b c be e, omega arith)) (λ d. tr .at b is be ge (omega arith));
           }
 
       -- all choices tried
-      pub tried-all : getD (slots sh) i 0 ≤ c → NoneOf goal sh (next p i from)
+      pub tried-all : getD (slots sh) i 0 ≤ c → NoneOf goal sh l (next p i from)
       unfolding IsMutant
       tried-all lc =
           record {
@@ -128,7 +129,7 @@ module _ {sh : Sheet} {p : List ℕ} where
           }
 
       -- the first with the choice c, where no smaller choice leads to one
-      pub found : (a : List ℕ) → from ≤ c → FirstOf goal sh (next (set p i c) (i + 1) 0) a → FirstOf goal sh (next p i from) a
+      pub found : (a : List ℕ) → from ≤ c → FirstOf goal sh l (next (set p i c) (i + 1) 0) a → FirstOf goal sh l (next p i from) a
       found a lf fi =
           record {
             is = fi .is;
@@ -144,19 +145,19 @@ module _ {sh : Sheet} {p : List ℕ} where
 
           below : (b : List ℕ) → Begins i b p → Before b a → (getD b i 0 ≡ c → ⊥) → getD b i 0 < c
           below b be before ne =
-              let l = before-at b a i before (λ j h. be .at j h ∙ sym (begins-unset a c (fi .among .0) .at j h)) in
+              let le = before-at b a i before (λ j h. be .at j h ∙ sym (begins-unset a c (fi .among .0) .at j h)) in
               by-cases (decLt (getD b i 0) c) (λ h. h) (λ h. absurd (ne (omega (arith, at-i))))
 
 -- no choice tried yet
-pub tried-none : {goal : Goal} {sh : Sheet} {p : List ℕ} {i from : ℕ} → Tried goal sh p i from from
-tried-none = record { at = λ b is be g l. absurd (omega arith) }
+pub tried-none : {goal : Goal} {sh : Sheet} {l : List Observation} {p : List ℕ} {i from : ℕ} → Tried goal sh l p i from from
+tried-none = record { at = λ b is be g h. absurd (omega arith) }
 
 -- an answer is not one that another arm has
 pub other : (r s : Found) {i j : ℕ} → (tagOf the-type r ≡ i) ⊎ (tagOf the-type r ≡ j) → (tagOf the-type s ≡ i → ⊥) → (tagOf the-type s ≡ j → ⊥) → r ≡ s → ⊥
 other r s (inl e) n m h = n (sym (ap (tagOf the-type) h) ∙ e)
 other r s (inr e) n m h = m (sym (ap (tagOf the-type) h) ∙ e)
 
-pub nothing : {goal : Goal} {sh : Sheet} {part : Part} (r : Found) (q : List ℕ) → (r ≡ First → ⊥) → (r ≡ GaveUp → ⊥) → Answers goal sh part r q → NoneOf goal sh part
+pub nothing : {goal : Goal} {sh : Sheet} {l : List Observation} {part : Part} (r : Found) (q : List ℕ) → (r ≡ First → ⊥) → (r ≡ GaveUp → ⊥) → Answers goal sh l part r q → NoneOf goal sh l part
 nothing Nothing q n m a = a
 nothing First q n m a = absurd (n refl)
 nothing GaveUp q n m a = absurd (m refl)
@@ -169,13 +170,13 @@ ended false e = never (cc)
 -- ---- the whole search
 
 -- nothing settled
-pub start : {sh : Sheet} {m log : List ℕ} → ForSheet sh m log → Searching sh m log unsettled 0
-start {sh} s =
+pub start : {sh : Sheet} {m : List ℕ} → Tabled sh m → Searching sh m unsettled 0
+start {sh} tb =
     record {
-      sheet = s;
+      tabled = tb;
       prefix = record {
         long = length-replicate {A = ℕ} 32 256;
-        few = omega (arith, slot-count sh, s .tabled .formed .few-open);
+        few = omega (arith, slot-count sh, tb .formed .few-open);
         within = omega arith;
         low = λ j h. absurd (omega arith);
         rest = λ j h k. getD-replicate {A = ℕ} 32 j 256 0 h;
@@ -183,8 +184,8 @@ start {sh} s =
     }
 
 -- the mutant that was found
-pub showing : {goal : Goal} {sh : Sheet} {m log q : List ℕ} {part : Part} → ForSheet sh m log → FirstIn goal sh part q → Showing sh m q
-showing s a = record { tabled = s .tabled; is = a .first .is; long = a .long }
+pub showing : {goal : Goal} {sh : Sheet} {l : List Observation} {m q : List ℕ} {part : Part} → Tabled sh m → FirstIn goal sh l part q → Showing sh m q
+showing tb a = record { tabled = tb; is = a .first .is; long = a .long }
 
 -- ---- the engine's answer
 
@@ -200,7 +201,7 @@ module _ {sh : Sheet} {m : List ℕ} (tb : Tabled sh m) (b : List ℕ) (is : IsM
 
 -- ---- the search, at what it works with
 
-module _ {sh : Sheet} {m log p : List ℕ} {i : ℕ} (w : Searching sh m log p i) where
+module _ {sh : Sheet} {m p : List ℕ} {i : ℕ} (w : Searching sh m p i) where
   -- a mutant that begins so has all the choices of p
   extends : (b : List ℕ) → IsMutant sh b → Begins i b p → Extends b p
   extends b is be j ne =
@@ -212,28 +213,28 @@ module _ {sh : Sheet} {m log p : List ℕ} {i : ℕ} (w : Searching sh m log p i
       past : length b ≤ j → length p ≤ j → getD b j 0 ≡ getD p j 0
       past h k = rw (List·getD-eq-default b 0 h, List·getD-eq-default p 0 k) refl
 
-  sought : {goal : Goal} (b : List ℕ) → IsMutant sh b → Wanted goal sh b → Sought goal m log b
+  sought : {goal : Goal} (log : List ℕ) (b : List ℕ) → IsMutant sh b → Wanted goal sh (observations log) b → Sought goal m log b
   unfolding Sought
-  sought {goal} b is h = (rw (gives-same (w .sheet .tabled) b is log, w .sheet .suite) (passes-gives sh b (h .passes)), asked (w .sheet .tabled) b is goal (h .meets))
+  sought {goal} log b is h = (rw (gives-same (w .tabled) b is log) (h .gives), asked (w .tabled) b is goal (h .meets))
 
   -- where the engine refutes the prefix, no mutant that begins so is wanted
-  pub refuted : {goal : Goal} {r : Bool} → NoneIf goal m log p r → r ≡ true → NoneOf goal sh (next p i 0)
-  refuted h e = record { at = λ b is be wa. h e b (ranged (w .sheet .tabled) b is) (extends b is (be .0)) (sought b is wa) }
+  pub refuted : {goal : Goal} (log : List ℕ) {r : Bool} → NoneIf goal m log p r → r ≡ true → NoneOf goal sh (observations log) (next p i 0)
+  refuted log h e = record { at = λ b is be wa. h e b (ranged (w .tabled) b is) (extends b is (be .0)) (sought log b is wa) }
 
   -- n is how many slots there are
   module _ {n : ℕ} (en : n ≡ slotsOf m) where
     count : n ≡ length (slots sh)
-    count = en ∙ w .sheet .tabled .count
+    count = en ∙ w .tabled .count
 
     -- all of them are settled
     module _ (ei : i ≡ n) where
-      pub full : Searching sh m log p (length (slots sh))
-      full = subst (λ (k : ℕ). Searching sh m log p k) (ei ∙ count) w
+      pub full : Searching sh m p (length (slots sh))
+      full = subst (λ (k : ℕ). Searching sh m p k) (ei ∙ count) w
 
-      pub full-answer : {goal : Goal} (r : Bool) → Decides (Wanted goal sh (mutantIn sh p)) r → (f : Found) (q : List ℕ) → f ≡ foundIf r → q ≡ p → Answers goal sh (next p i 0) f q
-      full-answer {goal} r h f q ef eq = rw (ef, eq, ei ∙ count) (go r h)
+      pub full-answer : {goal : Goal} {l : List Observation} (r : Bool) → Decides (Wanted goal sh l (mutantIn sh p)) r → (f : Found) (q : List ℕ) → f ≡ foundIf r → q ≡ p → Answers goal sh l (next p i 0) f q
+      full-answer {goal} {l} r h f q ef eq = rw (ef, eq, ei ∙ count) (go r h)
         where
-          go : (r : Bool) → Decides (Wanted goal sh (mutantIn sh p)) r → Answers goal sh (next p (length (slots sh)) 0) (foundIf r) p
+          go : (r : Bool) → Decides (Wanted goal sh l (mutantIn sh p)) r → Answers goal sh l (next p (length (slots sh)) 0) (foundIf r) p
           go true h = full-first (full .prefix) (h .yes refl)
           go false h = full-none (full .prefix) (h .no refl)
 
@@ -243,27 +244,39 @@ module _ {sh : Sheet} {m log p : List ℕ} {i : ℕ} (w : Searching sh m log p i
 
   module _ (li : i < slotsOf m) where
     pub next-low : (i < 32) × (i < length (slots sh))
-    next-low = (omega (arith, w .prefix .few, w .sheet .tabled .count), omega (arith, w .sheet .tabled .count))
+    next-low = (omega (arith, w .prefix .few, w .tabled .count), omega (arith, w .tabled .count))
 
     many : choicesOf m i ≡ getD (slots sh) i 0
-    many = w .sheet .tabled .choices i (next-low .0) ∙ getD-default (slots sh) i 1 0 (next-low .1)
+    many = w .tabled .choices i (next-low .0) ∙ getD-default (slots sh) i 1 0 (next-low .1)
 
     module _ {k : ℕ} (ek : k ≡ choicesOf m i) where
       pub few-choices : k ≤ 256
-      few-choices = rw ek (well-formed (w .sheet .tabled) .choices i (next-low .0))
+      few-choices = rw ek (well-formed (w .tabled) .choices i (next-low .0))
 
-      pub searching-set : {c : ℕ} → c < k → Searching sh m log (set p i c) (i + 1)
-      searching-set lc = record { sheet = w .sheet; prefix = prefix-set (w .prefix) (next-low .1) _ (rw (ek ∙ many) at lc) }
+      pub searching-set : {c : ℕ} → c < k → Searching sh m (set p i c) (i + 1)
+      searching-set lc = record { tabled = w .tabled; prefix = prefix-set (w .prefix) (next-low .1) _ (rw (ek ∙ many) at lc) }
 
-      module _ {goal : Goal} {from c : ℕ} (tr : Tried goal sh p i from c) where
-        pub all-tried : k ≤ c → NoneOf goal sh (next p i from)
-        all-tried l = tried-all (w .prefix) (next-low .1) c tr (rw (ek ∙ many) at l)
+      module _ {goal : Goal} {l : List Observation} {from c : ℕ} (tr : Tried goal sh l p i from c) where
+        pub all-tried : k ≤ c → NoneOf goal sh l (next p i from)
+        all-tried h = tried-all (w .prefix) (next-low .1) c tr (rw (ek ∙ many) at h)
 
-        pub one-tried : NoneOf goal sh (next (set p i c) (i + 1) 0) → Tried goal sh p i from (c + 1)
+        pub one-tried : NoneOf goal sh l (next (set p i c) (i + 1) 0) → Tried goal sh l p i from (c + 1)
         one-tried nf = tried-more (w .prefix) (next-low .1) c tr nf
 
         -- what was found with the choice c, if it was not nothing, is the answer
-        pub one-found : from ≤ c → (r : Found) (q : List ℕ) → (r ≡ Nothing → ⊥) → Answers goal sh (next (set p i c) (i + 1) 0) r q → Answers goal sh (next p i from) r q
+        pub one-found : from ≤ c → (r : Found) (q : List ℕ) → (r ≡ Nothing → ⊥) → Answers goal sh l (next (set p i c) (i + 1) 0) r q → Answers goal sh l (next p i from) r q
         one-found lf Nothing q n a = absurd (n refl)
         one-found lf First q n a = record { long = a .long; first = found (w .prefix) (next-low .1) c tr _ lf (a .first) }
         one-found lf GaveUp q n a = tt
+
+-- ---- whether some mutant gives a log
+
+pub given-some : {sh : Sheet} {l : List Observation} {part : Part} {q : List ℕ} → FirstIn Any sh l part q → Decides (Given sh l) true
+given-some a = record { yes = λ e. record { mutant = _; is = a .first .is; gives = a .first .wanted .gives }; no = λ e. never (cc) }
+
+pub given-none : {sh : Sheet} {l : List Observation} → NoneOf Any sh l every → Decides (Given sh l) false
+given-none n =
+    record {
+      yes = λ e. never (cc);
+      no = λ e h. n .at (h .mutant) (h .is) (record { at = λ j k. absurd (omega arith) }, omega arith) (record { gives = h .gives; meets = tt });
+    }

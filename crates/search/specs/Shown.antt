@@ -7,6 +7,7 @@ use Rattle.lists.specs.Lists.{overlay}
 use Rattle.sheet.specs.Sheet.{Sheet}
 use Rattle.model.specs.Mutant.{IsMutant}
 use Rattle.model.specs.Suite.{compareOf}
+use Rattle.model.specs.Log.{Observation}
 use Rattle.block.specs.Layout.{statesOf, slotsOf}
 use Rattle.block.specs.Tabled.{Tabled}
 use Rattle.cubes.specs.declared.goal.Goal.{Goal}
@@ -40,11 +41,11 @@ pub record Written (sh : Sheet) (b : List ℕ) (d : Difference) (oldBoard newBoa
   pub sequence : newSequence ≡ overlay (found (compareOf sh b)) oldSequence
 
 -- the first wanted mutant of a part is written
-pub record Shown (goal : Goal) (sh : Sheet) (part : Part) (d : Difference) (oldBoard newBoard oldSequence newSequence : List ℕ) : Type 0 where
+pub record Shown (goal : Goal) (sh : Sheet) (l : List Observation) (part : Part) (d : Difference) (oldBoard newBoard oldSequence newSequence : List ℕ) : Type 0 where
   pub mutant : List ℕ
-  pub first : FirstOf goal sh part mutant
+  pub first : FirstOf goal sh l part mutant
   pub written : Written sh mutant d oldBoard newBoard oldSequence newSequence
 
-abbrev pub Leaves : Goal → Sheet → Part → Searched → List ℕ → List ℕ → List ℕ → List ℕ → Type 0
-Leaves goal sh part Nothing oldBoard newBoard oldSequence newSequence = NoneOf goal sh part × Untouched oldBoard newBoard oldSequence newSequence
-Leaves goal sh part (First d) oldBoard newBoard oldSequence newSequence = Shown goal sh part d oldBoard newBoard oldSequence newSequence
+abbrev pub Leaves : Goal → Sheet → List Observation → Part → Searched → List ℕ → List ℕ → List ℕ → List ℕ → Type 0
+Leaves goal sh l part Nothing oldBoard newBoard oldSequence newSequence = NoneOf goal sh l part × Untouched oldBoard newBoard oldSequence newSequence
+Leaves goal sh l part (First d) oldBoard newBoard oldSequence newSequence = Shown goal sh l part d oldBoard newBoard oldSequence newSequence

@@ -14,8 +14,10 @@ ghost use mathlib.Core.Path.{_≡_};
 ghost use mathlib.Core.Bool.{cond};
 ghost use lib.ListN.{replicate};
 ghost use Rattle.sheet.specs.Sheet.{Sheet};
+ghost use Rattle.block.specs.Logged.{observations};
+ghost use Rattle.block.specs.Tabled.{Tabled};
 ghost use Rattle.search.specs.declared.settle.Found.the-variants.{GaveUp};
-ghost use Rattle.search.specs.Search.{Leaving, Answers, partFrom};
+ghost use Rattle.search.specs.Search.{Leaving, Answers, partFrom, Decides, Given};
 ghost use Rattle.search.specs.Shown.{Room, Leaves};
 
 // What is found: no wanted mutant, or the first one, with what tells it from the specification.
@@ -25,7 +27,7 @@ pub enum Searched {
 }
 
 fn no_facts() -> Facts
-    ensures { λ r. ⌜ r ≡ replicate 832 0 ⌝ }
+    ensures { λ r. ⌜ r ≡ replicate 1088 0 ⌝ }
 {
     [0u16; FACTS]
 }
@@ -55,8 +57,8 @@ fn find_thoroughly(
     last: &[u8],
     nodes: &mut u32,
 ) -> Attempt
-    requires { ⌜ ((sh : Sheet) × Leaving sh (now block) (now log) from (now last)) ⌝ }
-    ensures { λ r. ⌜ ((sh : Sheet) → Leaving sh (now (block .entry)) (now (log .entry)) from (now (last .entry)) → Answers goal sh (partFrom from (now (last .entry))) (r .found) (r .choices)) ⌝ }
+    requires { ⌜ ((sh : Sheet) × Leaving sh (now block) from (now last)) ⌝ }
+    ensures { λ r. ⌜ ((sh : Sheet) → Leaving sh (now (block .entry)) from (now (last .entry)) → Answers goal sh (observations (now (log .entry))) (partFrom from (now (last .entry))) (r .found) (r .choices)) ⌝ }
     ensures { λ r. ⌜ (r .found ≡ GaveUp → ⊥) ⌝ }
 {
     let mut facts = [no_facts()];
@@ -88,8 +90,8 @@ fn find(
     last: &[u8],
     nodes: &mut u32,
 ) -> Attempt
-    requires { ⌜ ((sh : Sheet) × Leaving sh (now block) (now log) from (now last)) ⌝ }
-    ensures { λ r. ⌜ ((sh : Sheet) → Leaving sh (now (block .entry)) (now (log .entry)) from (now (last .entry)) → Answers goal sh (partFrom from (now (last .entry))) (r .found) (r .choices)) ⌝ }
+    requires { ⌜ ((sh : Sheet) × Leaving sh (now block) from (now last)) ⌝ }
+    ensures { λ r. ⌜ ((sh : Sheet) → Leaving sh (now (block .entry)) from (now (last .entry)) → Answers goal sh (observations (now (log .entry))) (partFrom from (now (last .entry))) (r .found) (r .choices)) ⌝ }
     ensures { λ r. ⌜ (r .found ≡ GaveUp → ⊥) ⌝ }
 {
     *nodes = 0;
@@ -120,8 +122,8 @@ pub fn first(
     sequence: &mut [u8],
     nodes: &mut u32,
 ) -> Searched
-    requires { ⌜ ((sh : Sheet) × Leaving sh (now block) (now log) from (now last)) × Room (now block) (now board) (now sequence) ⌝ }
-    ensures { λ r. ⌜ ((sh : Sheet) → Leaving sh (now (block .entry)) (now (log .entry)) from (now (last .entry)) → Leaves goal sh (partFrom from (now (last .entry))) r (now (board .entry)) (now (board .exit)) (now (sequence .entry)) (now (sequence .exit))) ⌝ }
+    requires { ⌜ ((sh : Sheet) × Leaving sh (now block) from (now last)) × Room (now block) (now board) (now sequence) ⌝ }
+    ensures { λ r. ⌜ ((sh : Sheet) → Leaving sh (now (block .entry)) from (now (last .entry)) → Leaves goal sh (observations (now (log .entry))) (partFrom from (now (last .entry))) r (now (board .entry)) (now (board .exit)) (now (sequence .entry)) (now (sequence .exit))) ⌝ }
 {
     let attempt = find(block, log, goal, from, last, nodes);
     let found = attempt.found;
@@ -129,5 +131,20 @@ pub fn first(
         Found::First => Searched::First(show(block, &attempt.choices, board, sequence)),
         // giving up is ruled out by what `find` promises
         Found::Nothing | Found::GaveUp => Searched::Nothing,
+    }
+}
+
+// Whether some mutant gives the log; and how many nodes the engine looked at, which is free.
+pub fn exists(block: &Block, log: &[u8], nodes: &mut u32) -> bool
+    requires { ⌜ ((sh : Sheet) × Tabled sh (now block)) ⌝ }
+    ensures { λ r. ⌜ ((sh : Sheet) → Tabled sh (now (block .entry)) → Decides (Given sh (observations (now (log .entry)))) r) ⌝ }
+{
+    let none: [u8; 0] = [];
+    let attempt = find(block, log, Goal::Any, Beginning::Front, &none, nodes);
+    let found = attempt.found;
+    match found {
+        Found::First => true,
+        // giving up is ruled out by what `find` promises
+        Found::Nothing | Found::GaveUp => false,
     }
 }

@@ -13,6 +13,7 @@ ghost use Rattle.sheet.specs.Sheet.{Sheet};
 ghost use Rattle.model.specs.Compare.{comparePair};
 ghost use Rattle.model.specs.Mutant.{slots as slotsOf};
 ghost use Rattle.block.specs.Layout.{statesOf};
+ghost use Rattle.block.specs.Logged.{observations};
 ghost use Rattle.machine.specs.Product.{tables, Valid};
 ghost use Rattle.search.specs.Search.{Meets, Wanted, Searching, mutantIn, Decides};
 ghost use Rattle.search.specs.Shown.{Room, Showing, Written};
@@ -42,8 +43,8 @@ fn meets<'a>(
 
 // Whether the mutant with the choices p gives the log and meets the goal.
 pub(crate) fn wanted(block: &Block, log: &[u8], goal: Goal, p: &[u16; 32]) -> bool
-    requires { ⌜ ((sh : Sheet) × Searching sh (now block) (now log) (now p) (length (slotsOf sh))) ⌝ }
-    ensures { λ r. ⌜ ((sh : Sheet) → Searching sh (now (block .entry)) (now (log .entry)) (now (p .entry)) (length (slotsOf sh)) → Decides (Wanted goal sh (mutantIn sh (now (p .entry)))) r) ⌝ }
+    requires { ⌜ ((sh : Sheet) × Searching sh (now block) (now p) (length (slotsOf sh))) ⌝ }
+    ensures { λ r. ⌜ ((sh : Sheet) → Searching sh (now (block .entry)) (now (p .entry)) (length (slotsOf sh)) → Decides (Wanted goal sh (observations (now (log .entry))) (mutantIn sh (now (p .entry)))) r) ⌝ }
 {
     let mut outputs = blank();
     let mut targets = blank();

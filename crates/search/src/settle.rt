@@ -10,6 +10,7 @@ ghost use Rattle.sheet.specs.Sheet.{Sheet};
 ghost use Rattle.refutation.specs.Lent.{StoreOk};
 ghost use Rattle.cubes.specs.Cube.{NoneIf};
 ghost use Rattle.block.specs.Tabulated.{Wf};
+ghost use Rattle.block.specs.Logged.{observations};
 ghost use Rattle.search.specs.declared.settle.Found.the-variants.{GaveUp};
 ghost use Rattle.block.specs.Layout.{slotsOf};
 ghost use Rattle.search.specs.declared.settle.Beginning.the-variants.{After};
@@ -83,9 +84,9 @@ pub(crate) fn search(
     p: [u16; 32],
     i: usize,
 ) -> Attempt
-    requires { ⌜ ((sh : Sheet) × Searching sh (now block) (now log) p i) ⌝ }
+    requires { ⌜ ((sh : Sheet) × Searching sh (now block) p i) ⌝ }
     requires { ⌜ FactsOk (now block) (now facts) × StoreOk goal (now block) (now log) (now store) ⌝ }
-    ensures { λ r. ⌜ ((sh : Sheet) → Searching sh (now (block .entry)) (now (log .entry)) p i → Answers goal sh (next p i 0) (r .found) (r .choices)) ⌝ }
+    ensures { λ r. ⌜ ((sh : Sheet) → Searching sh (now (block .entry)) p i → Answers goal sh (observations (now (log .entry))) (next p i 0) (r .found) (r .choices)) ⌝ }
     ensures { λ r. ⌜ StoreOk goal (now (block .entry)) (now (log .entry)) (now (store .exit)) ⌝ }
     ensures { λ r. ⌜ (r .found ≡ GaveUp → length (now (store .entry)) ≡ 0) ⌝ }
 {
@@ -119,9 +120,9 @@ fn search_from(
     i: usize,
     from: u16,
 ) -> Attempt
-    requires { ⌜ ((sh : Sheet) × Searching sh (now block) (now log) p i) × (i < slotsOf (now block)) ⌝ }
+    requires { ⌜ ((sh : Sheet) × Searching sh (now block) p i) × (i < slotsOf (now block)) ⌝ }
     requires { ⌜ FactsOk (now block) (now facts) × StoreOk goal (now block) (now log) (now store) ⌝ }
-    ensures { λ r. ⌜ ((sh : Sheet) → Searching sh (now (block .entry)) (now (log .entry)) p i → Answers goal sh (next p i from) (r .found) (r .choices)) ⌝ }
+    ensures { λ r. ⌜ ((sh : Sheet) → Searching sh (now (block .entry)) p i → Answers goal sh (observations (now (log .entry))) (next p i from) (r .found) (r .choices)) ⌝ }
     ensures { λ r. ⌜ StoreOk goal (now (block .entry)) (now (log .entry)) (now (store .exit)) ⌝ }
     ensures { λ r. ⌜ (r .found ≡ GaveUp → length (now (store .entry)) ≡ 0) ⌝ }
 {
@@ -172,9 +173,9 @@ fn search_after(
     notes: &mut [u16],
     last: &[u8],
 ) -> Attempt
-    requires { ⌜ ((sh : Sheet) × Leaving sh (now block) (now log) After (now last)) ⌝ }
+    requires { ⌜ ((sh : Sheet) × Leaving sh (now block) After (now last)) ⌝ }
     requires { ⌜ FactsOk (now block) (now facts) × StoreOk goal (now block) (now log) (now store) ⌝ }
-    ensures { λ r. ⌜ ((sh : Sheet) → Leaving sh (now (block .entry)) (now (log .entry)) After (now (last .entry)) → Answers goal sh (after (now (last .entry)) 0) (r .found) (r .choices)) ⌝ }
+    ensures { λ r. ⌜ ((sh : Sheet) → Leaving sh (now (block .entry)) After (now (last .entry)) → Answers goal sh (observations (now (log .entry))) (after (now (last .entry)) 0) (r .found) (r .choices)) ⌝ }
     ensures { λ r. ⌜ StoreOk goal (now (block .entry)) (now (log .entry)) (now (store .exit)) ⌝ }
     ensures { λ r. ⌜ (r .found ≡ GaveUp → length (now (store .entry)) ≡ 0) ⌝ }
 {
@@ -207,9 +208,9 @@ pub(crate) fn begin(
     from: Beginning,
     last: &[u8],
 ) -> Attempt
-    requires { ⌜ ((sh : Sheet) × Leaving sh (now block) (now log) from (now last)) ⌝ }
+    requires { ⌜ ((sh : Sheet) × Leaving sh (now block) from (now last)) ⌝ }
     requires { ⌜ FactsOk (now block) (now facts) × StoreOk goal (now block) (now log) (now store) ⌝ }
-    ensures { λ r. ⌜ ((sh : Sheet) → Leaving sh (now (block .entry)) (now (log .entry)) from (now (last .entry)) → Answers goal sh (partFrom from (now (last .entry))) (r .found) (r .choices)) ⌝ }
+    ensures { λ r. ⌜ ((sh : Sheet) → Leaving sh (now (block .entry)) from (now (last .entry)) → Answers goal sh (observations (now (log .entry))) (partFrom from (now (last .entry))) (r .found) (r .choices)) ⌝ }
     ensures { λ r. ⌜ (r .found ≡ GaveUp → length (now (store .entry)) ≡ 0) ⌝ }
 {
     match from {

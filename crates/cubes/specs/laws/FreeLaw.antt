@@ -60,10 +60,10 @@ pair-all {m} {i = i} {c = c} p ei l = record { grows = p .grows; has = λ e. rec
 
 -- ---- all pairs
 pub record AllTo (m facts : List ℕ) (k : ℕ) : Type 0 where
-  pub long : length facts ≡ 832
+  pub long : length facts ≡ 1088
   pub at : (j : ℕ) → j < k → PairIn m facts j
 
-pub all-none : {m facts : List ℕ} → length facts ≡ 832 → AllTo m facts 0
+pub all-none : {m facts : List ℕ} → length facts ≡ 1088 → AllTo m facts 0
 all-none l = record { long = l; at = λ j l. absurd (omega arith) }
 
 pub all-more : {m old new : List ℕ} {k : ℕ} (r : Bool) → AllTo m old k → PairEntered m old new k r → r ≡ true → AllTo m new (k + 1)

@@ -2,7 +2,7 @@
 use Rattle.lists.specs.Proving.{arith, ℕ, _≤_, _≡_, refl, _∙_, List, length, set, length-set, getD-set-other}
 use Rattle.cursors.specs.FactsKept.{FactsKept}
 
-pub kept-none : {facts : List ℕ} → length facts ≡ 832 → FactsKept facts facts
+pub kept-none : {facts : List ℕ} → length facts ≡ 1088 → FactsKept facts facts
 kept-none l = record { long = l; same = λ k h. refl }
 
 pub kept-set : {old facts : List ℕ} (at v : ℕ) → 560 ≤ at → FactsKept old facts → FactsKept old (set facts at v)

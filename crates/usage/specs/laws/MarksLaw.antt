@@ -75,16 +75,17 @@ module _ {sh : Sheet} {m : List ℕ} (tb : Tabled sh m) where
       go none e = refl
       go (some i) e = rw (lt-ltb i 32 (omega (arith, site-is sh s x i e .0, slot-count sh, tb .formed .few-open))) refl
 
-  module _ (b : List ℕ) {outputs targets : List ℕ} (t : Tabulates (sh .size .states) (sh .size .inputs) (step sh b) outputs targets) where
+  module _ (b : List ℕ) {outputs targets : List ℕ} (t : Tabulates (sh .size .states) (step sh b) outputs targets) where
     -- along inputs of the sheet
     same-from : (xs : List ℕ) → InputsOf sh xs → (set s : ℕ) → s < sh .size .states → markFrom (actsIn m targets) set s xs ≡ markFrom (acts sh b) set s xs
     unfolding markFrom actsIn
     same-from [] a set s l = refl
     same-from (x ∷ xs) a set s l =
         let es : s % 16 ≡ s = omega (arith, t .few-states) in
-        let ex : x % 16 ≡ x = omega (arith, t .few-inputs, a .0) in
-        rw (es, ex, slot-same s x (omega (arith, t .few-states)) (omega (arith, t .few-inputs, a .0)), t .target s x l (a .0))
-        (same-from xs (a .1) (mark set (siteOf sh s x)) (step sh b s x .target) (t .stays s x l (a .0)) ∙ one set s x)
+        let lx : x < 16 = omega (arith, tb .formed .size .inputs .few, a .0) in
+        let ex : x % 16 ≡ x = omega arith in
+        rw (es, ex, slot-same s x (omega (arith, t .few-states)) lx, t .target s x l lx)
+        (same-from xs (a .1) (mark set (siteOf sh s x)) (step sh b s x .target) (t .stays s x l lx) ∙ one set s x)
       where
         one : (set s x : ℕ) → markFrom (acts sh b) (mark set (siteOf sh s x)) (step sh b s x .target) xs ≡ markFrom (acts sh b) (mark set (acts sh b s x .used)) (acts sh b s x .move .target) xs
         one set s x = unfold acts in unfold step in unfold siteOf in refl

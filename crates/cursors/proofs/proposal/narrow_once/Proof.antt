@@ -5,7 +5,7 @@ use Rattle.cursors.proofs.proposal.narrow_once as own
 
 pub narrow-once-spec : {M : Type 1} → own.Statement.statement M
 narrow-once-spec = own.Tie.close (own.Tie.spec
-    (λ block facts base cube₀ log from bad length next₀ l₀ cube next l. (l ≤ length) × (length ≤ 256) × (from ≤ 65536) × Narrowed base cube₀ cube)
+    (λ block facts base cube₀ log from bad length next₀ l₀ cube next l. (l ≤ length) × (length ≤ 256) × (from ≤ 4294967296) × Narrowed base cube₀ cube)
     (λ _ _ _ _ _ _ _ length _ _ _ _ l. length - l)
     (λ c. search needs) (λ c κs. search needs) (λ c. (omega arith, omega arith, omega arith, narrowed-none))
     (λ c. narrowed-more (c .before .before .before .narrow-step .ensures) (c .before .before .loop .inv .3))

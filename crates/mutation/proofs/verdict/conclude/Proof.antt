@@ -11,6 +11,6 @@ conclude-spec =
     (λ c. search needs)
     (λ c κs. let given = c .before .before .before .before .before .before .before .pre in ((given .0 .0, from-front (given .0 .1)), given .1))
     (λ c. search needs) (λ c. search needs) (λ c κs. search needs) (λ c. search needs) (λ c. search needs)
-    (λ c. (λ sh f. judges-complete (rw (c .enum-told .given .1) at (c .before .before .before .before .before .before .first .ensures sh (from-front f))), tt))
+    (λ c. (λ sh f. judges-complete (f .suite) (rw (c .enum-told .given .1) at (c .before .before .before .before .before .before .first .ensures sh (from-front f))), tt))
     (λ c. search needs) (λ c. search needs)
-    (λ c. (λ sh f. judges-survivor (rw (c .before .before .found .given .1) at (c .before .before .before .before .before .before .before .before .first .ensures sh (from-front f))) (c .told-by .ensures .0), c .told-by .ensures .1 _ _)))
+    (λ c. (λ sh f. judges-survivor (f .suite) (rw (c .before .before .found .given .1) at (c .before .before .before .before .before .before .before .before .first .ensures sh (from-front f))) (c .told-by .ensures .0), c .told-by .ensures .1 _ _)))

@@ -7,7 +7,7 @@ use Rattle.search.proofs.attempts.find_thoroughly as own
 pub find-thoroughly-spec : {M : Type 1} → own.Statement.statement M
 find-thoroughly-spec = own.Tie.close (own.Tie.spec
     (λ c κs. search needs) (λ c. search needs)
-    (λ c κs. (well-formed (c .before .before .before .before .pre .1 .sheet .tabled), rw (c .before .no-facts .ensures) (length-replicate {A = ℕ} 832 0)))
+    (λ c κs. (well-formed (c .before .before .before .before .pre .1 .tabled), rw (c .before .no-facts .ensures) (length-replicate {A = ℕ} 1088 0)))
     (λ c κs. search needs) (λ c κs. search needs) (λ c κs. search needs)
     (λ c. let at-how-many = c .before .before in few (at-how-many .before .prepare .result) (at-how-many .how-many .ensures))
     (λ c. let at-how-many = c .before .before .before in sym (length-take-le _ _ (few (at-how-many .before .prepare .result) (at-how-many .how-many .ensures))))

@@ -10,10 +10,10 @@ first-spec = own.Tie.close (own.Tie.spec
     (λ c κs.
     let at-find = c .before .before .before .before .before .before in
     let given = c .before .before .before .before .before .before .before .before .before .before .before .before .pre in
-    ((given .0 .0, showing (given .0 .1 .sheet) (rw (c .before .before .before .before .enum-told .given .1) at (at-find .find .ensures .0 (given .0 .0) (given .0 .1)))), given .1))
+    ((given .0 .0, showing (given .0 .1 .tabled) (rw (c .before .before .before .before .enum-told .given .1) at (at-find .find .ensures .0 (given .0 .0) (given .0 .1)))), given .1))
     (λ c. search needs) (λ c. search needs)
     (λ c.
     let at-show = c .before .before .before .before in
     let at-find = c .before .before .before .before .before .before .before .before .before .before .before in
-    λ sh s. let a = rw (c .before .before .before .before .before .before .before .before .before .enum-told .given .1) at (at-find .find .ensures .0 sh s) in record { mutant = _; first = a .first; written = at-show .show .ensures sh (showing (s .sheet) a) })
+    λ sh s. let a = rw (c .before .before .before .before .before .before .before .before .before .enum-told .given .1) at (at-find .find .ensures .0 sh s) in record { mutant = _; first = a .first; written = at-show .show .ensures sh (showing (s .tabled) a) })
     (λ c. λ sh s. (nothing (c .before .find .result .found) _ (other (c .before .find .result .found) First (c .match .keys2) (λ z. omega arith) (λ z. omega arith)) (c .before .find .ensures .1) (c .before .find .ensures .0 sh s), record { board = refl; sequence = refl })))

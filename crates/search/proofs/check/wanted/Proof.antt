@@ -22,8 +22,8 @@ wanted-spec = own.Tie.close (own.Tie.spec
     let at-first-wrong = at-enum-told .before .before in
     let at-initial = at-first-wrong .before .before .before in
     let at-lay = at-initial .before in
-    λ sh w. passes w (at-lay .lay .ensures) (at-initial .initial .ensures) (at-first-wrong .first-wrong .ensures) (at-enum-told .enum-told .given .1) (c .meets .ensures))
+    λ sh w. passes w (at-lay .lay .ensures) (at-initial .initial .ensures) (at-lay .before .before .before .before .before .before .args .log .now) (at-first-wrong .first-wrong .ensures) (at-enum-told .enum-told .given .1) (c .meets .ensures))
     (λ c.
     let at-initial = c .before .before .before .before .before in
     let at-lay = at-initial .before in
-    λ sh w. fails w (at-lay .lay .ensures) (at-initial .initial .ensures) (c .before .before .first-wrong .ensures) (c .enum-told2 .given .1)))
+    λ sh w. fails w (at-lay .lay .ensures) (at-initial .initial .ensures) (at-lay .before .before .before .before .before .before .args .log .now) (c .before .before .first-wrong .ensures) (c .enum-told2 .given .1)))

@@ -1,6 +1,7 @@
 -- `search` and `search_from`: the choices from `from` on and below c at the next slot lead to no wanted mutant.
 use Rattle.lists.specs.Proving.{needs, arith, ℕ, _+_, _-_, _*_, _<_, _≤_, _≡_, refl, sym, _∙_, List, length, never}
 use Rattle.sheet.specs.Sheet.{Sheet}
+use Rattle.block.specs.Logged.{observations}
 use Rattle.cubes.specs.declared.goal.Goal.{Goal}
 use Rattle.refutation.specs.Lent.{StoreOk}
 use Rattle.search.specs.declared.settle.Found.the-variants.{Nothing}
@@ -24,7 +25,7 @@ use Rattle.search.proofs.settle.+search+search_from.Tie.{close}
 
 -- what stands before each choice
 record Trying (goal : Goal) (block log p : List ℕ) (i from k : ℕ) (store₀ store notes₀ notes : List ℕ) (c : ℕ) : Type 0 where
-  tried : (sh : Sheet) → Searching sh block log p i → Tried goal sh p i from c
+  tried : (sh : Sheet) → Searching sh block p i → Tried goal sh (observations log) p i from c
   low : from ≤ c
   ok : StoreOk goal block log store
   same-store : length store ≡ length store₀
@@ -66,9 +67,9 @@ pub +search+search-from-spec : {M : Type 1} → statement M
     (λ c κs.
     let at-shared-slice-known = c .before .before .before .before .before in
     let given = at-shared-slice-known .before .pre .1 in
-    (well-formed (given .0 .1 .sheet .tabled), given .1 .0, given .1 .1))
+    (well-formed (given .0 .1 .tabled), given .1 .0, given .1 .1))
     (λ c. search needs) (λ c. search needs)
-    (λ c. (λ sh w. refuted w (c .before .before .before .before .before .refuted .ensures .0) (c .if1 .taken), (c .before .before .before .before .before .refuted .ensures .1, λ e. never (cc))))
+    (λ c. (λ sh w. refuted w (c .before .before .before .before .before .before .before .before .before .before .before .before .args .log .now) (c .before .before .before .before .before .refuted .ensures .0) (c .if1 .taken), (c .before .before .before .before .before .refuted .ensures .1, λ e. never (cc))))
     (λ c κs. search needs) (λ c κs. search needs)
     (λ c κs.
     let at-slots = c .before .before .before in

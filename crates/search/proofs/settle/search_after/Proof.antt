@@ -1,6 +1,7 @@
 -- `search_after`: of the mutants that have the first i choices of the one given none that stands after it is wanted.
 use Rattle.lists.specs.Proving.{needs, arith, ℕ, _-_, _≤_, _≡_, refl, sym, _∙_, List, length, never}
 use Rattle.sheet.specs.Sheet.{Sheet}
+use Rattle.block.specs.Logged.{observations}
 use Rattle.cubes.specs.declared.goal.Goal.{Goal}
 use Rattle.refutation.specs.Lent.{StoreOk}
 use Rattle.search.specs.declared.settle.Found.the-variants.{Nothing}
@@ -11,7 +12,7 @@ use Rattle.search.proofs.AfterLaw.{Left, down, few, left-none, left-all
 use Rattle.search.proofs.settle.search_after as own
 
 record Going (goal : Goal) (block log last store₀ store notes₀ notes p : List ℕ) (i : ℕ) : Type 0 where
-  left : (sh : Sheet) → Leaving sh block log After last → Left goal sh block log last p i
+  left : (sh : Sheet) → Leaving sh block After last → Left goal sh (observations log) block last p i
   low : i ≤ 32
   ok : StoreOk goal block log store
   same-store : length store ≡ length store₀
