@@ -169,6 +169,18 @@ enum ranthelo_make_answer {
 
 void ranthelo_make(const uint8_t *sheet, size_t sheet_len, uint8_t *buffer, size_t buffer_len, size_t answer[RANTHELO_MAKE_ANSWER]);
 
+/* A tray of boards: how many they are, and their choices end to end. The first failed test of each, from 0, or RANTHELO_TRAY_NONE, at the
+ * front of the results; `results_len` counts numbers, not bytes, and is `boards` or more. The sheet is read once. RANTHELO_BOARD_LENGTH: the
+ * choices are not `boards` times the open pairs; RANTHELO_BAD_CHOICE: place the choice's index in the tray. */
+#define RANTHELO_TRAY_NONE 65535 /* no test fails */
+
+enum ranthelo_tray_answer {
+    RANTHELO_TRAY_ANSWER = 2
+};
+
+void ranthelo_tray(const uint8_t *sheet, size_t sheet_len, size_t boards, const uint8_t *choices, size_t choices_len,
+                   uint16_t *results, size_t results_len, size_t answer[RANTHELO_TRAY_ANSWER]);
+
 #ifdef __cplusplus
 }
 #endif

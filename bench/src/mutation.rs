@@ -1,4 +1,4 @@
-//! Run, first failed test and compare.
+//! Run, first failed test, trays of boards and compare.
 
 use crate::table::Table;
 use ranthelo::raw;
@@ -13,6 +13,7 @@ use std::hint::black_box;
 pub fn measure(table: &mut Table) {
     measure_run(table);
     measure_first_failed(table);
+    measure_trays(table);
     measure_compare(table);
 }
 
@@ -83,6 +84,70 @@ fn first_failed(table: &mut Table, case: &str, sheet: &[u8], board: &[u8]) -> (f
             black_box(plain::first_failed(black_box(sheet), board).ok());
         },
     )
+}
+
+/// Trays of boards, beside the boards taken singly.
+fn measure_trays(table: &mut Table) {
+    let silent = families::filled(families::sheet(&families::SILENT, 3), MOST_BYTES, 3);
+    let seeded = families::seeded(families::SEEDS.start, families::LARGEST);
+    let seeded = families::filled(seeded, MOST_BYTES / 2, 3);
+    for (name, sheet) in [("none fails", silent), ("most fail soon", seeded)] {
+        let (bytes, counts) = (sheet.encode(), Machine::new(&sheet).counts());
+        let mut random = Random::new(11);
+        let boards: Vec<Vec<u8>> = (0..4_000)
+            .map(|_| generator::board(&mut random, &counts))
+            .collect();
+        let forty = &boards[..40];
+        tray(table, &format!("40 boards, {name}"), &bytes, forty);
+        singly(table, &format!("40 boards singly, {name}"), &bytes, forty);
+        tray(table, &format!("4,000 boards, {name}"), &bytes, &boards);
+    }
+}
+
+fn tray(table: &mut Table, case: &str, sheet: &[u8], boards: &[Vec<u8>]) {
+    let (number, choices) = (boards.len(), boards.concat());
+    let mut results = vec![0; number];
+    let mut other = results.clone();
+    let expected = mutation::checked_tray(sheet, number, &choices, number);
+    let tried = plain::tray(sheet, number, &choices, &mut other);
+    assert_eq!(tried.map(|()| other.clone()), expected);
+    table.measure(
+        "tray",
+        case,
+        || {
+            let mut answer = [0; 2];
+            raw::tray(
+                black_box(sheet),
+                number,
+                &choices,
+                &mut results,
+                &mut answer,
+            );
+            black_box(answer);
+        },
+        || {
+            black_box(plain::tray(black_box(sheet), number, &choices, &mut other).ok());
+        },
+    );
+}
+
+fn singly(table: &mut Table, case: &str, sheet: &[u8], boards: &[Vec<u8>]) {
+    table.measure(
+        "tray",
+        case,
+        || {
+            for board in boards {
+                let mut answer = [0; 7];
+                raw::first_failed(black_box(sheet), board, &mut answer);
+                black_box(answer);
+            }
+        },
+        || {
+            for board in boards {
+                black_box(plain::first_failed(black_box(sheet), board).ok());
+            }
+        },
+    );
 }
 
 fn measure_compare(table: &mut Table) {

@@ -321,6 +321,14 @@ impl Tables<'_> {
         u32::from(self.waking > 1)
     }
 
+    /// How many choices each byte of a board has.
+    fn counts(&self) -> Vec<usize> {
+        let pairs = (0..self.states).flat_map(|s| (0..self.inputs).map(move |x| pair(s, x)));
+        let choices = pairs.map(|p| self.choices(p));
+        let waking = std::iter::once(self.waking);
+        waking.chain(choices).filter(|&count| count > 1).collect()
+    }
+
     /// A bit for each open pair, none for the others.
     fn bits(&self) -> [u32; 256] {
         let mut bits = [0; 256];
@@ -379,6 +387,35 @@ pub fn first_failed(sheet: &[u8], board: &[u8]) -> Result<Failed, Refusal> {
     let failure = walk(&tables, &mutant, |p| set |= bits[p]);
     let used = used(set);
     Ok(Failed { failure, used })
+}
+
+/// A tray of boards: the first failed test of each, 65,535 for none, at the front of the results.
+pub fn tray(
+    sheet: &[u8],
+    boards: usize,
+    choices: &[u8],
+    results: &mut [u16],
+) -> Result<(), Refusal> {
+    let tables = load(sheet)?;
+    let open = tables.summary.open_pairs;
+    if boards.checked_mul(open) != Some(choices.len()) {
+        return refuse(13, 0);
+    }
+    let counts = tables.counts();
+    for (i, board) in choices.chunks_exact(open.max(1)).enumerate() {
+        let high = board.iter().zip(&counts);
+        if let Some(index) = high.into_iter().position(|(&c, &n)| usize::from(c) >= n) {
+            return refuse(14, i * open + index);
+        }
+    }
+    if results.len() < boards {
+        return refuse(16, 0);
+    }
+    for (i, result) in results[..boards].iter_mut().enumerate() {
+        let mutant = tables.mutant(&choices[i * open..][..open])?;
+        *result = failure(&tables, &mutant).map_or(65_535, |failure| failure.test as u16);
+    }
+    Ok(())
 }
 
 /// The first test that a mutant fails.

@@ -26,6 +26,7 @@ const OPERATIONS: &[&str] = &[
     "write",
     "run",
     "first failed",
+    "tray",
     "compare",
     "judge",
     "make",
@@ -103,6 +104,11 @@ fn perform(operation: &str, sheet: &[u8], deep: &[u8]) {
         "first failed" => {
             let mut answer = [0; 7];
             raw::first_failed(sheet, &[0; 32], &mut answer);
+            black_box(answer);
+        }
+        "tray" => {
+            let mut answer = [0; 2];
+            raw::tray(sheet, 2, &[0; 64], &mut [0; 2], &mut answer);
             black_box(answer);
         }
         "compare" => {

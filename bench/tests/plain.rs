@@ -56,6 +56,12 @@ fn boards() {
         let failed = plain::first_failed(&bytes, &board);
         assert_eq!(failed, enumeration::first_failed(&bytes, &board));
 
+        let (choices, boards) = (board.repeat(3), random.pick(&[2, 3, 3, 3]));
+        let mut results = vec![0; random.pick(&[2, 3, 4])];
+        let tried = plain::tray(&bytes, boards, &choices, &mut results);
+        let expected = enumeration::tray(&bytes, boards, &choices, results.len());
+        assert_eq!(tried.map(|()| results[..boards].to_vec()), expected);
+
         let compared = plain::compare(&bytes, &board, &mut buffer);
         let sequence = compared.map(|length| length.map(|length| buffer[..length].to_vec()));
         assert_eq!(sequence, enumeration::compare(&bytes, &board, room));

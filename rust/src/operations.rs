@@ -296,3 +296,23 @@ pub fn make(sheet: &[u8]) -> Result<Made, Refusal> {
     })?;
     Ok(Made { sheet, appended })
 }
+
+/// The first test that each board of a tray fails, none where it fails none. The boards' choices stand end to end.
+///
+/// ```
+/// let sheet = ranthelo::text::assemble(b"SIZE 1 1 2\n RULE 0 0 0 0\n FAULT 0 0 1 0\n TEST\n TEST 0")?;
+/// assert_eq!(ranthelo::tray(&sheet, 3, &[0, 1, 0])?, [None, Some(1), None]);
+/// # Ok::<(), Box<dyn std::error::Error>>(())
+/// ```
+pub fn tray(sheet: &[u8], boards: usize, choices: &[u8]) -> Result<Vec<Option<usize>>, Refusal> {
+    // A tray that is refused needs no results: so no more are made than there are boards.
+    let room = match read(sheet)?.open_pairs {
+        0 => boards,
+        open_pairs => boards.min(choices.len() / open_pairs),
+    };
+    let (mut results, mut answer) = (vec![0; room], [0; 2]);
+    raw::tray(sheet, boards, choices, &mut results, &mut answer);
+    rest(&answer)?;
+    let test = |result: u16| (result != u16::MAX).then_some(usize::from(result));
+    Ok(results.into_iter().map(test).collect())
+}

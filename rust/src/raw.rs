@@ -94,6 +94,16 @@ mod c {
             buffer_len: usize,
             answer: *mut usize,
         );
+        pub fn ranthelo_tray(
+            sheet: *const u8,
+            sheet_len: usize,
+            boards: usize,
+            choices: *const u8,
+            choices_len: usize,
+            results: *mut u16,
+            results_len: usize,
+            answer: *mut usize,
+        );
     }
 }
 
@@ -272,6 +282,30 @@ pub fn make(sheet: &[u8], buffer: &mut [u8], answer: &mut [usize; 4]) {
             sheet.len(),
             buffer.as_mut_ptr(),
             buffer.len(),
+            answer.as_mut_ptr(),
+        )
+    }
+}
+
+/// A tray of boards, their choices end to end. Number, place; the first failed test of each board, 65,535 for none, at the front of
+/// the results.
+pub fn tray(
+    sheet: &[u8],
+    boards: usize,
+    choices: &[u8],
+    results: &mut [u16],
+    answer: &mut [usize; 2],
+) {
+    // SAFETY: all slices and the answer are valid for their lengths throughout the call.
+    unsafe {
+        c::ranthelo_tray(
+            sheet.as_ptr(),
+            sheet.len(),
+            boards,
+            choices.as_ptr(),
+            choices.len(),
+            results.as_mut_ptr(),
+            results.len(),
             answer.as_mut_ptr(),
         )
     }

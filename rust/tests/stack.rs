@@ -4,7 +4,7 @@ mod common;
 
 use common::root;
 use ranthelo::{
-    STACK, Tables, compare, first_failed, generate, judge, make, raw, read, run, write,
+    STACK, Tables, compare, first_failed, generate, judge, make, raw, read, run, tray, write,
 };
 use std::fs;
 use std::thread::Builder;
@@ -47,6 +47,7 @@ fn other_operations() {
         assert!(read(&sheet).is_ok());
         assert!(run(&sheet, &[1], &[0; 100]).is_ok());
         assert!(first_failed(&sheet, &[0]).is_ok());
+        assert!(tray(&sheet, 2, &[0, 1]).is_ok());
         assert!(compare(&sheet, &[0]).is_ok());
         assert!(generate(1, [16, 16, 16]).is_ok());
         let (lengths, presses) = ([256; 31], [0; 31 * 256]);

@@ -315,6 +315,28 @@ pub fn first_failed(bytes: &[u8], board: &[u8]) -> Result<Failed, Refusal> {
     Ok(Failed { failure, used })
 }
 
+/// A tray of boards with room for so many results: the first failed test of each, 65,535 for none.
+pub fn tray(bytes: &[u8], boards: usize, choices: &[u8], room: usize) -> Result<Vec<u16>, Refusal> {
+    let machine = Machine::new(&read(bytes)?.sheet);
+    let counts = machine.counts();
+    if choices.len() as u128 != boards as u128 * counts.len() as u128 {
+        return refuse(13, 0);
+    }
+    let high = |&i: &usize| usize::from(choices[i]) >= counts[i % counts.len()];
+    if let Some(index) = (0..choices.len()).find(high) {
+        return refuse(14, index);
+    }
+    if room < boards {
+        return refuse(16, 0);
+    }
+    let result = |i: usize| {
+        let board = &choices[i * counts.len()..][..counts.len()];
+        let failure = machine.mutant(board).first_failed();
+        failure.map_or(65_535, |failure| failure.test as u16)
+    };
+    Ok((0..boards).map(result).collect())
+}
+
 /// Compare, with a buffer of `room` bytes: the shortest distinguishing sequence, or none.
 pub fn compare(bytes: &[u8], board: &[u8], room: usize) -> Result<Option<Vec<u8>>, Refusal> {
     let machine = Machine::new(&read(bytes)?.sheet);

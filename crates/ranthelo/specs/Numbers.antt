@@ -17,6 +17,8 @@ use Rattle.mutation.specs.declared.verdict.Judged.{Judged}
 use Rattle.mutation.specs.declared.verdict.Judged.the-variants as judged
 use Rattle.making.specs.declared.Made.{Made}
 use Rattle.making.specs.declared.Made.the-variants as made
+use Rattle.tray.specs.declared.Tried.{Tried}
+use Rattle.tray.specs.declared.Tried.the-variants as tried
 
 -- number, place; states, inputs, outputs (01: n, k, m), and how many RULEs, FAULTs, TESTs and open pairs
 abbrev pub readNumbers : Reading → List ℕ
@@ -61,3 +63,8 @@ judgedNumbers (judged.Refused number place) = number ∷ place ∷ 0 ∷ 0 ∷ [
 abbrev pub madeNumbers : Made → List ℕ
 madeNumbers (made.Done length appended) = 0 ∷ 0 ∷ length ∷ appended ∷ []
 madeNumbers (made.Refused number place) = number ∷ place ∷ 0 ∷ 0 ∷ []
+
+-- number, place
+abbrev pub triedNumbers : Tried → List ℕ
+triedNumbers tried.Done = 0 ∷ 0 ∷ []
+triedNumbers (tried.Refused number place) = number ∷ place ∷ []

@@ -10,6 +10,7 @@ ghost use Rattle.sheet.specs.Part.{parting};
 ghost use Rattle.sheet.specs.Tables.{readAnswer, partAnswer};
 ghost use Rattle.model.specs.Operations.{running, failing, comparing, judging};
 ghost use Rattle.model.specs.Making.{making};
+ghost use Rattle.model.specs.Tray.{trying};
 ghost use Rattle.lists.specs.Lists.{overlay};
 ghost use Rattle.writing.specs.Drawing.{drawing};
 ghost use Rattle.writing.specs.Writing.{writing, writtenAnswer, sheetWrites};
@@ -17,7 +18,8 @@ ghost use Rattle.generator.specs.Generating.{generating};
 ghost use Rattle.mutation.specs.Answers.{ranAnswer, ranWrites, failedAnswer, comparedAnswer, comparedWrites};
 ghost use Rattle.mutation.specs.Judging.{judgedAnswer, boardWrites, sequenceWrites, Measured};
 ghost use Rattle.making.specs.Answers.{madeAnswer, madeWrites};
-ghost use Rattle.ranthelo.specs.Numbers.{readNumbers, partNumbers, writtenNumbers, ranNumbers, failedNumbers, comparedNumbers, judgedNumbers, madeNumbers};
+ghost use Rattle.tray.specs.Answers.{triedAnswer, triedWrites};
+ghost use Rattle.ranthelo.specs.Numbers.{readNumbers, partNumbers, writtenNumbers, ranNumbers, failedNumbers, comparedNumbers, judgedNumbers, madeNumbers, triedNumbers};
 use making::Made;
 use mutation::Compared;
 use mutation::Failed;
@@ -26,6 +28,7 @@ use mutation::Ran;
 use sheet::Parting;
 use sheet::Reading;
 use sheet::Size;
+use tray::Tried;
 use writing::Written;
 
 // Read.
@@ -277,6 +280,28 @@ pub extern "C" fn ranthelo_make(sheet: &[u8], buffer: &mut [u8], answer: &mut [u
         }
         Made::Refused(number, place) => {
             *answer = [number as usize, place, 0, 0];
+        }
+    }
+}
+
+// A tray of boards.
+#[no_mangle]
+pub extern "C" fn ranthelo_tray(
+    sheet: &[u8],
+    boards: usize,
+    choices: &[u8],
+    results: &mut [u16],
+    answer: &mut [usize; 2],
+)
+    ensures { λ r. ⌜ now (answer .exit) ≡ triedNumbers (triedAnswer (trying (now (sheet .entry)) boards (now (choices .entry)) (length (now (results .entry))))) ⌝ }
+    ensures { λ r. ⌜ now (results .exit) ≡ overlay (triedWrites (trying (now (sheet .entry)) boards (now (choices .entry)) (length (now (results .entry))))) (now (results .entry)) ⌝ }
+{
+    match tray::first_failures(sheet, boards, choices, results) {
+        Tried::Done => {
+            *answer = [0, 0];
+        }
+        Tried::Refused(number, place) => {
+            *answer = [number as usize, place];
         }
     }
 }

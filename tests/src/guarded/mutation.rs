@@ -1,9 +1,9 @@
-//! Run, first failed test and compare.
+//! Run, first failed test, a tray of boards and compare.
 
-use super::memory::{buffer, bytes, flag, Answer};
+use super::memory::{buffer, bytes, flag, Answer, Guarded};
 use crate::enumeration::{Failed, Failure, Ran, Used};
 use crate::reference::Refusal;
-use ranthelo::raw::{compare, first_failed, run};
+use ranthelo::raw::{compare, first_failed, run, tray};
 
 fn used(words: &[usize]) -> Used {
     let (number, set) = (words[0], words[1]);
@@ -80,4 +80,30 @@ pub fn checked_compare(
     }
     assert_eq!(length, 0, "the board conforms, yet a length is told");
     Ok(None)
+}
+
+/// A tray of boards with room for so many results: the first failed test of each, 65,535 for none.
+pub fn checked_tray(
+    sheet: &[u8],
+    boards: usize,
+    choices: &[u8],
+    room: usize,
+) -> Result<Vec<u16>, Refusal> {
+    let (sheet, choices) = (bytes(sheet), bytes(choices));
+    let filler: Vec<u16> = (0..room).map(|i| 0x8000 | (i * 7 + 3) as u16).collect();
+    let mut results = Guarded::new(&filler, 0xA7A7);
+    let mut answer = Answer::new();
+    tray(
+        sheet.content(),
+        boards,
+        choices.content(),
+        results.content_mut(),
+        answer.lend(),
+    );
+    sheet.untouched();
+    choices.untouched();
+    let result = answer.result().map(|words| assert!(words.is_empty()));
+    let written = result.map_or(0, |()| boards);
+    let numbers = results.front(written).to_vec();
+    result.map(|()| numbers)
 }
