@@ -1,0 +1,4 @@
+pub mod Record
+pub mod Means
+pub mod Steps
+pub mod laws

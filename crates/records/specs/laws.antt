@@ -1,0 +1,3 @@
+pub mod ScanLaw
+pub mod DifferLaw
+pub mod GivenLaw
