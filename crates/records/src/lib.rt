@@ -16,7 +16,6 @@ use search::exists;
 use search::first;
 use sheet::Reading;
 use sheet::refusal_of;
-use walking::Taken;
 ghost use mathlib.Core.Path.{_≡_};
 ghost use lib.ListN.{length};
 ghost use Rattle.lists.specs.Lists.{overlay};
@@ -24,14 +23,21 @@ ghost use Rattle.sheet.specs.Sheet.{Sheet};
 ghost use Rattle.sheet.specs.Reading.{accepted};
 ghost use Rattle.block.specs.Tabled.{Tabled};
 ghost use Rattle.search.specs.Shown.{Room};
-ghost use Rattle.walking.specs.Taking.{takenBy, takenAnswer, takenBoard, takenSequence, Takes};
 ghost use Rattle.records.specs.Record.{brokenIn, withRecord, outcomeOf, checking, firstGiving, explainOn, explaining};
-ghost use Rattle.records.specs.Answers.{recordedAnswer, ToldRecorded, ToldExplained, Sized};
+ghost use Rattle.records.specs.Answers.{recordedAnswer, ToldRecorded, explainedBy, explainedAnswer, explainedBoard, explainedSequence, Explains, ToldExplained, Sized};
 
 // What is told of a record: as specified, or the offset of the first SEEN whose output differs; and whether some mutant gives every output.
 pub enum Recorded {
     AsSpecified(bool),
     Differs(usize, bool),
+    Refused(u8, usize),
+}
+
+// Which mutant gives a record: one that conforms, or the length of its shortest distinguishing sequence; or none does.
+pub enum Explained {
+    Conforms,
+    Departs(usize),
+    Nothing,
     Refused(u8, usize),
 }
 
@@ -75,19 +81,19 @@ pub fn check_record(sheet: &[u8], log: &[u8]) -> Recorded
     check_accepted(&block, size.inputs, size.outputs, log)
 }
 
-fn explained_by(found: Difference) -> Taken
-    ensures { λ r. ⌜ r ≡ takenBy found ⌝ }
+fn explained_by(found: Difference) -> Explained
+    ensures { λ r. ⌜ r ≡ explainedBy found ⌝ }
 {
     match found {
-        Difference::Nothing => Taken::Conforms,
-        Difference::Shown(length) => Taken::Departs(length),
+        Difference::Nothing => Explained::Conforms,
+        Difference::Shown(length) => Explained::Departs(length),
     }
 }
 
 // The first mutant that gives a log, with room in both buffers.
-fn first_giving(block: &Block, log: &[u8], board: &mut [u8], sequence: &mut [u8]) -> Taken
+fn first_giving(block: &Block, log: &[u8], board: &mut [u8], sequence: &mut [u8]) -> Explained
     requires { ⌜ ((sh : Sheet) × Tabled sh (now block)) × Room (now block) (now board) (now sequence) ⌝ }
-    ensures { λ r. ⌜ ((sh : Sheet) → Tabled sh (now (block .entry)) → Takes (accepted (firstGiving sh (now (log .entry)))) r (now (board .entry)) (now (board .exit)) (now (sequence .entry)) (now (sequence .exit))) ⌝ }
+    ensures { λ r. ⌜ ((sh : Sheet) → Tabled sh (now (block .entry)) → Explains (accepted (firstGiving sh (now (log .entry)))) r (now (board .entry)) (now (board .exit)) (now (sequence .entry)) (now (sequence .exit))) ⌝ }
 {
     let none: [u8; 0] = [];
     let mut nodes: u32 = 0;
@@ -101,7 +107,7 @@ fn first_giving(block: &Block, log: &[u8], board: &mut [u8], sequence: &mut [u8]
         sequence,
         &mut nodes,
     ) {
-        Searched::Nothing => Taken::End,
+        Searched::Nothing => Explained::Nothing,
         Searched::First(found) => explained_by(found),
     }
 }
@@ -114,28 +120,28 @@ fn explain_accepted(
     log: &[u8],
     board: &mut [u8],
     sequence: &mut [u8],
-) -> Taken
+) -> Explained
     requires { ⌜ ((sh : Sheet) × Sized sh (now block) inputs outputs) ⌝ }
-    ensures { λ r. ⌜ ((sh : Sheet) → Sized sh (now (block .entry)) inputs outputs → Takes (explainOn sh (now (log .entry)) (length (now (board .entry))) (length (now (sequence .entry)))) r (now (board .entry)) (now (board .exit)) (now (sequence .entry)) (now (sequence .exit))) ⌝ }
+    ensures { λ r. ⌜ ((sh : Sheet) → Sized sh (now (block .entry)) inputs outputs → Explains (explainOn sh (now (log .entry)) (length (now (board .entry))) (length (now (sequence .entry)))) r (now (board .entry)) (now (board .exit)) (now (sequence .entry)) (now (sequence .exit))) ⌝ }
 {
     if let Place::At(at) = broken(log, inputs, outputs) {
-        return Taken::Refused(20, at);
+        return Explained::Refused(20, at);
     }
     if board.len() < wide(slots(block)) {
-        return Taken::Refused(16, 0);
+        return Explained::Refused(16, 0);
     }
     if sequence.len() < bound(wide(states(block))) as usize {
-        return Taken::Refused(16, 1);
+        return Explained::Refused(16, 1);
     }
     first_giving(block, log, board, sequence)
 }
 
 // Explain a record: the first mutant in dictionary order that gives it, at the board buffer's front, and its shortest, then smallest,
-// distinguishing sequence, if it is nonconforming, at the sequence buffer's; or none (`End`), with nothing written.
-pub fn explain_record(sheet: &[u8], log: &[u8], board: &mut [u8], sequence: &mut [u8]) -> Taken
-    ensures answer { λ r. ⌜ r ≡ takenAnswer (explaining (now (sheet .entry)) (now (log .entry)) (length (now (board .entry))) (length (now (sequence .entry)))) ⌝ }
-    ensures board { λ r. ⌜ now (board .exit) ≡ overlay (takenBoard (explaining (now (sheet .entry)) (now (log .entry)) (length (now (board .entry))) (length (now (sequence .entry))))) (now (board .entry)) ⌝ }
-    ensures sequence { λ r. ⌜ now (sequence .exit) ≡ overlay (takenSequence (explaining (now (sheet .entry)) (now (log .entry)) (length (now (board .entry))) (length (now (sequence .entry))))) (now (sequence .entry)) ⌝ }
+// distinguishing sequence, if it is nonconforming, at the sequence buffer's; or none, with nothing written.
+pub fn explain_record(sheet: &[u8], log: &[u8], board: &mut [u8], sequence: &mut [u8]) -> Explained
+    ensures answer { λ r. ⌜ r ≡ explainedAnswer (explaining (now (sheet .entry)) (now (log .entry)) (length (now (board .entry))) (length (now (sequence .entry)))) ⌝ }
+    ensures board { λ r. ⌜ now (board .exit) ≡ overlay (explainedBoard (explaining (now (sheet .entry)) (now (log .entry)) (length (now (board .entry))) (length (now (sequence .entry))))) (now (board .entry)) ⌝ }
+    ensures sequence { λ r. ⌜ now (sequence .exit) ≡ overlay (explainedSequence (explaining (now (sheet .entry)) (now (log .entry)) (length (now (board .entry))) (length (now (sequence .entry))))) (now (sequence .entry)) ⌝ }
     ensures told { λ r. ⌜ ToldExplained (now (sheet .entry)) (now (log .entry)) (length (now (board .entry))) (length (now (sequence .entry))) r (now (board .exit)) (now (sequence .exit)) ⌝ }
 {
     let mut block = fresh();
@@ -144,7 +150,7 @@ pub fn explain_record(sheet: &[u8], log: &[u8], board: &mut [u8], sequence: &mut
     let reading = load(sheet, &mut block, &mut starts, &mut lengths);
     let Reading::Accepted(size) = reading else {
         let why = refusal_of(reading);
-        return Taken::Refused(why.number, why.place);
+        return Explained::Refused(why.number, why.place);
     };
     explain_accepted(
         &block,

@@ -1,0 +1,46 @@
+use borrow.Author.Needs.{needs}
+use Rattle.records.proofs.check_record.Statement.{statement}
+use Rattle.records.proofs.check_record.Tie as tie
+use Rattle.records.proofs.check_record.Reads as reads
+use Rattle.records.proofs.check_record.Lts as lts
+use Rattle.block.proofs.fresh.Reads as fresh-reads
+use Rattle.block.proofs.load.Reads as load-reads
+use Rattle.records.proofs.check_accepted.Reads as check-accepted-reads
+use Rattle.sheet.proofs.refusal_of.Reads as refusal-of-reads
+
+fresh-requires : tie.Need-fresh-requires
+fresh-requires c κs = search needs
+
+load-requires : tie.Need-load-requires
+load-requires c κs = search needs
+
+enum-known-reading : tie.Need-enum-known-reading
+enum-known-reading c = search needs
+
+enum-told : tie.Need-enum-told
+enum-told c = search needs
+
+refusal-of-requires : tie.Need-refusal-of-requires
+refusal-of-requires c κs = search needs
+
+returns : tie.Need-returns
+returns c = ?
+
+check-accepted-requires : tie.Need-check-accepted-requires
+check-accepted-requires c κs = ?
+
+returns-2 : tie.Need-returns-2
+returns-2 c = ?
+
+pub check-record-spec : {M : Type 1} → statement M
+check-record-spec =
+    tie.close
+    (tie.spec
+    fresh-requires
+    load-requires
+    enum-known-reading
+    enum-told
+    refusal-of-requires
+    returns
+    check-accepted-requires
+    returns-2)
