@@ -22,7 +22,7 @@ use Rattle.block.specs.Logged.{observations}
 use Rattle.block.specs.Tabulated.{ruleOf}
 use Rattle.block.specs.Tabled.{Tabled}
 use Rattle.block.specs.laws.TabledLaw.{rule-same}
-use Rattle.block.specs.laws.OpenedLaw.{closed-by}
+use Rattle.block.specs.laws.OpenedLaw.{closed-by, Opened}
 use Rattle.cubes.specs.declared.goal.Goal.the-variants.{Any}
 use Rattle.machine.specs.declared.product.Difference.{Difference}
 use Rattle.machine.specs.Differences.{differenceOf}
@@ -42,6 +42,10 @@ use Rattle.records.specs.Answers.{recordedBy, recordedAnswer, RecordedSa
 use Rattle.records.specs.laws.ScanLaw.{whole, broken-at}
 use Rattle.records.specs.laws.DifferLaw.{first-difference}
 use Rattle.records.specs.laws.GivenLaw.{giving-none, giving-first, explained-means, given-means}
+
+-- from the first mutant on
+pub from-front : {sh : Sheet} {m last : List ℕ} → Tabled sh m → Leaving sh m Front last
+from-front tb = record { tabled = tb; is = tt }
 
 -- ---- beside the specification and the mutants
 module _ {sh : Sheet} {m : List ℕ} (tb : Tabled sh m) (log : List ℕ) where
@@ -160,10 +164,13 @@ module _ {sh : Sheet} {m : List ℕ} {inputs outputs : ℕ} (sz : Sized sh m inp
               rw (whole-record z, h, g) x
 
 -- ---- what is told
--- a sheet that was read
-pub sized : {sh : Sheet} {m : List ℕ} {z : Summary} → Tabled sh m → z ≡ summaryOf sh → Sized sh m (z .inputs) (z .outputs)
+-- a sheet that was read: the summary has its numbers of inputs and outputs
+pub sized : {s m starts lengths : List ℕ} {z : Summary} {a : ReadAnswer} → a ≡ readAnswer (reading s) → a ≡ read.Accepted z → (x : Opened s z m starts lengths) →
+    Sized (x .sheet) m (z .inputs) (z .outputs)
 unfolding summaryOf
-sized tb e = rw e (record { tabled = tb; inputs-are = refl; outputs-are = refl })
+sized {s} {m} {starts} {lengths} {z} {a} e ea x =
+    let same : z ≡ summaryOf (x .sheet) = (let h : read.Accepted z ≡ readAnswer (accepted (x .sheet)) = sym ea ∙ e ∙ ap readAnswer (x .is) in cc) in
+    record { tabled = x .holds .loads .tabled; inputs-are = ap (λ (y : Summary). y .inputs) same; outputs-are = ap (λ (y : Summary). y .outputs) same }
 
 module _ (s log : List ℕ) where
   pub check-refused : (a : ReadAnswer) (number place : ℕ) (r : Recorded) → a ≡ readAnswer (reading s) → a ≡ read.Refused number place → r ≡ recorded.Refused number place →

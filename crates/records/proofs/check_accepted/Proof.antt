@@ -1,30 +1,10 @@
-use borrow.Author.Needs.{needs}
-use Rattle.records.proofs.check_accepted.Statement.{statement}
-use Rattle.records.proofs.check_accepted.Tie as tie
-use Rattle.records.proofs.check_accepted.Reads as reads
-use Rattle.records.proofs.check_accepted.Lts as lts
-use Rattle.records.proofs.compare_record.Reads as compare-record-reads
-use Rattle.records.proofs.scan.broken.Reads as broken-reads
+-- `check_accepted`: 20, or the whole record.
+use Rattle.lists.specs.Proving.{needs}
+use Rattle.records.proofs.OperateLaw.{checks-broken, checks-whole}
+use Rattle.records.proofs.check_accepted as own
 
-broken-requires : tie.Need-broken-requires
-broken-requires c κs = search needs
-
-enum-known-at : tie.Need-enum-known-at
-enum-known-at c = search needs
-
-enum-told : tie.Need-enum-told
-enum-told c = search needs
-
-compare-record-requires : tie.Need-compare-record-requires
-compare-record-requires c κs = search needs
-
-returns : tie.Need-returns
-returns c = ?
-
-returns-2 : tie.Need-returns-2
-returns-2 c = ?
-
-pub check-accepted-spec : {M : Type 1} → statement M
-check-accepted-spec =
-    tie.close
-    (tie.spec broken-requires enum-known-at enum-told compare-record-requires returns returns-2)
+pub check-accepted-spec : {M : Type 1} → own.Statement.statement M
+check-accepted-spec = own.Tie.close (own.Tie.spec
+    (λ c κs. search needs) (λ c. search needs) (λ c. search needs) (λ c κs. (c .before .before .before .before .pre .0, c .before .before .before .before .pre .1 .tabled))
+    (λ c. λ sh sz. checks-broken sz (c .before .before .before .before .before .args .log .now) (c .before .before .before .broken .ensures) _ (c .before .at .given .1))
+    (λ c. λ sh sz. checks-whole sz (c .before .before .before .before .before .args .log .now) (c .before .before .before .broken .ensures) (c .before .enum-told .given .1) (c .compare-record .ensures sh (sz .tabled))))

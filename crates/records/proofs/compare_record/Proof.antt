@@ -1,30 +1,11 @@
-use borrow.Author.Needs.{needs}
-use Rattle.records.proofs.compare_record.Statement.{statement}
-use Rattle.records.proofs.compare_record.Tie as tie
-use Rattle.records.proofs.compare_record.Reads as reads
-use Rattle.records.proofs.compare_record.Lts as lts
-use Rattle.records.proofs.differ.first_difference.Reads as first-difference-reads
-use Rattle.search.proofs.exists.Reads as exists-reads
+-- `compare_record`: the first difference, and whether a mutant gives it.
+use Rattle.lists.specs.Proving.{needs}
+use Rattle.block.specs.laws.TabledLaw.{well-formed}
+use Rattle.records.proofs.OperateLaw.{compares}
+use Rattle.records.proofs.compare_record as own
 
-exists-requires : tie.Need-exists-requires
-exists-requires c κs = search needs
-
-first-difference-requires : tie.Need-first-difference-requires
-first-difference-requires c κs = ?
-
-enum-told : tie.Need-enum-told
-enum-told c = search needs
-
-enum-known-at : tie.Need-enum-known-at
-enum-known-at c = search needs
-
-returns : tie.Need-returns
-returns c = ?
-
-returns-2 : tie.Need-returns-2
-returns-2 c = ?
-
-pub compare-record-spec : {M : Type 1} → statement M
-compare-record-spec =
-    tie.close
-    (tie.spec exists-requires first-difference-requires enum-told enum-known-at returns returns-2)
+pub compare-record-spec : {M : Type 1} → own.Statement.statement M
+compare-record-spec = own.Tie.close (own.Tie.spec
+    (λ c κs. search needs) (λ c κs. well-formed (c .before .before .before .pre .1)) (λ c. search needs) (λ c. search needs)
+    (λ c. λ sh tb. compares tb (c .before .before .before .before .before .before .args .log .now) (c .before .before .first-difference .result) (c .before .before .first-difference .ensures) (c .before .before .before .exists .ensures sh tb) .0 (c .enum-told .given .1))
+    (λ c. λ sh tb. compares tb (c .before .before .before .before .before .before .before .args .log .now) (c .before .before .before .first-difference .result) (c .before .before .before .first-difference .ensures) (c .before .before .before .before .exists .ensures sh tb) .1 _ (c .before .at .given .1)))

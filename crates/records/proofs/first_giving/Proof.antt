@@ -1,56 +1,12 @@
-use borrow.Author.Needs.{needs}
-use Rattle.records.proofs.first_giving.Statement.{statement}
-use Rattle.records.proofs.first_giving.Tie as tie
-use Rattle.records.proofs.first_giving.Reads as reads
-use Rattle.records.proofs.first_giving.Lts as lts
-use Rattle.records.proofs.explained_by.Reads as explained-by-reads
-use Rattle.search.proofs.first.Reads as first-reads
+-- `first_giving`: what the search from the first mutant on finds.
+use Rattle.lists.specs.Proving.{needs}
+use Rattle.records.proofs.OperateLaw.{from-front, explains-nothing, explains-first}
+use Rattle.records.proofs.first_giving as own
 
-slice-aggregate-first : tie.Need-slice-aggregate-first
-slice-aggregate-first c = search needs
-
-first-requires : tie.Need-first-requires
-first-requires c κs = ?
-
-enum-told : tie.Need-enum-told
-enum-told c = search needs
-
-enum-known-found : tie.Need-enum-known-found
-enum-known-found c = search needs
-
-explained-by-requires : tie.Need-explained-by-requires
-explained-by-requires c κs = search needs
-
-same-length : tie.Need-same-length
-same-length c = search needs
-
-same-length-2 : tie.Need-same-length-2
-same-length-2 c = search needs
-
-returns : tie.Need-returns
-returns c = ?
-
-same-length-3 : tie.Need-same-length-3
-same-length-3 c = search needs
-
-same-length-4 : tie.Need-same-length-4
-same-length-4 c = search needs
-
-returns-2 : tie.Need-returns-2
-returns-2 c = ?
-
-pub first-giving-spec : {M : Type 1} → statement M
-first-giving-spec =
-    tie.close
-    (tie.spec
-    slice-aggregate-first
-    first-requires
-    enum-told
-    enum-known-found
-    explained-by-requires
-    same-length
-    same-length-2
-    returns
-    same-length-3
-    same-length-4
-    returns-2)
+pub first-giving-spec : {M : Type 1} → own.Statement.statement M
+first-giving-spec = own.Tie.close (own.Tie.spec
+    (λ c. search needs) (λ c κs. let given = c .before .before .before .before .before .before .before .pre in ((given .0 .0, from-front (given .0 .1)), given .1))
+    (λ c. search needs) (λ c. search needs) (λ c κs. search needs) (λ c. search needs) (λ c. search needs)
+    (λ c. λ sh tb. explains-nothing tb (c .before .before .before .before .before .before .before .before .before .before .before .before .before .before .args .log .now) (rw (c .enum-told .given .1) at (c .before .before .before .before .before .before .first .ensures sh (from-front tb))))
+    (λ c. search needs) (λ c. search needs)
+    (λ c. λ sh tb. explains-first tb (c .before .before .before .before .before .before .before .before .before .before .before .before .before .before .before .before .args .log .now) (rw (c .before .before .found .given .1) at (c .before .before .before .before .before .before .before .before .first .ensures sh (from-front tb))) (c .explained-by .ensures)))
