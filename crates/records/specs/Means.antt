@@ -11,7 +11,7 @@ use Rattle.sheet.specs.Sheet.{Sheet}
 use Rattle.model.specs.Machine.{Move}
 use Rattle.model.specs.Mutant.{rule, IsMutant}
 use Rattle.model.specs.Verdict.{ComparedMeans}
-use Rattle.model.specs.Log.{Observation, reset, seen, GivesLog}
+use Rattle.model.specs.Log.{Observation, reset, seen, GivesLog, suiteLog}
 use Rattle.model.specs.Walk.{Taken}
 use Rattle.block.specs.Logged.{observations, logBytes}
 use Rattle.records.specs.Record.{specifiedAt, advance}
@@ -96,3 +96,7 @@ pub record FirstGives (sh : Sheet) (log b : List ℕ) : Type 0 where
 abbrev pub ExplainedMeans : Sheet → List ℕ → Option Taken → Type 0
 ExplainedMeans sh log none = (b : List ℕ) → GivesRecord sh log b → ⊥
 ExplainedMeans sh log (some t) = FirstGives sh log (t .mutant) × ComparedMeans sh (t .mutant) (t .compared)
+
+-- ---- the suite's record: for each test in turn a PULSE, and each input with the specified output
+unfoldable pub suiteRecord : Sheet → List ℕ
+suiteRecord sh = logBytes (suiteLog sh)

@@ -152,12 +152,5 @@ pub fn explain_record(sheet: &[u8], log: &[u8], board: &mut [u8], sequence: &mut
         let why = refusal_of(reading);
         return Explained::Refused(why.number, why.place);
     };
-    explain_accepted(
-        &block,
-        size.inputs,
-        size.outputs,
-        log,
-        board,
-        sequence,
-    )
+    explain_accepted(&block, size.inputs, size.outputs, log, board, sequence)
 }

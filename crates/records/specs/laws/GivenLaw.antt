@@ -14,17 +14,11 @@ use Rattle.model.specs.Walk.{keep, Taken, firstTaken}
 use Rattle.model.specs.laws.MutantLaw.{listed, listed-in-range, mutants-ascending}
 use Rattle.model.specs.laws.JudgeLaw.{compared}
 use Rattle.model.specs.laws.LogLaw.{none-gives}
+use Rattle.logs.specs.laws.WalkedLaw.{gives-none}
 use Rattle.model.specs.laws.WalkLaw.{keep-mem, mem-keep, keep-ascending}
 use Rattle.block.specs.Logged.{observations}
 use Rattle.records.specs.Record.{gives, giving, firstGiving, outcomeOf}
 use Rattle.records.specs.Means.{GivesRecord, GivenMeans, FirstGives, ExplainedMeans}
-
--- a machine that gives a log has no wrong output in it
-pub gives-none : (move : ℕ → ℕ → Move) (start : ℕ) (l : List Observation) (s begun i : ℕ) → GivesFrom move start s l → failedIn move start s begun i l ≡ none
-unfolding GivesFrom failedIn
-gives-none move start [] s begun i g = refl
-gives-none move start (reset ∷ l) s begun i g = gives-none move start l start (suc begun) 0 g
-gives-none move start (seen x o ∷ l) s begun i g = rw (eq-eqb (move s x .output) o (g .0)) (gives-none move start l (move s x .target) begun (suc i) (g .1))
 
 none-is : {A : Type 0} (o : Option A) → isNone o ≡ true → o ≡ none
 none-is none e = refl
