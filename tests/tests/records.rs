@@ -102,7 +102,8 @@ fn random_records() {
         }
         if random.chance(30) && !log.is_empty() {
             let at = random.below(log.len());
-            log[at] = random.below(if random.chance(50) { 20 } else { 4 }) as u8;
+            let bound = if random.chance(50) { 20 } else { 4 };
+            log[at] = random.below(bound) as u8;
         }
         match agree(&bytes, &log) {
             Ok(told) => {
