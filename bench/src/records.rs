@@ -14,13 +14,28 @@ pub fn print() {
     println!("\nrecords, beside judging");
     print_row(["case", "given", "not given", "judging", "ratio"].map(str::to_string));
     for seed in 1..3 {
-        one(&format!("complete machine {seed}"), families::sheet(&families::COMPLETE, seed));
-        one(&format!("combination lock {seed}"), families::sheet(&families::LOCK, seed));
-        one(&format!("partial machine {seed}"), families::sheet(&families::PARTIAL, seed));
-        one(&format!("partial, 10 faults {seed}"), families::sheet(&families::TEN_FAULTS, seed));
+        one(
+            &format!("complete machine {seed}"),
+            families::sheet(&families::COMPLETE, seed),
+        );
+        one(
+            &format!("combination lock {seed}"),
+            families::sheet(&families::LOCK, seed),
+        );
+        one(
+            &format!("partial machine {seed}"),
+            families::sheet(&families::PARTIAL, seed),
+        );
+        one(
+            &format!("partial, 10 faults {seed}"),
+            families::sheet(&families::TEN_FAULTS, seed),
+        );
     }
     for (states, inputs) in families::FREE {
-        one(&format!("all free, {states} × {inputs}"), families::free(states, inputs, 1));
+        one(
+            &format!("all free, {states} × {inputs}"),
+            families::free(states, inputs, 1),
+        );
     }
     one("3-SAT, 20 clauses", families::three_literals(20, 1));
     one("pigeons, 5", families::pigeons(5, 1));
@@ -48,13 +63,23 @@ fn one(case: &str, sheet: Sheet) {
     let bytes = sheet.encode();
     let log = record_of(&machine, &specified(&machine), &sheet.tests);
     let other = generator::walk(&mut Random::new(7), &sheet, 20);
-    let mut wrong = [&log[..], &record_of(&machine, &specified(&machine), &[other])].concat();
+    let mut wrong = [
+        &log[..],
+        &record_of(&machine, &specified(&machine), &[other]),
+    ]
+    .concat();
     let last = wrong.last_mut().expect("a walk");
     *last = (*last + 1) % sheet.sounds;
     let given = timing::alone(|| record(&bytes, &log));
     let (not_given, judging) = timing::compare(|| record(&bytes, &wrong), || judge(&bytes));
     let ratio = format!("{:.2}", not_given / judging);
-    print_row([case.to_string(), shown(given), shown(not_given), shown(judging), ratio]);
+    print_row([
+        case.to_string(),
+        shown(given),
+        shown(not_given),
+        shown(judging),
+        ratio,
+    ]);
 }
 
 /// A million commands of one board, and with the last sound wrong.
@@ -62,14 +87,22 @@ fn million() {
     let sheet = families::sheet(&families::COMPLETE, 1);
     let machine = Machine::new(&sheet);
     let bytes = sheet.encode();
-    let tests: Vec<_> = (0..100).map(|seed| generator::walk(&mut Random::new(seed), &sheet, 99)).collect();
+    let tests: Vec<_> = (0..100)
+        .map(|seed| generator::walk(&mut Random::new(seed), &sheet, 99))
+        .collect();
     let log = record_of(&machine, &specified(&machine), &tests).repeat(100);
     let mut wrong = log.clone();
     let last = wrong.last_mut().expect("a record");
     *last = (*last + 1) % sheet.sounds;
     let given = shown(timing::alone(|| record(&bytes, &log)));
     let not_given = shown(timing::alone(|| record(&bytes, &wrong)));
-    print_row(["a million commands".to_string(), given, not_given, String::new(), String::new()]);
+    print_row([
+        "a million commands".to_string(),
+        given,
+        not_given,
+        String::new(),
+        String::new(),
+    ]);
 }
 
 fn record(sheet: &[u8], log: &[u8]) {

@@ -46,7 +46,9 @@ pub fn commands(sheet: &Sheet, log: &[u8]) -> Result<Vec<(usize, Command)>, Refu
     while place < log.len() {
         let command = match log[place..] {
             [PULSE, ..] => Command::Pulse,
-            [SEEN, x, o, ..] if !list.is_empty() && x < sheet.presses && o < sheet.sounds => Command::Seen(x, o),
+            [SEEN, x, o, ..] if !list.is_empty() && x < sheet.presses && o < sheet.sounds => {
+                Command::Seen(x, o)
+            }
             _ => return Err(Refusal { number: 20, place }),
         };
         list.push((place, command));
@@ -77,14 +79,16 @@ fn first_difference(sheet: &Sheet, list: &[(usize, Command)]) -> Option<usize> {
 fn gives(machine: &Machine, board: &[u8], list: &[(usize, Command)]) -> bool {
     let mutant = machine.mutant(board);
     let commands: Vec<Command> = list.iter().map(|&(_, command)| command).collect();
-    commands.split(|&command| command == Command::Pulse).all(|run| {
-        let pair = |command: &Command| match *command {
-            Command::Seen(x, o) => (x, o),
-            Command::Pulse => unreachable!("split at the pulses"),
-        };
-        let (presses, sounds): (Vec<u8>, Vec<u8>) = run.iter().map(pair).unzip();
-        mutant.outputs(&presses).eq(sounds)
-    })
+    commands
+        .split(|&command| command == Command::Pulse)
+        .all(|run| {
+            let pair = |command: &Command| match *command {
+                Command::Seen(x, o) => (x, o),
+                Command::Pulse => unreachable!("split at the pulses"),
+            };
+            let (presses, sounds): (Vec<u8>, Vec<u8>) = run.iter().map(pair).unzip();
+            mutant.outputs(&presses).eq(sounds)
+        })
 }
 
 /// Check a record.
@@ -93,31 +97,50 @@ pub fn check(bytes: &[u8], log: &[u8]) -> Result<Recorded, Refusal> {
     let list = commands(&sheet, log)?;
     let machine = Machine::new(&sheet);
     let given = machine.boards().any(|board| gives(&machine, &board, &list));
-    Ok(Recorded { differs: first_difference(&sheet, &list), given })
+    Ok(Recorded {
+        differs: first_difference(&sheet, &list),
+        given,
+    })
 }
 
 /// Explain a record, with buffers of so many bytes.
-pub fn explain(bytes: &[u8], log: &[u8], board_room: usize, sequence_room: usize) -> Result<Option<Explained>, Refusal> {
+pub fn explain(
+    bytes: &[u8],
+    log: &[u8],
+    board_room: usize,
+    sequence_room: usize,
+) -> Result<Option<Explained>, Refusal> {
     let reading = read(bytes)?;
     let list = commands(&reading.sheet, log)?;
     if board_room < reading.sheet.summary().open_pairs {
-        return Err(Refusal { number: 16, place: 0 });
+        return Err(Refusal {
+            number: 16,
+            place: 0,
+        });
     }
     if sequence_room < usize::from(reading.sheet.states).pow(2) {
-        return Err(Refusal { number: 16, place: 1 });
+        return Err(Refusal {
+            number: 16,
+            place: 1,
+        });
     }
     let machine = Machine::new(&reading.sheet);
     let board = machine.boards().find(|board| gives(&machine, board, &list));
-    Ok(board.map(|board| Explained { sequence: machine.mutant(&board).distinguish(), board }))
+    Ok(board.map(|board| Explained {
+        sequence: machine.mutant(&board).distinguish(),
+        board,
+    }))
 }
 
 /// The record of a board on tests: for each a PULSE, and each press with the sound that the board gives.
 pub fn record_of(machine: &Machine, board: &[u8], tests: &[Vec<u8>]) -> Vec<u8> {
     let mutant = machine.mutant(board);
     let run = |test: &Vec<u8>| {
-        let seen = test.iter().zip(mutant.outputs(test)).map(|(&x, o)| Command::Seen(x, o));
+        let seen = test
+            .iter()
+            .zip(mutant.outputs(test))
+            .map(|(&x, o)| Command::Seen(x, o));
         spell(&[Command::Pulse].into_iter().chain(seen).collect::<Vec<_>>())
     };
     tests.iter().flat_map(run).collect()
 }
-

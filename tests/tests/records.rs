@@ -21,7 +21,12 @@ fn agree(bytes: &[u8], log: &[u8]) -> Result<Recorded, Refusal> {
     let place = || format!("{} with {log:?}", spelled(bytes));
     assert_eq!(told, records::check(bytes, log), "{}", place());
     let explained = checked_record_board(bytes, log, 40, 300, open_pairs(bytes));
-    assert_eq!(explained, records::explain(bytes, log, 40, 300), "{}", place());
+    assert_eq!(
+        explained,
+        records::explain(bytes, log, 40, 300),
+        "{}",
+        place()
+    );
     told
 }
 
@@ -40,7 +45,10 @@ fn listed_records() {
     let undefined = [0x10, 0x11, 1, 1, 0x11, 0, 0, 0x10, 0x11, 0, 0];
     assert_eq!(agree(&p4, &undefined[..7]), told(None, true));
     assert_eq!(agree(&p4, &undefined), told(Some(8), false));
-    assert_eq!(agree(&p9, &[0x10, 0x11, 1, 0, 0x11, 1, 0, 0x11, 0, 1]), told(None, true));
+    assert_eq!(
+        agree(&p9, &[0x10, 0x11, 1, 0, 0x11, 1, 0, 0x11, 0, 1]),
+        told(None, true)
+    );
     for sheet in [&p1, &p4, &p9] {
         assert_eq!(agree(sheet, &[]), told(None, true));
         assert_eq!(agree(sheet, &[0x10, 0x10, 0x10]), told(None, true));
@@ -79,7 +87,9 @@ fn some_tests(random: &mut Random, sheet: &Sheet) -> Vec<Vec<u8>> {
         let length = random.below(9);
         match random.chance(50) {
             true => generator::walk(random, sheet, length),
-            false => (0..length).map(|_| random.below(sheet.presses.into()) as u8).collect(),
+            false => (0..length)
+                .map(|_| random.below(sheet.presses.into()) as u8)
+                .collect(),
         }
     };
     (0..random.below(6)).map(|_| test(random)).collect()
@@ -89,7 +99,10 @@ fn some_tests(random: &mut Random, sheet: &Sheet) -> Vec<Vec<u8>> {
 #[test]
 fn random_records() {
     let mut random = Random::new(0x5EED_0091);
-    let shape = Shape { boards: 400, ..SMALL };
+    let shape = Shape {
+        boards: 400,
+        ..SMALL
+    };
     let (mut given, mut not_given, mut differing, mut broken) = (0, 0, 0, 0);
     for i in 0..12_000 {
         let sheet = generator::sheet(&mut random, &shape);
@@ -98,7 +111,11 @@ fn random_records() {
         let mut log = Vec::new();
         for _ in 0..=i % 3 {
             let board = generator::board(&mut random, &machine.counts());
-            log.extend(record_of(&machine, &board, &some_tests(&mut random, &sheet)));
+            log.extend(record_of(
+                &machine,
+                &board,
+                &some_tests(&mut random, &sheet),
+            ));
         }
         if random.chance(30) && !log.is_empty() {
             let at = random.below(log.len());
@@ -123,14 +140,28 @@ fn random_records() {
 fn the_suites_record() {
     let mut random = Random::new(0x5EED_0092);
     for _ in 0..4_000 {
-        let sheet = generator::sheet(&mut random, &Shape { boards: 400, ..SMALL });
+        let sheet = generator::sheet(
+            &mut random,
+            &Shape {
+                boards: 400,
+                ..SMALL
+            },
+        );
         let machine = Machine::new(&sheet);
         let (bytes, first) = (sheet.encode(), vec![0; machine.counts().len()]);
         // board 0 takes each RULE, so on the tests it sounds as specified
         let log = record_of(&machine, &first, &sheet.tests);
         let told = agree(&bytes, &log).unwrap();
-        assert_eq!(told, Recorded { differs: None, given: true });
-        let passing = machine.boards().find(|board| machine.mutant(board).first_failed().is_none());
+        assert_eq!(
+            told,
+            Recorded {
+                differs: None,
+                given: true
+            }
+        );
+        let passing = machine
+            .boards()
+            .find(|board| machine.mutant(board).first_failed().is_none());
         let explained = checked_record_board(&bytes, &log, 32, 256, first.len()).unwrap();
         assert_eq!(explained.map(|found| found.board), passing);
     }
@@ -145,11 +176,17 @@ fn large_sheets() {
         let machine = Machine::new(&sheet);
         let bytes = sheet.encode();
         let board = generator::board(&mut random, &machine.counts());
-        let tests: Vec<_> = (0..8).flat_map(|_| some_tests(&mut random, &sheet)).collect();
+        let tests: Vec<_> = (0..8)
+            .flat_map(|_| some_tests(&mut random, &sheet))
+            .collect();
         let log = record_of(&machine, &board, &tests);
         assert!(checked_record(&bytes, &log).unwrap().given);
         let found = checked_record_board(&bytes, &log, 32, 256, board.len()).unwrap();
-        let Some(Explained { board: first, sequence }) = found else {
+        let Some(Explained {
+            board: first,
+            sequence,
+        }) = found
+        else {
             panic!("a board gave it: {}", spelled(&bytes));
         };
         assert!(first <= board);
@@ -163,7 +200,11 @@ fn large_sheets() {
 fn a_million_commands() {
     let p9 = listed::p9();
     let machine = Machine::new(&read(&p9).unwrap().sheet);
-    let run = record_of(&machine, &[3, 1, 0, 1], &[vec![1, 0, 1, 0, 0, 1, 1, 0], vec![0, 1, 0, 0, 1]]);
+    let run = record_of(
+        &machine,
+        &[3, 1, 0, 1],
+        &[vec![1, 0, 1, 0, 0, 1, 1, 0], vec![0, 1, 0, 0, 1]],
+    );
     let mut log = run.repeat(70_000);
     assert!(log.iter().filter(|&&byte| byte >= 0x10).count() > 1_000_000);
     assert!(checked_record(&p9, &log).unwrap().given);

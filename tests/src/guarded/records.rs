@@ -14,8 +14,14 @@ pub fn checked_record(sheet: &[u8], log: &[u8]) -> Result<Recorded, Refusal> {
     log.untouched();
     answer.result().map(|words| {
         let differs = flag(words[0]).then_some(words[1]);
-        assert!(differs.is_some() || words[1] == 0, "a place without a difference");
-        Recorded { differs, given: flag(words[2]) }
+        assert!(
+            differs.is_some() || words[1] == 0,
+            "a place without a difference"
+        );
+        Recorded {
+            differs,
+            given: flag(words[2]),
+        }
     })
 }
 
@@ -39,11 +45,18 @@ pub fn checked_record_board(
     );
     sheet.untouched();
     log.untouched();
-    let told = answer.result().map(|words| (flag(words[0]), flag(words[1]), words[2]));
+    let told = answer
+        .result()
+        .map(|words| (flag(words[0]), flag(words[1]), words[2]));
     let (taken, departs, length) = told.unwrap_or((false, false, 0));
     assert!(taken || !departs, "no board, yet it departs");
     assert!(departs || length == 0, "no departure, yet a length");
     let board = board.front(if taken { open_pairs } else { 0 }).to_vec();
     let sequence = sequence.front(length).to_vec();
-    told.map(|_| taken.then(|| Explained { board, sequence: departs.then_some(sequence) }))
+    told.map(|_| {
+        taken.then(|| Explained {
+            board,
+            sequence: departs.then_some(sequence),
+        })
+    })
 }
