@@ -181,6 +181,32 @@ enum ranthelo_tray_answer {
 void ranthelo_tray(const uint8_t *sheet, size_t sheet_len, size_t boards, const uint8_t *choices, size_t choices_len,
                    uint16_t *results, size_t results_len, size_t answer[RANTHELO_TRAY_ANSWER]);
 
+/* A lock's own record: 0x10 PULSE for a fresh start, 0x11 SEEN x o for a press and its sound, of any length. Refused with 20 at the first
+ * command that is cut, unknown, out of range, or a SEEN before any PULSE; the place is the command's offset in the record. */
+enum ranthelo_record_answer {
+    RANTHELO_RECORD_DIFFERS = 2, /* 1 if a SEEN's sound differs from the specification's; nothing is compared from an undefined press
+                                    to the next PULSE */
+    RANTHELO_RECORD_AT = 3,      /* the place of the first such SEEN in the record */
+    RANTHELO_RECORD_GIVEN = 4,   /* 1 if some single board gives every sound */
+    RANTHELO_RECORD_ANSWER = 5
+};
+
+void ranthelo_record(const uint8_t *sheet, size_t sheet_len, const uint8_t *log, size_t log_len,
+                     size_t answer[RANTHELO_RECORD_ANSWER]);
+
+/* The first board in dictionary order that gives a record, and its shortest departing sequence if it departs, at the buffers' fronts,
+ * which are as long as for Judge. */
+enum ranthelo_record_board_answer {
+    RANTHELO_RECORD_BOARD_FOUND = 2,   /* 1 if some board gives the record */
+    RANTHELO_RECORD_BOARD_DEPARTS = 3, /* 1 if that board departs */
+    RANTHELO_RECORD_BOARD_LENGTH = 4,  /* the sequence's */
+    RANTHELO_RECORD_BOARD_ANSWER = 5
+};
+
+void ranthelo_record_board(const uint8_t *sheet, size_t sheet_len, const uint8_t *log, size_t log_len, uint8_t *board,
+                           size_t board_len, uint8_t *sequence, size_t sequence_len,
+                           size_t answer[RANTHELO_RECORD_BOARD_ANSWER]);
+
 #ifdef __cplusplus
 }
 #endif

@@ -1,12 +1,13 @@
 //! Prints how long the library's operations take, beside the same in plain Rust, how long lists take
 //! to be made, and how much stack it all needs. With --plain: how long judge takes in plain Rust
-//! alone; with --making: how long lists take to be made.
+//! alone; with --making: how long lists take to be made; with --records: how long records take.
 
 mod generate;
 mod judge;
 mod making;
 mod mutation;
 mod reading;
+mod records;
 mod stack;
 mod table;
 mod writing;
@@ -23,6 +24,9 @@ fn main() {
     if arguments == ["--making"] {
         return making::print();
     }
+    if arguments == ["--records"] {
+        return records::print();
+    }
     let library = arguments != ["--plain"];
     let mut table = Table::new(library);
     if library {
@@ -35,6 +39,7 @@ fn main() {
     if library {
         table.print_growth();
         making::print();
+        records::print();
         stack::print();
     }
 }

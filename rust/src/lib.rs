@@ -49,6 +49,7 @@ pub use operations::{
     Comparison, Failure, Made, Run, Summary, Trial, Used, Verdict, compare, first_failed, generate,
     judge, make, read, run, test_part, test_span, tray, write,
 };
+pub use operations::{Recorded, Suspected, check_record, explain_record};
 pub use raw::Tables;
 pub use refusal::{Refusal, meaning};
 

@@ -316,3 +316,59 @@ pub fn tray(sheet: &[u8], boards: usize, choices: &[u8]) -> Result<Vec<Option<us
     let test = |result: u16| (result != u16::MAX).then_some(usize::from(result));
     Ok(results.into_iter().map(test).collect())
 }
+
+/// What a lock's own record tells.
+#[derive(Clone, Copy, Debug, PartialEq, Eq)]
+pub struct Recorded {
+    /// The place in the record of the first SEEN whose sound differs from the specification's. From an undefined press to the
+    /// next PULSE nothing is compared.
+    pub differs: Option<usize>,
+    /// Whether some single board of the sheet gives every sound.
+    pub given: bool,
+}
+
+/// The first board that gives a record.
+#[derive(Clone, Debug, PartialEq, Eq)]
+pub struct Suspected {
+    pub board: Vec<u8>,
+    pub comparison: Comparison,
+}
+
+/// Checks a lock's own record: `0x10` for a pulse, `0x11 x o` for a press and its sound, of any length. The thread needs
+/// [`STACK`](crate::STACK) bytes of stack.
+///
+/// ```
+/// let sheet = ranthelo::text::assemble(b"SIZE 1 1 2\n RULE 0 0 0 0\n FAULT 0 0 1 0")?;
+/// let told = ranthelo::check_record(&sheet, &[0x10, 0x11, 0, 1])?;
+/// assert_eq!((told.differs, told.given), (Some(1), true));
+/// let told = ranthelo::check_record(&sheet, &[0x10, 0x11, 0, 1, 0x11, 0, 0])?;
+/// assert_eq!((told.differs, told.given), (Some(1), false));
+/// # Ok::<(), Box<dyn std::error::Error>>(())
+/// ```
+pub fn check_record(sheet: &[u8], log: &[u8]) -> Result<Recorded, Refusal> {
+    let mut answer = [0; 5];
+    raw::record(sheet, log, &mut answer);
+    let numbers = rest(&answer)?;
+    Ok(Recorded {
+        differs: (numbers[0] == 1).then_some(numbers[1]),
+        given: numbers[2] == 1,
+    })
+}
+
+/// The first board in dictionary order that gives a record, if there is one. The thread needs [`STACK`](crate::STACK) bytes
+/// of stack.
+pub fn explain_record(sheet: &[u8], log: &[u8]) -> Result<Option<Suspected>, Refusal> {
+    let (mut board, mut sequence) = ([0; MOST_OPEN_PAIRS], [0; MOST_SEQUENCE]);
+    let mut answer = [0; 5];
+    raw::record_board(sheet, log, &mut board, &mut sequence, &mut answer);
+    let comparison = match *rest(&answer)? {
+        [0, _, _] => return Ok(None),
+        [_, 0, _] => Comparison::Conforms,
+        [_, _, length] => Comparison::Departs {
+            sequence: sequence[..length].to_vec(),
+        },
+        _ => unreachable!("three numbers follow"),
+    };
+    let board = board[..read(sheet)?.open_pairs].to_vec();
+    Ok(Some(Suspected { board, comparison }))
+}

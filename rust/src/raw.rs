@@ -104,6 +104,24 @@ mod c {
             results_len: usize,
             answer: *mut usize,
         );
+        pub fn ranthelo_record(
+            sheet: *const u8,
+            sheet_len: usize,
+            log: *const u8,
+            log_len: usize,
+            answer: *mut usize,
+        );
+        pub fn ranthelo_record_board(
+            sheet: *const u8,
+            sheet_len: usize,
+            log: *const u8,
+            log_len: usize,
+            board: *mut u8,
+            board_len: usize,
+            sequence: *mut u8,
+            sequence_len: usize,
+            answer: *mut usize,
+        );
     }
 }
 
@@ -306,6 +324,46 @@ pub fn tray(
             choices.len(),
             results.as_mut_ptr(),
             results.len(),
+            answer.as_mut_ptr(),
+        )
+    }
+}
+
+/// A lock's own record. Number, place, 1 if a SEEN differs from the specification, its place in the record, 1 if some board
+/// gives every sound.
+pub fn record(sheet: &[u8], log: &[u8], answer: &mut [usize; 5]) {
+    // SAFETY: all slices and the answer are valid for their lengths throughout the call.
+    unsafe {
+        c::ranthelo_record(
+            sheet.as_ptr(),
+            sheet.len(),
+            log.as_ptr(),
+            log.len(),
+            answer.as_mut_ptr(),
+        )
+    }
+}
+
+/// The first board that gives a record. Number, place, 1 if there is one, 1 if it departs, the length of its sequence; the board
+/// and its sequence at the buffers' fronts.
+pub fn record_board(
+    sheet: &[u8],
+    log: &[u8],
+    board: &mut [u8],
+    sequence: &mut [u8],
+    answer: &mut [usize; 5],
+) {
+    // SAFETY: all slices and the answer are valid for their lengths throughout the call.
+    unsafe {
+        c::ranthelo_record_board(
+            sheet.as_ptr(),
+            sheet.len(),
+            log.as_ptr(),
+            log.len(),
+            board.as_mut_ptr(),
+            board.len(),
+            sequence.as_mut_ptr(),
+            sequence.len(),
             answer.as_mut_ptr(),
         )
     }

@@ -8,5 +8,6 @@ pub mod generator;
 pub mod guarded;
 pub mod listed;
 pub mod pictures;
+pub mod records;
 pub mod reference;
 pub mod seeded;

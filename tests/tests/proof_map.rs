@@ -146,6 +146,7 @@ fn every_operation_promises() {
         "mutation/src/verdict.rt",
         "making/src/lib.rt",
         "tray/src/lib.rt",
+        "records/src/lib.rt",
         "ranthelo/src/lib.rt",
         "report/src/lib.rt",
     ] {

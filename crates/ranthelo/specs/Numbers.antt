@@ -15,6 +15,11 @@ use Rattle.mutation.specs.declared.Compared.{Compared}
 use Rattle.mutation.specs.declared.Compared.the-variants as compared
 use Rattle.mutation.specs.declared.verdict.Judged.{Judged}
 use Rattle.mutation.specs.declared.verdict.Judged.the-variants as judged
+use mathlib.Core.Bool.{Bool, true, false}
+use Rattle.records.specs.declared.Recorded.{Recorded}
+use Rattle.records.specs.declared.Recorded.the-variants as recorded
+use Rattle.records.specs.declared.Explained.{Explained}
+use Rattle.records.specs.declared.Explained.the-variants as explained
 use Rattle.making.specs.declared.Made.{Made}
 use Rattle.making.specs.declared.Made.the-variants as made
 use Rattle.tray.specs.declared.Tried.{Tried}
@@ -68,3 +73,20 @@ madeNumbers (made.Refused number place) = number ∷ place ∷ 0 ∷ 0 ∷ []
 abbrev pub triedNumbers : Tried → List ℕ
 triedNumbers tried.Done = 0 ∷ 0 ∷ []
 triedNumbers (tried.Refused number place) = number ∷ place ∷ []
+
+abbrev pub bit : Bool → ℕ
+bit true = 1
+bit false = 0
+
+-- number, place; 1 if a SEEN differs from the specification, its place in the record; 1 if some mutant gives the record
+abbrev pub recordedNumbers : Recorded → List ℕ
+recordedNumbers (recorded.AsSpecified given) = 0 ∷ 0 ∷ 0 ∷ 0 ∷ bit given ∷ []
+recordedNumbers (recorded.Differs at given) = 0 ∷ 0 ∷ 1 ∷ at ∷ bit given ∷ []
+recordedNumbers (recorded.Refused number place) = number ∷ place ∷ 0 ∷ 0 ∷ 0 ∷ []
+
+-- number, place; 1 if some mutant gives the record, 1 if it is nonconforming, and the length of its sequence
+abbrev pub explainedNumbers : Explained → List ℕ
+explainedNumbers explained.Conforms = 0 ∷ 0 ∷ 1 ∷ 0 ∷ 0 ∷ []
+explainedNumbers (explained.Departs d) = 0 ∷ 0 ∷ 1 ∷ 1 ∷ d ∷ []
+explainedNumbers explained.Nothing = 0 ∷ 0 ∷ 0 ∷ 0 ∷ 0 ∷ []
+explainedNumbers (explained.Refused number place) = number ∷ place ∷ 0 ∷ 0 ∷ 0 ∷ []

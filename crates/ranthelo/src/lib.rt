@@ -19,12 +19,16 @@ ghost use Rattle.mutation.specs.Answers.{ranAnswer, ranWrites, failedAnswer, co
 ghost use Rattle.mutation.specs.Judging.{judgedAnswer, boardWrites, sequenceWrites, Measured};
 ghost use Rattle.making.specs.Answers.{madeAnswer, madeWrites};
 ghost use Rattle.tray.specs.Answers.{triedAnswer, triedWrites};
-ghost use Rattle.ranthelo.specs.Numbers.{readNumbers, partNumbers, writtenNumbers, ranNumbers, failedNumbers, comparedNumbers, judgedNumbers, madeNumbers, triedNumbers};
+ghost use Rattle.ranthelo.specs.Numbers.{readNumbers, partNumbers, writtenNumbers, ranNumbers, failedNumbers, comparedNumbers, judgedNumbers, madeNumbers, triedNumbers, bit, recordedNumbers, explainedNumbers};
+ghost use Rattle.records.specs.Record.{checking, explaining};
+ghost use Rattle.records.specs.Answers.{recordedAnswer, explainedAnswer, explainedBoard, explainedSequence};
 use making::Made;
 use mutation::Compared;
 use mutation::Failed;
 use mutation::Judged;
 use mutation::Ran;
+use records::Explained;
+use records::Recorded;
 use sheet::Parting;
 use sheet::Reading;
 use sheet::Size;
@@ -304,4 +308,71 @@ pub extern "C" fn ranthelo_tray(
             *answer = [number as usize, place];
         }
     }
+}
+
+// Yes or no as a number.
+fn bit_of(b: bool) -> usize
+    ensures { λ r. ⌜ r ≡ bit b ⌝ }
+{
+    if b {
+        return 1;
+    }
+    0
+}
+
+// A lock's record.
+#[no_mangle]
+pub extern "C" fn ranthelo_record(sheet: &[u8], log: &[u8], answer: &mut [usize; 5])
+    ensures { λ r. ⌜ now (answer .exit) ≡ recordedNumbers (recordedAnswer (checking (now (sheet .entry)) (now (log .entry)))) ⌝ }
+{
+    match records::check_record(sheet, log) {
+        Recorded::AsSpecified(given) => {
+            *answer = [0, 0, 0, 0, bit_of(given)];
+        }
+        Recorded::Differs(place, given) => {
+            *answer = [0, 0, 1, place, bit_of(given)];
+        }
+        Recorded::Refused(number, place) => {
+            *answer = [number as usize, place, 0, 0, 0];
+        }
+    }
+}
+
+// The answer of explaining as numbers.
+fn tell_explained(explained: Explained, answer: &mut [usize; 5])
+    ensures { λ r. ⌜ now (answer .exit) ≡ explainedNumbers explained ⌝ }
+{
+    match explained {
+        Explained::Conforms => {
+            *answer = [0, 0, 1, 0, 0];
+        }
+        Explained::Departs(d) => {
+            *answer = [0, 0, 1, 1, d];
+        }
+        Explained::Nothing => {
+            *answer = [0, 0, 0, 0, 0];
+        }
+        Explained::Refused(number, place) => {
+            *answer = [number as usize, place, 0, 0, 0];
+        }
+    }
+}
+
+// The first board that gives a lock's record.
+#[no_mangle]
+pub extern "C" fn ranthelo_record_board(
+    sheet: &[u8],
+    log: &[u8],
+    board: &mut [u8],
+    sequence: &mut [u8],
+    answer: &mut [usize; 5],
+)
+    ensures { λ r. ⌜ now (answer .exit) ≡ explainedNumbers (explainedAnswer (explaining (now (sheet .entry)) (now (log .entry)) (length (now (board .entry))) (length (now (sequence .entry))))) ⌝ }
+    ensures { λ r. ⌜ now (board .exit) ≡ overlay (explainedBoard (explaining (now (sheet .entry)) (now (log .entry)) (length (now (board .entry))) (length (now (sequence .entry))))) (now (board .entry)) ⌝ }
+    ensures { λ r. ⌜ now (sequence .exit) ≡ overlay (explainedSequence (explaining (now (sheet .entry)) (now (log .entry)) (length (now (board .entry))) (length (now (sequence .entry))))) (now (sequence .entry)) ⌝ }
+{
+    tell_explained(
+        records::explain_record(sheet, log, board, sequence),
+        answer,
+    );
 }

@@ -1,0 +1,2 @@
+pub mod AlongLaw
+pub mod OperateLaw

@@ -1,0 +1,5 @@
+pub mod Record
+pub mod Means
+pub mod Answers
+pub mod Steps
+pub mod laws

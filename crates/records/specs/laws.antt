@@ -1,0 +1,4 @@
+pub mod ScanLaw
+pub mod DifferLaw
+pub mod GivenLaw
+pub mod SuiteRecordLaw
