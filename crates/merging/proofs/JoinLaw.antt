@@ -97,8 +97,15 @@ module _ {m : Sheet} {head faults starts tests more : List ℕ} {count pairs : �
     (ew : why ≡ limitOf (length faults / 5) count slots (length head + length faults + length starts + length tests + length more + 1)) where
   long-is : length head + length faults + length starts + length tests + length more + 1 ≡ length (encode m)
   long-is =
-      omega (arith, ap length (p .bytes), length-append head (faults ++ (starts ++ (tests ++ (more ++ 6 ∷ [])))), length-append faults (starts ++ (tests ++ (more ++ 6 ∷ []))),
-      length-append starts (tests ++ (more ++ 6 ∷ [])), length-append tests (more ++ 6 ∷ []), length-append more (6 ∷ []))
+      omega (
+        arith,
+        ap length (p .bytes),
+        length-append head (faults ++ (starts ++ (tests ++ (more ++ 6 ∷ [])))),
+        length-append faults (starts ++ (tests ++ (more ++ 6 ∷ []))),
+        length-append starts (tests ++ (more ++ 6 ∷ [])),
+        length-append tests (more ++ 6 ∷ []),
+        length-append more (6 ∷ []),
+      )
 
   faults-are : length faults / 5 ≡ length (m .faults)
   faults-are = omega (arith, p .many-faults)
@@ -179,10 +186,10 @@ module _ {x y : Sheet} {s t : List ℕ} {a b : Outline} (p : Laid x s a) (q : La
       let U : take u ss ≡ startBytes (union only (x .starts) (y .starts)) = ss′ .front ∙ starts-united (x .starts) (y .starts) in
       record {
         bytes =
-          in-parts (merged x y)
-          ∙ ap (λ (l : List ℕ). headBytes x ++ (rowBytes 3 (union rowOf (x .faults) (y .faults)) ++ (startBytes (union only (x .starts) (y .starts)) ++ l)))
-          (ap (λ (l : List ℕ). l ++ 6 ∷ []) (tests-both (x .tests) (y .tests)) ∙ append-assoc (testBytes (x .tests)) (testBytes (y .tests)) (6 ∷ []))
-          ∙ rw (p .head, F, U, p .tests, q .tests) refl;
+            in-parts (merged x y)
+            ∙ ap (λ (l : List ℕ). headBytes x ++ (rowBytes 3 (union rowOf (x .faults) (y .faults)) ++ (startBytes (union only (x .starts) (y .starts)) ++ l)))
+            (ap (λ (l : List ℕ). l ++ 6 ∷ []) (tests-both (x .tests) (y .tests)) ∙ append-assoc (testBytes (x .tests)) (testBytes (y .tests)) (6 ∷ []))
+            ∙ rw (p .head, F, U, p .tests, q .tests) refl;
         many-faults = ap length F ∙ rows-length 3 (union rowOf (x .faults) (y .faults));
         many-starts = ap length U ∙ operands-length 7 (union only (x .starts) (y .starts));
         many-tests = omega (arith, ec, p .many, q .many, length-append (x .tests) (y .tests));

@@ -76,8 +76,21 @@ module _ {sh : Sheet} {s : List ℕ} {summary : Summary} {quiet : Bool} {waking 
       let F = rowBytes 3 (sh .faults) in
       let S = startBytes (sh .starts) in
       let T = testBytes (sh .tests) in
-      omega (arith, ap length bytes-are, length-append H (F ++ (S ++ (T ++ 6 ∷ []))), length-append F (S ++ (T ++ 6 ∷ [])), length-append S (T ++ 6 ∷ []), length-append T (6 ∷ []),
-      head-length sh, rows-length 3 (sh .faults), operands-length 7 (sh .starts), starts-are, rules-are, faults-are, quiet-bytes)
+      omega (
+        arith,
+        ap length bytes-are,
+        length-append H (F ++ (S ++ (T ++ 6 ∷ []))),
+        length-append F (S ++ (T ++ 6 ∷ [])),
+        length-append S (T ++ 6 ∷ []),
+        length-append T (6 ∷ []),
+        head-length sh,
+        rows-length 3 (sh .faults),
+        operands-length 7 (sh .starts),
+        starts-are,
+        rules-are,
+        faults-are,
+        quiet-bytes,
+      )
 
   pub short : length s ≤ 16384
   short = short-enough s sh (k .reads)

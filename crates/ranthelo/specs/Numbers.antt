@@ -1,4 +1,5 @@
--- The answers as numbers: a refusal's number and place first (0 and 0 where there is none), then the values, 0 on a refusal.
+-- The answers as numbers: a refusal's number and place first (0 and 0 where there is none), then the values, 0 on a refusal (but
+-- merging tells the sheet it concerns).
 use Prim.Native.Nat.{ℕ}
 use mathlib.Core.List.{List, [], _∷_}
 use Rattle.sheet.specs.declared.Reading.{Reading}
@@ -17,6 +18,8 @@ use Rattle.mutation.specs.declared.verdict.Judged.{Judged}
 use Rattle.mutation.specs.declared.verdict.Judged.the-variants as judged
 use Rattle.making.specs.declared.Made.{Made}
 use Rattle.making.specs.declared.Made.the-variants as made
+use Rattle.merging.specs.declared.Merged.{Merged}
+use Rattle.merging.specs.declared.Merged.the-variants as merged
 
 -- number, place; states, inputs, outputs (01: n, k, m), and how many RULEs, FAULTs, TESTs and open pairs
 abbrev pub readNumbers : Reading → List ℕ
@@ -61,3 +64,8 @@ judgedNumbers (judged.Refused number place) = number ∷ place ∷ 0 ∷ 0 ∷ [
 abbrev pub madeNumbers : Made → List ℕ
 madeNumbers (made.Done length appended) = 0 ∷ 0 ∷ length ∷ appended ∷ []
 madeNumbers (made.Refused number place) = number ∷ place ∷ 0 ∷ 0 ∷ []
+
+-- number, place; the sheet that a refusal on reading concerns, and the merged sheet's length
+abbrev pub mergedNumbers : Merged → List ℕ
+mergedNumbers (merged.Done length) = 0 ∷ 0 ∷ 0 ∷ length ∷ []
+mergedNumbers (merged.Refused sheet number place) = number ∷ place ∷ sheet ∷ 0 ∷ []

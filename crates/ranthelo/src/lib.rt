@@ -17,8 +17,11 @@ ghost use Rattle.generator.specs.Generating.{generating};
 ghost use Rattle.mutation.specs.Answers.{ranAnswer, ranWrites, failedAnswer, comparedAnswer, comparedWrites};
 ghost use Rattle.mutation.specs.Judging.{judgedAnswer, boardWrites, sequenceWrites, Measured};
 ghost use Rattle.making.specs.Answers.{madeAnswer, madeWrites};
-ghost use Rattle.ranthelo.specs.Numbers.{readNumbers, partNumbers, writtenNumbers, ranNumbers, failedNumbers, comparedNumbers, judgedNumbers, madeNumbers};
+ghost use Rattle.renaming.specs.Merging.{merging};
+ghost use Rattle.merging.specs.Answers.{mergedAnswer, mergedWrites};
+ghost use Rattle.ranthelo.specs.Numbers.{readNumbers, partNumbers, writtenNumbers, ranNumbers, failedNumbers, comparedNumbers, judgedNumbers, madeNumbers, mergedNumbers};
 use making::Made;
+use merging::Merged;
 use mutation::Compared;
 use mutation::Failed;
 use mutation::Judged;
@@ -277,6 +280,27 @@ pub extern "C" fn ranthelo_make(sheet: &[u8], buffer: &mut [u8], answer: &mut [u
         }
         Made::Refused(number, place) => {
             *answer = [number as usize, place, 0, 0];
+        }
+    }
+}
+
+// Merge two sheets.
+#[no_mangle]
+pub extern "C" fn ranthelo_merge(
+    first: &[u8],
+    second: &[u8],
+    buffer: &mut [u8],
+    answer: &mut [usize; 4],
+)
+    ensures { λ r. ⌜ now (answer .exit) ≡ mergedNumbers (mergedAnswer (merging (now (first .entry)) (now (second .entry)) (length (now (buffer .entry))))) ⌝ }
+    ensures { λ r. ⌜ now (buffer .exit) ≡ overlay (mergedWrites (merging (now (first .entry)) (now (second .entry)) (length (now (buffer .entry))))) (now (buffer .entry)) ⌝ }
+{
+    match merging::merge(first, second, buffer) {
+        Merged::Done(length) => {
+            *answer = [0, 0, 0, length];
+        }
+        Merged::Refused(sheet, number, place) => {
+            *answer = [number as usize, place, sheet as usize, 0];
         }
     }
 }

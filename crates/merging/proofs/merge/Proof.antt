@@ -56,8 +56,8 @@ returns-4 c =
     let v = seen (a .first .now) (c .before .before .before .before .before .before .before .before .before .before .before .before .before .before .before .before .before .before .before .survey .ensures .0) (c .before .before .before .before .before .before .before .before .before .before .before .before .before .before .before .before .before .before .before .survey .ensures .1) (c .before .before .before .before .before .before .before .before .before .before .before .before .before .before .before .before .before .reading .given .1) in
     let u = seen (a .second .now) (c .before .before .before .before .before .before .before .before .before .before .before .before .before .survey2 .ensures .0) (c .before .before .before .before .before .before .before .before .before .before .before .before .before .survey2 .ensures .1) (c .before .before .before .before .before .before .before .before .before .before .before .later .given .1) in
     let j =
-        c .before .before .join .ensures (v .sheet) (u .sheet) (c .before .before .before .before .before .before .before .before .outline-of .ensures (v .sheet) (v .known)) (c .before .before .before .before .before .before .before .outline-of2 .ensures (u .sheet) (u .known))
-        (λ same. pairs-of (a .first .now) (a .second .now) v u same (c .before .before .before .before .open-pairs .ensures .1))
+    c .before .before .join .ensures (v .sheet) (u .sheet) (c .before .before .before .before .before .before .before .before .outline-of .ensures (v .sheet) (v .known)) (c .before .before .before .before .before .before .before .outline-of2 .ensures (u .sheet) (u .known))
+    (λ same. pairs-of (a .first .now) (a .second .now) v u same (c .before .before .before .before .open-pairs .ensures .1))
     in
     let w = whole-joined (a .first .now) (a .second .now) (a .buffer .now) (v .is) (u .is) j in
     (w .answer, (w .bytes, w .told))
