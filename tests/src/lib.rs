@@ -7,10 +7,7 @@ pub mod enumeration;
 pub mod generator;
 pub mod guarded;
 pub mod listed;
-<<<<<<< HEAD
-pub mod pictures;
-=======
 pub mod merging;
->>>>>>> f7906ca (Merge for C and Rust: ranthelo_merge, tests against a second program, worked rows)
+pub mod pictures;
 pub mod reference;
 pub mod seeded;

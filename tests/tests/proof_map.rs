@@ -145,6 +145,7 @@ fn every_operation_promises() {
         "mutation/src/lib.rt",
         "mutation/src/verdict.rt",
         "making/src/lib.rt",
+        "merging/src/lib.rt",
         "ranthelo/src/lib.rt",
         "report/src/lib.rt",
     ] {
