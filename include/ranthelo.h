@@ -3,7 +3,7 @@
  * Link with target/staticlib/libranthelo.a (made by `rt staticlib ranthelo`); it needs nothing else. A sheet, a board, presses,
  * tables and buffers are lent for the call only. Each pointer is valid for its length and not null, even at length 0; a buffer that is
  * written, `answer` and `nodes` overlap nothing else that is lent. Each function fills `answer`, whose first two numbers are the
- * refusal's number (0: none) and place; after a refusal the others are 0 and every lent buffer is as it was.
+ * refusal's number (0: none) and place; after a refusal the others are 0 (but Merge tells the sheet concerned) and every lent buffer is as it was.
  *
  * Threads: the library keeps nothing between calls and has no memory of its own, so any number of threads may call it at once.
  * Stack: a thread that calls it has RANTHELO_STACK bytes free. Judging and making need about half of that, the other functions a tenth; with less
@@ -53,7 +53,8 @@ enum ranthelo_refusal {
     RANTHELO_BAD_PRESS = 15,       /* a press is not below the number of presses; place its index */
     RANTHELO_SHORT_BUFFER = 16,    /* a buffer is too short; place 0, or 1 for the sequence buffer of Judge */
     RANTHELO_NO_TEST = 17,         /* there is no such test; place 0 */
-    RANTHELO_NO_ROOM = 18          /* the next test does not fit: 256 tests or 16,384 bytes would be passed; place 0 */
+    RANTHELO_NO_ROOM = 18,         /* the next test does not fit: 256 tests or 16,384 bytes would be passed; place 0 */
+    RANTHELO_OTHER_MACHINE = 21    /* SIZE, QUIET or the RULEs of two sheets differ; place 0 */
 };
 
 /* The indexes of `answer`. The first two are those of every function. */
@@ -206,6 +207,19 @@ enum ranthelo_record_board_answer {
 void ranthelo_record_board(const uint8_t *sheet, size_t sheet_len, const uint8_t *log, size_t log_len, uint8_t *board,
                            size_t board_len, uint8_t *sequence, size_t sequence_len,
                            size_t answer[RANTHELO_RECORD_BOARD_ANSWER]);
+
+/* Merge two sheets of one machine: the sheet with the faults and STARTs of both, each once, in order, and the first sheet's tests followed by
+ * the second's, at the buffer's front, which has RANTHELO_MOST_BYTES at least. If its list is judged complete, each departing board of either
+ * sheet fails some test in it. Refused, in this order: as reading refuses the first sheet, then the second; 16; 21; 8 for over 256 FAULTs or
+ * tests, 12, 1. All but those of reading have place 0. The two sheets may be the same bytes. */
+enum ranthelo_merge_answer {
+    RANTHELO_MERGE_SHEET = 2,  /* the sheet that a refusal on reading concerns, 1 or 2; otherwise 0 */
+    RANTHELO_MERGE_LENGTH = 3, /* the merged sheet's */
+    RANTHELO_MERGE_ANSWER = 4
+};
+
+void ranthelo_merge(const uint8_t *first, size_t first_len, const uint8_t *second, size_t second_len, uint8_t *buffer,
+                    size_t buffer_len, size_t answer[RANTHELO_MERGE_ANSWER]);
 
 #ifdef __cplusplus
 }

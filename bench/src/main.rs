@@ -5,6 +5,7 @@
 mod generate;
 mod judge;
 mod making;
+mod merging;
 mod mutation;
 mod reading;
 mod records;
@@ -33,6 +34,7 @@ fn main() {
         reading::measure(&mut table);
         writing::measure(&mut table);
         generate::measure(&mut table);
+        merging::measure(&mut table);
         mutation::measure(&mut table);
     }
     judge::measure(&mut table);

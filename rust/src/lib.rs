@@ -48,6 +48,8 @@ pub use names::Names;
 pub use operations::{
     Comparison, Failure, Made, Run, Summary, Trial, Used, Verdict, compare, first_failed, generate,
     judge, make, read, run, test_part, test_span, tray, write,
+    Comparison, Failure, Made, MergeRefusal, Run, Summary, Trial, Used, Verdict, compare,
+    first_failed, generate, judge, make, merge, read, run, test_part, test_span, write,
 };
 pub use operations::{Recorded, Suspected, check_record, explain_record};
 pub use raw::Tables;

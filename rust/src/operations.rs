@@ -75,6 +75,25 @@ pub struct Made {
     pub appended: usize,
 }
 
+/// Why two sheets were not merged.
+#[derive(Clone, Copy, Debug, PartialEq, Eq)]
+pub struct MergeRefusal {
+    /// The sheet that a refusal on reading concerns, 1 or 2; none for any other refusal.
+    pub sheet: Option<usize>,
+    pub refusal: Refusal,
+}
+
+impl std::fmt::Display for MergeRefusal {
+    fn fmt(&self, f: &mut std::fmt::Formatter) -> std::fmt::Result {
+        match self.sheet {
+            Some(sheet) => write!(f, "sheet {sheet}: {}", self.refusal),
+            None => write!(f, "{}", self.refusal),
+        }
+    }
+}
+
+impl std::error::Error for MergeRefusal {}
+
 /// The numbers after the refusal's number and place.
 fn rest<const N: usize>(answer: &[usize; N]) -> Result<&[usize], Refusal> {
     let (number, place) = (answer[0], answer[1]);
@@ -371,4 +390,28 @@ pub fn explain_record(sheet: &[u8], log: &[u8]) -> Result<Option<Suspected>, Ref
     };
     let board = board[..read(sheet)?.open_pairs].to_vec();
     Ok(Some(Suspected { board, comparison }))
+}
+
+/// The sheet with the faults and STARTs of two sheets of one machine, each once, in order, and the first sheet's tests followed by the
+/// second's. If its list is judged complete, each departing board of either sheet fails some test in it.
+///
+/// ```
+/// let plastics = ranthelo::text::assemble(b"SIZE 1 1 3\n RULE 0 0 0 0\n FAULT 0 0 1 0\n TEST 0")?;
+/// let electronics = ranthelo::text::assemble(b"SIZE 1 1 3\n RULE 0 0 0 0\n FAULT 0 0 2 0\n TEST")?;
+/// let merged = ranthelo::merge(&plastics, &electronics)?;
+/// let spelled = b"SIZE 1 1 3\n RULE 0 0 0 0\n FAULT 0 0 1 0\n FAULT 0 0 2 0\n TEST 0\n TEST";
+/// assert_eq!(merged, ranthelo::text::assemble(spelled)?);
+///
+/// let refusal = ranthelo::merge(&plastics, &electronics[..4]).unwrap_err();
+/// assert_eq!((refusal.sheet, refusal.refusal.number), (Some(2), 2));
+/// # Ok::<(), Box<dyn std::error::Error>>(())
+/// ```
+pub fn merge(first: &[u8], second: &[u8]) -> Result<Vec<u8>, MergeRefusal> {
+    let mut answer = [0; 4];
+    let merged = sheet_from(|buffer| {
+        raw::merge(first, second, buffer, &mut answer);
+        Ok(rest(&answer)?[1])
+    });
+    let sheet = Some(answer[2]).filter(|&sheet| sheet != 0);
+    merged.map_err(|refusal| MergeRefusal { sheet, refusal })
 }

@@ -122,6 +122,15 @@ mod c {
             sequence_len: usize,
             answer: *mut usize,
         );
+        pub fn ranthelo_merge(
+            first: *const u8,
+            first_len: usize,
+            second: *const u8,
+            second_len: usize,
+            buffer: *mut u8,
+            buffer_len: usize,
+            answer: *mut usize,
+        );
     }
 }
 
@@ -364,6 +373,23 @@ pub fn record_board(
             board.len(),
             sequence.as_mut_ptr(),
             sequence.len(),
+            answer.as_mut_ptr(),
+        )
+    }
+}
+
+/// Merge. Number, place, the sheet that a refusal on reading concerns (1 or 2; 0 otherwise), the merged sheet's length; the merged
+/// sheet at the buffer's front. The two sheets may be the same bytes.
+pub fn merge(first: &[u8], second: &[u8], buffer: &mut [u8], answer: &mut [usize; 4]) {
+    // SAFETY: all slices and the answer are valid for their lengths throughout the call.
+    unsafe {
+        c::ranthelo_merge(
+            first.as_ptr(),
+            first.len(),
+            second.as_ptr(),
+            second.len(),
+            buffer.as_mut_ptr(),
+            buffer.len(),
             answer.as_mut_ptr(),
         )
     }

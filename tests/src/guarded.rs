@@ -5,6 +5,7 @@ mod memory;
 
 pub mod judge;
 pub mod making;
+pub mod merging;
 pub mod mutation;
 pub mod reading;
 pub mod records;

@@ -7,6 +7,7 @@ pub mod enumeration;
 pub mod generator;
 pub mod guarded;
 pub mod listed;
+pub mod merging;
 pub mod pictures;
 pub mod records;
 pub mod reference;

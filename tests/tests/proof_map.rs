@@ -147,6 +147,7 @@ fn every_operation_promises() {
         "making/src/lib.rt",
         "tray/src/lib.rt",
         "records/src/lib.rt",
+        "merging/src/lib.rt",
         "ranthelo/src/lib.rt",
         "report/src/lib.rt",
     ] {

@@ -1,4 +1,5 @@
--- The answers as numbers: a refusal's number and place first (0 and 0 where there is none), then the values, 0 on a refusal.
+-- The answers as numbers: a refusal's number and place first (0 and 0 where there is none), then the values, 0 on a refusal (but
+-- merging tells the sheet it concerns).
 use Prim.Native.Nat.{ℕ}
 use mathlib.Core.List.{List, [], _∷_}
 use Rattle.sheet.specs.declared.Reading.{Reading}
@@ -24,6 +25,8 @@ use Rattle.making.specs.declared.Made.{Made}
 use Rattle.making.specs.declared.Made.the-variants as made
 use Rattle.tray.specs.declared.Tried.{Tried}
 use Rattle.tray.specs.declared.Tried.the-variants as tried
+use Rattle.merging.specs.declared.Merged.{Merged}
+use Rattle.merging.specs.declared.Merged.the-variants as merged
 
 -- number, place; states, inputs, outputs (01: n, k, m), and how many RULEs, FAULTs, TESTs and open pairs
 abbrev pub readNumbers : Reading → List ℕ
@@ -90,3 +93,8 @@ explainedNumbers explained.Conforms = 0 ∷ 0 ∷ 1 ∷ 0 ∷ 0 ∷ []
 explainedNumbers (explained.Departs d) = 0 ∷ 0 ∷ 1 ∷ 1 ∷ d ∷ []
 explainedNumbers explained.Nothing = 0 ∷ 0 ∷ 0 ∷ 0 ∷ 0 ∷ []
 explainedNumbers (explained.Refused number place) = number ∷ place ∷ 0 ∷ 0 ∷ 0 ∷ []
+
+-- number, place; the sheet that a refusal on reading concerns, and the merged sheet's length
+abbrev pub mergedNumbers : Merged → List ℕ
+mergedNumbers (merged.Done length) = 0 ∷ 0 ∷ 0 ∷ length ∷ []
+mergedNumbers (merged.Refused sheet number place) = number ∷ place ∷ sheet ∷ 0 ∷ []

@@ -19,10 +19,13 @@ ghost use Rattle.mutation.specs.Answers.{ranAnswer, ranWrites, failedAnswer, co
 ghost use Rattle.mutation.specs.Judging.{judgedAnswer, boardWrites, sequenceWrites, Measured};
 ghost use Rattle.making.specs.Answers.{madeAnswer, madeWrites};
 ghost use Rattle.tray.specs.Answers.{triedAnswer, triedWrites};
-ghost use Rattle.ranthelo.specs.Numbers.{readNumbers, partNumbers, writtenNumbers, ranNumbers, failedNumbers, comparedNumbers, judgedNumbers, madeNumbers, triedNumbers, bit, recordedNumbers, explainedNumbers};
+ghost use Rattle.ranthelo.specs.Numbers.{readNumbers, partNumbers, writtenNumbers, ranNumbers, failedNumbers, comparedNumbers, judgedNumbers, madeNumbers, triedNumbers, bit, recordedNumbers, explainedNumbers, mergedNumbers};
 ghost use Rattle.records.specs.Record.{checking, explaining};
 ghost use Rattle.records.specs.Answers.{recordedAnswer, explainedAnswer, explainedBoard, explainedSequence};
+ghost use Rattle.renaming.specs.Merging.{merging};
+ghost use Rattle.merging.specs.Answers.{mergedAnswer, mergedWrites};
 use making::Made;
+use merging::Merged;
 use mutation::Compared;
 use mutation::Failed;
 use mutation::Judged;
@@ -375,4 +378,25 @@ pub extern "C" fn ranthelo_record_board(
         records::explain_record(sheet, log, board, sequence),
         answer,
     );
+}
+
+// Merge two sheets.
+#[no_mangle]
+pub extern "C" fn ranthelo_merge(
+    first: &[u8],
+    second: &[u8],
+    buffer: &mut [u8],
+    answer: &mut [usize; 4],
+)
+    ensures { λ r. ⌜ now (answer .exit) ≡ mergedNumbers (mergedAnswer (merging (now (first .entry)) (now (second .entry)) (length (now (buffer .entry))))) ⌝ }
+    ensures { λ r. ⌜ now (buffer .exit) ≡ overlay (mergedWrites (merging (now (first .entry)) (now (second .entry)) (length (now (buffer .entry))))) (now (buffer .entry)) ⌝ }
+{
+    match merging::merge(first, second, buffer) {
+        Merged::Done(length) => {
+            *answer = [0, 0, 0, length];
+        }
+        Merged::Refused(sheet, number, place) => {
+            *answer = [number as usize, place, sheet as usize, 0];
+        }
+    }
 }
