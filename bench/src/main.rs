@@ -1,6 +1,7 @@
 //! Prints how long the library's operations take, beside the same in plain Rust, how long lists take
-//! to be made, and how much stack it all needs. With --plain: how long judge takes in plain Rust
-//! alone; with --making: how long lists take to be made.
+//! to be made and boards to be taken, and how much stack it all needs. With --plain: how long judge
+//! takes in plain Rust alone; with --making: how long lists take to be made; with --walking: how long
+//! boards take to be taken.
 
 mod generate;
 mod judge;
@@ -9,6 +10,7 @@ mod mutation;
 mod reading;
 mod stack;
 mod table;
+mod walking;
 mod writing;
 
 use table::Table;
@@ -23,6 +25,9 @@ fn main() {
     if arguments == ["--making"] {
         return making::print();
     }
+    if arguments == ["--walking"] {
+        return walking::print();
+    }
     let library = arguments != ["--plain"];
     let mut table = Table::new(library);
     if library {
@@ -30,11 +35,13 @@ fn main() {
         writing::measure(&mut table);
         generate::measure(&mut table);
         mutation::measure(&mut table);
+        walking::measure(&mut table);
     }
     judge::measure(&mut table);
     if library {
         table.print_growth();
         making::print();
+        walking::print();
         stack::print();
     }
 }

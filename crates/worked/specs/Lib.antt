@@ -6,3 +6,4 @@ pub mod GeneratedRows
 pub mod MadeRows
 pub mod ListRows
 pub mod TrayRows
+pub mod WalkRows
