@@ -6,7 +6,7 @@
  * refusal's number (0: none) and place; after a refusal the others are 0 (but Merge tells the sheet concerned) and every lent buffer is as it was.
  *
  * Threads: the library keeps nothing between calls and has no memory of its own, so any number of threads may call it at once.
- * Stack: a thread that calls it has RANTHELO_STACK bytes free. Judging and making need about half of that, the other functions a tenth; with less
+ * Stack: a thread that calls it has RANTHELO_STACK bytes free. Judging, taking and making need about half of that, the other functions a tenth; with less
  * the stack overflows, unchecked. No heap is used. */
 #ifndef RANTHELO_H
 #define RANTHELO_H
@@ -51,7 +51,7 @@ enum ranthelo_refusal {
     RANTHELO_BOARD_LENGTH = 13,    /* the board's length is not the number of open pairs; place 0 */
     RANTHELO_BAD_CHOICE = 14,      /* a choice is not below its pair's number of choices; place its index */
     RANTHELO_BAD_PRESS = 15,       /* a press is not below the number of presses; place its index */
-    RANTHELO_SHORT_BUFFER = 16,    /* a buffer is too short; place 0, or 1 for the sequence buffer of Judge */
+    RANTHELO_SHORT_BUFFER = 16,    /* a buffer is too short; place 0, or 1 for the sequence buffer of Judge and Take */
     RANTHELO_NO_TEST = 17,         /* there is no such test; place 0 */
     RANTHELO_NO_ROOM = 18,         /* the next test does not fit: 256 tests or 16,384 bytes would be passed; place 0 */
     RANTHELO_OTHER_MACHINE = 21    /* SIZE, QUIET or the RULEs of two sheets differ; place 0 */
@@ -159,6 +159,38 @@ void ranthelo_judge(const uint8_t *sheet, size_t sheet_len, uint8_t *board, size
 /* Judge, and in `nodes` how many nodes its search looked at: a measurement, as it was on a refusal and otherwise free. */
 void ranthelo_judge_counting(const uint8_t *sheet, size_t sheet_len, uint8_t *board, size_t board_len, uint8_t *sequence,
                              size_t sequence_len, size_t answer[RANTHELO_JUDGE_ANSWER], uint32_t *nodes);
+
+/* Take the next board of a walk over the boards that pass the list, in dictionary order: the first that stands after the walk's place. The
+ * caller keeps the place: the walk's start, the last board taken, which is lent as `last`, or its end. `last` is looked at only with
+ * RANTHELO_PLACE_LAST. The board and, if it departs, its shortest departing sequence at the buffers' fronts, which are as long as for
+ * Judge; at the end neither is touched, nor is the sequence buffer for a board that conforms. A refusal of `last` (13, 14) comes before
+ * one of the buffers (16). */
+enum ranthelo_place {
+    RANTHELO_PLACE_START = 0,
+    RANTHELO_PLACE_LAST = 1,
+    RANTHELO_PLACE_END = 2 /* so is every other number */
+};
+
+enum ranthelo_take_answer {
+    RANTHELO_TAKE_TAKEN = 2,   /* 1 if a board is taken, 0 at the end */
+    RANTHELO_TAKE_DEPARTS = 3, /* 1 if it departs */
+    RANTHELO_TAKE_LENGTH = 4,  /* the sequence's */
+    RANTHELO_TAKE_ANSWER = 5
+};
+
+void ranthelo_take(const uint8_t *sheet, size_t sheet_len, uint8_t place, const uint8_t *last, size_t last_len, uint8_t *board,
+                   size_t board_len, uint8_t *sequence, size_t sequence_len, size_t answer[RANTHELO_TAKE_ANSWER]);
+
+/* Add a test: the sheet with that test last, at the buffer's front, for which RANTHELO_MOST_BYTES are always enough. A walk goes on over
+ * it from whatever place. Refused after reading: 8 at place 0 with 256 tests already; then press by press, the place its index, 5, 8 for
+ * the 257th, 9; then 1, place 0, for over 16,384 bytes; then 16. */
+enum ranthelo_add_test_answer {
+    RANTHELO_ADD_TEST_LENGTH = 2, /* the longer sheet's */
+    RANTHELO_ADD_TEST_ANSWER = 3
+};
+
+void ranthelo_add_test(const uint8_t *sheet, size_t sheet_len, const uint8_t *presses, size_t presses_len, uint8_t *buffer,
+                       size_t buffer_len, size_t answer[RANTHELO_ADD_TEST_ANSWER]);
 
 /* Make the list complete: while it is not, the sequence that Judge tells is appended as a test. The made sheet at the buffer's front: the
  * sheet's own tests, then the appended ones. The buffer has RANTHELO_MOST_BYTES at least. */

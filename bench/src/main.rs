@@ -1,6 +1,9 @@
 //! Prints how long the library's operations take, beside the same in plain Rust, how long lists take
 //! to be made, and how much stack it all needs. With --plain: how long judge takes in plain Rust
 //! alone; with --making: how long lists take to be made; with --records: how long records take.
+//! to be made and boards to be taken, and how much stack it all needs. With --plain: how long judge
+//! takes in plain Rust alone; with --making: how long lists take to be made; with --walking: how long
+//! boards take to be taken.
 
 mod generate;
 mod judge;
@@ -11,6 +14,7 @@ mod reading;
 mod records;
 mod stack;
 mod table;
+mod walking;
 mod writing;
 
 use table::Table;
@@ -28,6 +32,9 @@ fn main() {
     if arguments == ["--records"] {
         return records::print();
     }
+    if arguments == ["--walking"] {
+        return walking::print();
+    }
     let library = arguments != ["--plain"];
     let mut table = Table::new(library);
     if library {
@@ -36,12 +43,14 @@ fn main() {
         generate::measure(&mut table);
         merging::measure(&mut table);
         mutation::measure(&mut table);
+        walking::measure(&mut table);
     }
     judge::measure(&mut table);
     if library {
         table.print_growth();
         making::print();
         records::print();
+        walking::print();
         stack::print();
     }
 }

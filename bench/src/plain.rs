@@ -316,6 +316,14 @@ impl Tables<'_> {
         Ok(Mutant { start, moves })
     }
 
+    /// The number of choices of each byte of a board.
+    fn counts(&self) -> Vec<usize> {
+        let waking = (self.waking > 1).then_some(self.waking);
+        let pairs = (0..self.states).flat_map(|s| (0..self.inputs).map(move |x| pair(s, x)));
+        let pairs = pairs.map(|p| self.choices(p)).filter(|&count| count > 1);
+        waking.into_iter().chain(pairs).collect()
+    }
+
     /// The bit of the waking state, if there is a choice.
     fn waking_bit(&self) -> u32 {
         u32::from(self.waking > 1)
@@ -547,4 +555,104 @@ pub fn generate(seed: u32, size: [u8; 3], buffer: &mut [u8]) -> Result<usize, Re
     }
     buffer[at] = END;
     Ok(at + 1)
+}
+
+/// A mutant that passes the suite, and its shortest distinguishing sequence if it is nonconforming.
+pub type Passing = (Vec<u8>, Option<Vec<u8>>);
+
+/// Take, from the start or after a board: a board that fails is passed over with all that share the choices which its failed
+/// test used. None after so many boards that fail.
+pub fn take(sheet: &[u8], last: Option<&[u8]>, most: usize) -> Option<Option<Passing>> {
+    let tables = load(sheet).ok()?;
+    let counts = tables.counts();
+    let mut board = last.map_or_else(|| vec![0; counts.len()], <[u8]>::to_vec);
+    if last.is_some() && !advance(&mut board, &counts, counts.len()) {
+        return Some(None);
+    }
+    let slots = tables.bits().map(|bit| 32 - bit.leading_zeros() as usize);
+    for _ in 0..most {
+        let mutant = tables.mutant(&board).ok()?;
+        let Some(used) = blamed(&tables, &mutant, &slots) else {
+            let mut sequence = [0; 256];
+            let length = distinguish(&tables, &mutant, &mut sequence);
+            return Some(Some((board, length.map(|n| sequence[..n].to_vec()))));
+        };
+        if !advance(&mut board, &counts, used) {
+            return Some(None);
+        }
+    }
+    None
+}
+
+/// The first board after those that share its first choices, so many; false if there is none.
+fn advance(board: &mut [u8], counts: &[usize], shared: usize) -> bool {
+    let grows = |&i: &usize| usize::from(board[i]) + 1 < counts[i];
+    let Some(i) = (0..shared).rev().find(grows) else {
+        return false;
+    };
+    board[i] += 1;
+    board[i + 1..].fill(0);
+    true
+}
+
+/// Up to which choice the first failed test of a mutant depends on its board, if it fails one.
+fn blamed(tables: &Tables<'_>, mutant: &Mutant, slots: &[usize; 256]) -> Option<usize> {
+    let (mut specified, mut given, mut used) = (0, 0, 0);
+    let mut rest = tables.suite;
+    loop {
+        match *rest {
+            [TEST, ..] => {
+                (specified, given) = (0, mutant.start);
+                used = usize::from(tables.waking > 1);
+                rest = &rest[1..];
+            }
+            [_, x, ..] => {
+                let (wanted, next) = tables.rules[pair(specified, x)];
+                let (output, other) = mutant.moves[pair(given, x)];
+                used = used.max(slots[pair(given, x)]);
+                if output != wanted {
+                    return Some(used);
+                }
+                (specified, given) = (next, other);
+                rest = &rest[2..];
+            }
+            _ => return None,
+        }
+    }
+}
+
+/// Add a test: the sheet with it, the last, at the buffer's front.
+pub fn add_test(sheet: &[u8], presses: &[u8], buffer: &mut [u8]) -> Result<usize, Refusal> {
+    let tables = load(sheet)?;
+    if tables.summary.tests == 256 {
+        return refuse(8, 0);
+    }
+    let mut state = 0;
+    for (index, &x) in presses.iter().enumerate() {
+        if x >= tables.inputs {
+            return refuse(5, index);
+        }
+        if index == 256 {
+            return refuse(8, index);
+        }
+        state = tables.rules[pair(state, x)].1;
+        if state == NONE {
+            return refuse(9, index);
+        }
+    }
+    let length = sheet.len() + 1 + 2 * presses.len();
+    if length > MOST_BYTES {
+        return refuse(1, 0);
+    }
+    if buffer.len() < length {
+        return refuse(16, 0);
+    }
+    let (body, end) = sheet.split_at(sheet.len() - 1);
+    buffer[..body.len()].copy_from_slice(body);
+    buffer[body.len()] = TEST;
+    for (to, &x) in buffer[body.len() + 1..].chunks_exact_mut(2).zip(presses) {
+        to.copy_from_slice(&[PRESS, x]);
+    }
+    buffer[length - 1] = end[0];
+    Ok(length)
 }

@@ -29,6 +29,8 @@ const OPERATIONS: &[&str] = &[
     "tray",
     "compare",
     "judge",
+    "take",
+    "add test",
     "make",
 ];
 
@@ -121,6 +123,17 @@ fn perform(operation: &str, sheet: &[u8], deep: &[u8]) {
             let (mut board, mut sequence) = ([0; 32], [0; 256]);
             let mut answer = [0; 4];
             raw::judge(deep, &mut board, &mut sequence, &mut answer);
+            black_box(answer);
+        }
+        "take" => {
+            let (mut board, mut sequence) = ([0; 32], [0; 256]);
+            let mut answer = [0; 5];
+            raw::take(deep, 0, &[], &mut board, &mut sequence, &mut answer);
+            black_box(answer);
+        }
+        "add test" => {
+            let mut answer = [0; 3];
+            raw::add_test(deep, &[], &mut vec![0; MOST_BYTES], &mut answer);
             black_box(answer);
         }
         "make" => {

@@ -1,7 +1,7 @@
 //! The plain Rust versions against the reference code.
 
 use ranthelo_bench::{engine, families, plain};
-use ranthelo_tests::enumeration::{self, Machine, Ran, Survivor};
+use ranthelo_tests::enumeration::{self, Machine, Passing, Ran, Survivor};
 use ranthelo_tests::generator::{self, Random, Shape, LARGE, SMALL};
 use ranthelo_tests::listed::{self, spelled};
 use ranthelo_tests::reference::{self, Move, Pair, Sheet, MOST_BYTES};
@@ -213,4 +213,51 @@ fn families_are_accepted() {
     }
     assert_eq!(suspects(families::wide()), 32);
     assert_eq!(suspects(families::three_literals(111, 1)), 32);
+}
+
+/// Whole walks, and takes from any board.
+#[test]
+fn walks() {
+    let mut random = Random::new(16);
+    for _ in 0..1_000 {
+        let shape = Shape {
+            boards: 60,
+            ..SMALL
+        };
+        let sheet = generator::sheet(&mut random, &shape);
+        let (bytes, counts) = (sheet.encode(), Machine::new(&sheet).counts());
+        let agree = |last: Option<&[u8]>| {
+            let place = u8::from(last.is_some());
+            let expected = enumeration::take(&bytes, place, last.unwrap_or(&[]), 32, 256);
+            let taken = plain::take(&bytes, last, usize::MAX).expect("an accepted sheet");
+            let taken = taken.map(|(board, sequence)| Passing { board, sequence });
+            assert_eq!(Ok(taken.clone()), expected, "{}", spelled(&bytes));
+            taken
+        };
+        agree(Some(&generator::board(&mut random, &counts)));
+        let mut last = None;
+        while let Some(taken) = agree(last.as_deref()) {
+            last = Some(taken.board);
+        }
+    }
+}
+
+#[test]
+fn tests_added() {
+    let mut random = Random::new(17);
+    for _ in 0..20_000 {
+        let sheet = generator::sheet(&mut random, &SMALL);
+        let bytes = sheet.encode();
+        let length = random.pick(&[0, 3, 8, 256, 257]);
+        let mut presses = generator::walk(&mut random, &sheet, length);
+        if random.chance(30) && !presses.is_empty() {
+            let place = random.below(presses.len());
+            presses[place] = random.pick(&[0, 1, 2, 16]);
+        }
+        let room = bytes.len() + 2 * presses.len() + random.below(3);
+        let mut buffer = vec![0; room];
+        let added = plain::add_test(&bytes, &presses, &mut buffer);
+        let longer = added.map(|length| buffer[..length].to_vec());
+        assert_eq!(longer, enumeration::add_test(&bytes, &presses, room));
+    }
 }

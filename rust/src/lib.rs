@@ -2,8 +2,8 @@
 //!
 //! These are safe functions over the proved library. A sheet is a string of bytes: a specified machine, the faults that
 //! production may introduce, and a list of tests. [`judge`] says whether the list is complete, and if it is not, which
-//! faulty board passes it and which test to add; [`make`] adds tests until it is. README.md of the repository has the
-//! format and what the answers mean.
+//! faulty board passes it and which test to add; [`make`] adds tests until it is. [`take`] gives the boards that pass one
+//! after another, and [`add_test`] a longer list. README.md of the repository has the format and what the answers mean.
 //!
 //! ```
 //! use ranthelo::{Verdict, judge, text};
@@ -50,6 +50,9 @@ pub use operations::{
     judge, make, read, run, test_part, test_span, tray, write,
     Comparison, Failure, Made, MergeRefusal, Run, Summary, Trial, Used, Verdict, compare,
     first_failed, generate, judge, make, merge, read, run, test_part, test_span, write,
+    Comparison, Failure, Made, Passing, Place, Run, Summary, Trial, Used, Verdict, add_test,
+    compare, first_failed, generate, judge, make, read, run, take, test_part, test_span, tray,
+    write,
 };
 pub use operations::{Recorded, Suspected, check_record, explain_record};
 pub use raw::Tables;

@@ -66,6 +66,24 @@ pub enum Verdict {
     Survivor { board: Vec<u8>, sequence: Vec<u8> },
 }
 
+/// The place of a walk over the boards that pass a list.
+#[derive(Clone, Debug, PartialEq, Eq)]
+pub enum Place {
+    /// Before the first board.
+    Start,
+    /// At the last board taken.
+    Board(Vec<u8>),
+    /// After the last board.
+    End,
+}
+
+/// A board that passes the list, and what it is beside the specification.
+#[derive(Clone, Debug, PartialEq, Eq)]
+pub struct Passing {
+    pub board: Vec<u8>,
+    pub comparison: Comparison,
+}
+
 /// A sheet whose list was made complete.
 #[derive(Clone, Debug, PartialEq, Eq)]
 pub struct Made {
@@ -290,6 +308,67 @@ pub fn judge(sheet: &[u8]) -> Result<Verdict, Refusal> {
         }),
         _ => unreachable!("two numbers follow"),
     }
+}
+
+/// Takes the next board that passes the list: the first in dictionary order after a place, none at the end. The thread needs
+/// [`STACK`](crate::STACK) bytes of stack.
+///
+/// ```
+/// use ranthelo::{Comparison, Place};
+///
+/// let sheet = ranthelo::text::assemble(b"SIZE 1 1 2\n RULE 0 0 0 0\n FAULT 0 0 1 0")?;
+/// let first = ranthelo::take(&sheet, &Place::Start)?.expect("two boards pass");
+/// assert_eq!((first.board.as_slice(), first.comparison), (&[0][..], Comparison::Conforms));
+///
+/// let second = ranthelo::take(&sheet, &Place::Board(first.board))?.expect("one more passes");
+/// assert_eq!(second.comparison, Comparison::Departs { sequence: vec![0] });
+///
+/// let longer = ranthelo::add_test(&sheet, &[0])?;
+/// assert_eq!(ranthelo::take(&longer, &Place::Start)?.map(|p| p.board), Some(vec![0]));
+/// assert_eq!(ranthelo::take(&longer, &Place::Board(vec![0]))?, None);
+/// # Ok::<(), Box<dyn std::error::Error>>(())
+/// ```
+pub fn take(sheet: &[u8], place: &Place) -> Result<Option<Passing>, Refusal> {
+    let (place, last) = match place {
+        Place::Start => (0, &[][..]),
+        Place::Board(board) => (1, board.as_slice()),
+        Place::End => (2, &[][..]),
+    };
+    let (mut board, mut sequence) = ([0; MOST_OPEN_PAIRS], [0; MOST_SEQUENCE]);
+    let mut answer = [0; 5];
+    raw::take(sheet, place, last, &mut board, &mut sequence, &mut answer);
+    let numbers = rest(&answer)?;
+    if numbers[0] == 0 {
+        return Ok(None);
+    }
+    let comparison = match numbers[1] {
+        0 => Comparison::Conforms,
+        _ => Comparison::Departs {
+            sequence: sequence[..numbers[2]].to_vec(),
+        },
+    };
+    let board = board[..read(sheet)?.open_pairs].to_vec();
+    Ok(Some(Passing { board, comparison }))
+}
+
+/// The sheet with one test more, the last. A refusal is reading's, 8 at 0 for the 257th test, 5, 8 or 9 at the index of a press,
+/// or 1 at 0 for over 16,384 bytes.
+///
+/// ```
+/// let sheet = ranthelo::text::assemble(b"SIZE 1 1 2\n RULE 0 0 0 0\n TEST")?;
+/// let longer = ranthelo::add_test(&sheet, &[0, 0])?;
+/// assert_eq!(ranthelo::test_part(&longer, 1)?, [5, 0, 5, 0]);
+///
+/// let refusal = ranthelo::add_test(&sheet, &[0, 1]).unwrap_err();
+/// assert_eq!((refusal.number, refusal.place), (5, 1));
+/// # Ok::<(), Box<dyn std::error::Error>>(())
+/// ```
+pub fn add_test(sheet: &[u8], presses: &[u8]) -> Result<Vec<u8>, Refusal> {
+    let mut answer = [0; 3];
+    sheet_from(|buffer| {
+        raw::add_test(sheet, presses, buffer, &mut answer);
+        Ok(rest(&answer)?[0])
+    })
 }
 
 /// Makes the sheet's list of tests complete: while it is not, the sequence of the verdict's survivor is appended as a test. A

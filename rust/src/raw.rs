@@ -87,6 +87,27 @@ mod c {
             answer: *mut usize,
             nodes: *mut u32,
         );
+        pub fn ranthelo_take(
+            sheet: *const u8,
+            sheet_len: usize,
+            place: u8,
+            last: *const u8,
+            last_len: usize,
+            board: *mut u8,
+            board_len: usize,
+            sequence: *mut u8,
+            sequence_len: usize,
+            answer: *mut usize,
+        );
+        pub fn ranthelo_add_test(
+            sheet: *const u8,
+            sheet_len: usize,
+            presses: *const u8,
+            presses_len: usize,
+            buffer: *mut u8,
+            buffer_len: usize,
+            answer: *mut usize,
+        );
         pub fn ranthelo_make(
             sheet: *const u8,
             sheet_len: usize,
@@ -295,6 +316,49 @@ pub fn judge_counting(
             sequence.len(),
             answer.as_mut_ptr(),
             nodes,
+        )
+    }
+}
+
+/// Take. `place` is 0 for the walk's start, 1 for the board `last`, any other number for the end. Number, place, 1 if a board is
+/// taken (0 at the end), 1 if it departs, the length of its sequence; the board and its sequence at the buffers' fronts.
+pub fn take(
+    sheet: &[u8],
+    place: u8,
+    last: &[u8],
+    board: &mut [u8],
+    sequence: &mut [u8],
+    answer: &mut [usize; 5],
+) {
+    // SAFETY: all slices and the answer are valid for their lengths throughout the call.
+    unsafe {
+        c::ranthelo_take(
+            sheet.as_ptr(),
+            sheet.len(),
+            place,
+            last.as_ptr(),
+            last.len(),
+            board.as_mut_ptr(),
+            board.len(),
+            sequence.as_mut_ptr(),
+            sequence.len(),
+            answer.as_mut_ptr(),
+        )
+    }
+}
+
+/// Add a test. Number, place, the longer sheet's length; the sheet with that test last at the buffer's front.
+pub fn add_test(sheet: &[u8], presses: &[u8], buffer: &mut [u8], answer: &mut [usize; 3]) {
+    // SAFETY: all slices and the answer are valid for their lengths throughout the call.
+    unsafe {
+        c::ranthelo_add_test(
+            sheet.as_ptr(),
+            sheet.len(),
+            presses.as_ptr(),
+            presses.len(),
+            buffer.as_mut_ptr(),
+            buffer.len(),
+            answer.as_mut_ptr(),
         )
     }
 }

@@ -4,7 +4,8 @@ mod common;
 
 use common::root;
 use ranthelo::{
-    STACK, Tables, compare, first_failed, generate, judge, make, raw, read, run, tray, write,
+    Place, STACK, Tables, add_test, compare, first_failed, generate, judge, make, raw, read, run,
+    take, tray, write,
 };
 use std::fs;
 use std::thread::Builder;
@@ -19,7 +20,7 @@ fn in_stack(bytes: usize, work: impl FnOnce() + Send + 'static) {
 
 /// The sheets kept for measuring, some of which settle every open pair.
 #[test]
-fn judging_and_making() {
+fn judging_taking_and_making() {
     let folder = root().join("bench/machines");
     let files = fs::read_dir(folder).expect("the kept sheets");
     let sheets: Vec<Vec<u8>> = files
@@ -29,6 +30,7 @@ fn judging_and_making() {
     for sheet in sheets {
         in_stack(STACK / 4 * 3, move || {
             judge(&sheet).expect("an accepted sheet");
+            take(&sheet, &Place::Start).expect("an accepted sheet");
             let refused = make(&sheet).err().map(|refusal| refusal.number);
             assert!(matches!(refused, None | Some(18)), "{refused:?}");
         });
@@ -49,6 +51,7 @@ fn other_operations() {
         assert!(first_failed(&sheet, &[0]).is_ok());
         assert!(tray(&sheet, 2, &[0, 1]).is_ok());
         assert!(compare(&sheet, &[0]).is_ok());
+        assert!(add_test(&sheet, &[]).is_ok());
         assert!(generate(1, [16, 16, 16]).is_ok());
         let (lengths, presses) = ([256; 31], [0; 31 * 256]);
         let tables = Tables {

@@ -1,7 +1,7 @@
 //! A small judge by enumeration, written from documents 01 and 02 alone: it builds every
 //! mutant (01: board) and tries it. Fit for sheets with few mutants.
 
-use crate::reference::{read, Move, Refusal, Sheet, MOST_BYTES, MOST_TESTS};
+use crate::reference::{read, Move, Refusal, Sheet, MOST_BYTES, MOST_PRESSES, MOST_TESTS};
 use std::collections::{BTreeSet, VecDeque};
 
 /// The specified machine of a sheet with the choices at each pair and the test
@@ -59,6 +59,13 @@ pub struct Failed {
 pub struct Survivor {
     pub board: Vec<u8>,
     pub sequence: Vec<u8>,
+}
+
+/// A mutant that passes the suite, and its shortest distinguishing sequence if it is nonconforming.
+#[derive(Clone, Debug, PartialEq, Eq)]
+pub struct Passing {
+    pub board: Vec<u8>,
+    pub sequence: Option<Vec<u8>>,
 }
 
 /// A sheet whose suite was made complete, and how many tests were appended.
@@ -152,6 +159,41 @@ impl Machine {
             start: self.wakings[waking].into(),
             moves,
         }
+    }
+
+    /// The mutants that pass the suite, in dictionary order.
+    pub fn passing(&self) -> impl Iterator<Item = Vec<u8>> + '_ {
+        let passes = |board: &Vec<u8>| self.mutant(board).first_failed().is_none();
+        self.boards().filter(passes)
+    }
+
+    /// Whether every mutant that begins with these choices fails a test before it needs another choice.
+    pub fn fails(&self, begun: &[u8]) -> bool {
+        let waking = usize::from(self.wakes());
+        if begun.len() < waking {
+            return false;
+        }
+        let start = if self.wakes() { begun[0].into() } else { 0 };
+        let choice = |pair: usize| match self.suspects.binary_search(&pair) {
+            Ok(suspect) => begun.get(waking + suspect).map(|&choice| choice.into()),
+            Err(_) => Some(0),
+        };
+        let fails = |(inputs, wanted): &(Vec<u8>, Vec<u8>)| {
+            let mut state = usize::from(self.wakings[start]);
+            for (&x, &wanted) in inputs.iter().zip(wanted) {
+                let pair = self.pair(state, x);
+                let Some(choice) = choice(pair) else {
+                    return false;
+                };
+                let (output, next) = self.choices[pair][choice];
+                if output != wanted {
+                    return true;
+                }
+                state = next.into();
+            }
+            false
+        };
+        self.suite.iter().any(fails)
     }
 
     /// The first surviving mutant in dictionary order, if there is one.
@@ -380,4 +422,64 @@ pub fn make(bytes: &[u8], room: usize) -> Result<Made, Refusal> {
         sheet: sheet.encode(),
         appended: sheet.tests.len() - tests,
     })
+}
+
+/// Take, with buffers of so many bytes, from a place as C has it: 0 the start, 1 the board `last`, else the end.
+pub fn take(
+    bytes: &[u8],
+    place: u8,
+    last: &[u8],
+    board_room: usize,
+    sequence_room: usize,
+) -> Result<Option<Passing>, Refusal> {
+    let machine = Machine::new(&read(bytes)?.sheet);
+    if place == 1 {
+        check_board(&machine, last)?;
+    }
+    if board_room < machine.counts().len() {
+        return refuse(16, 0);
+    }
+    if sequence_room < machine.states * machine.states {
+        return refuse(16, 1);
+    }
+    let mut passing = machine.passing();
+    let next = match place {
+        0 => passing.next(),
+        1 => passing.find(|board| board.as_slice() > last),
+        _ => None,
+    };
+    Ok(next.map(|board| Passing {
+        sequence: machine.mutant(&board).distinguish(),
+        board,
+    }))
+}
+
+/// Add a test, with a buffer of `room` bytes: the sheet with that test last.
+pub fn add_test(bytes: &[u8], presses: &[u8], room: usize) -> Result<Vec<u8>, Refusal> {
+    let mut sheet = read(bytes)?.sheet;
+    if sheet.tests.len() == MOST_TESTS {
+        return refuse(8, 0);
+    }
+    let mut state = 0;
+    for (index, &x) in presses.iter().enumerate() {
+        if x >= sheet.presses {
+            return refuse(5, index);
+        }
+        if index == MOST_PRESSES {
+            return refuse(8, index);
+        }
+        match sheet.rules.get(&(state, x)) {
+            Some(&(_, next)) => state = next,
+            None => return refuse(9, index),
+        }
+    }
+    sheet.tests.push(presses.to_vec());
+    let longer = sheet.encode();
+    if longer.len() > MOST_BYTES {
+        return refuse(1, 0);
+    }
+    if longer.len() > room {
+        return refuse(16, 0);
+    }
+    Ok(longer)
 }

@@ -9,4 +9,5 @@ pub mod merging;
 pub mod mutation;
 pub mod reading;
 pub mod records;
+pub mod walking;
 pub mod writing;

@@ -144,6 +144,8 @@ fn every_operation_promises() {
         "generator/src/lib.rt",
         "mutation/src/lib.rt",
         "mutation/src/verdict.rt",
+        "adding/src/lib.rt",
+        "walking/src/lib.rt",
         "making/src/lib.rt",
         "tray/src/lib.rt",
         "records/src/lib.rt",

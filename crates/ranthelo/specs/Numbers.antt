@@ -1,7 +1,9 @@
 -- The answers as numbers: a refusal's number and place first (0 and 0 where there is none), then the values, 0 on a refusal (but
 -- merging tells the sheet it concerns).
 use Prim.Native.Nat.{ℕ}
+use mathlib.Core.Bool.{cond}
 use mathlib.Core.List.{List, [], _∷_}
+use lib.Dec.{eqb}
 use Rattle.sheet.specs.declared.Reading.{Reading}
 use Rattle.sheet.specs.declared.Reading.the-variants as read
 use Rattle.sheet.specs.declared.Parting.{Parting}
@@ -21,6 +23,10 @@ use Rattle.records.specs.declared.Recorded.{Recorded}
 use Rattle.records.specs.declared.Recorded.the-variants as recorded
 use Rattle.records.specs.declared.Explained.{Explained}
 use Rattle.records.specs.declared.Explained.the-variants as explained
+use Rattle.walking.specs.declared.Taken.{Taken}
+use Rattle.walking.specs.declared.Taken.the-variants as taken
+use Rattle.walking.specs.declared.Place.{Place}
+use Rattle.walking.specs.declared.Place.the-variants as place
 use Rattle.making.specs.declared.Made.{Made}
 use Rattle.making.specs.declared.Made.the-variants as made
 use Rattle.tray.specs.declared.Tried.{Tried}
@@ -66,6 +72,17 @@ abbrev pub judgedNumbers : Judged → List ℕ
 judgedNumbers judged.Complete = 0 ∷ 0 ∷ 0 ∷ 0 ∷ []
 judgedNumbers (judged.Survivor d) = 0 ∷ 0 ∷ 1 ∷ d ∷ []
 judgedNumbers (judged.Refused number place) = number ∷ place ∷ 0 ∷ 0 ∷ []
+
+-- number, place; 1 if a mutant is taken (0: the end), 1 if it is nonconforming, and the length of its sequence
+abbrev pub takenNumbers : Taken → List ℕ
+takenNumbers taken.Conforms = 0 ∷ 0 ∷ 1 ∷ 0 ∷ 0 ∷ []
+takenNumbers (taken.Departs d) = 0 ∷ 0 ∷ 1 ∷ 1 ∷ d ∷ []
+takenNumbers taken.End = 0 ∷ 0 ∷ 0 ∷ 0 ∷ 0 ∷ []
+takenNumbers (taken.Refused number place) = number ∷ place ∷ 0 ∷ 0 ∷ 0 ∷ []
+
+-- a walk's place: 0 the start, 1 the last mutant taken, any other number the end
+abbrev pub placeOf : ℕ → Place
+placeOf p = cond (eqb p 0) place.Start (cond (eqb p 1) place.Last place.End)
 
 -- number, place; the made sheet's length, and how many tests were appended
 abbrev pub madeNumbers : Made → List ℕ

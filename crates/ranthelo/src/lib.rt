@@ -17,9 +17,12 @@ ghost use Rattle.writing.specs.Writing.{writing, writtenAnswer, sheetWrites};
 ghost use Rattle.generator.specs.Generating.{generating};
 ghost use Rattle.mutation.specs.Answers.{ranAnswer, ranWrites, failedAnswer, comparedAnswer, comparedWrites};
 ghost use Rattle.mutation.specs.Judging.{judgedAnswer, boardWrites, sequenceWrites, Measured};
+ghost use Rattle.model.specs.Walk.{taking};
+ghost use Rattle.walking.specs.Taking.{standing, takenAnswer, takenBoard, takenSequence};
+ghost use Rattle.adding.specs.Adding.{adding};
 ghost use Rattle.making.specs.Answers.{madeAnswer, madeWrites};
 ghost use Rattle.tray.specs.Answers.{triedAnswer, triedWrites};
-ghost use Rattle.ranthelo.specs.Numbers.{readNumbers, partNumbers, writtenNumbers, ranNumbers, failedNumbers, comparedNumbers, judgedNumbers, madeNumbers, triedNumbers, bit, recordedNumbers, explainedNumbers, mergedNumbers};
+ghost use Rattle.ranthelo.specs.Numbers.{readNumbers, partNumbers, writtenNumbers, ranNumbers, failedNumbers, comparedNumbers, judgedNumbers, madeNumbers, triedNumbers, bit, recordedNumbers, explainedNumbers, mergedNumbers, takenNumbers, placeOf};
 ghost use Rattle.records.specs.Record.{checking, explaining};
 ghost use Rattle.records.specs.Answers.{recordedAnswer, explainedAnswer, explainedBoard, explainedSequence};
 ghost use Rattle.renaming.specs.Merging.{merging};
@@ -36,6 +39,8 @@ use sheet::Parting;
 use sheet::Reading;
 use sheet::Size;
 use tray::Tried;
+use walking::Place;
+use walking::Taken;
 use writing::Written;
 
 // Read.
@@ -273,6 +278,70 @@ pub extern "C" fn ranthelo_judge_counting(
         mutation::judge_counting(sheet, board, sequence, nodes),
         answer,
     );
+}
+
+fn place_of(place: u8) -> Place
+    ensures { λ r. ⌜ r ≡ placeOf place ⌝ }
+{
+    if place == 0 {
+        return Place::Start;
+    }
+    if place == 1 {
+        return Place::Last;
+    }
+    Place::End
+}
+
+// The answer of take as numbers.
+fn tell_taken(taken: Taken, answer: &mut [usize; 5])
+    ensures { λ r. ⌜ now (answer .exit) ≡ takenNumbers taken ⌝ }
+{
+    match taken {
+        Taken::Conforms => {
+            *answer = [0, 0, 1, 0, 0];
+        }
+        Taken::Departs(d) => {
+            *answer = [0, 0, 1, 1, d];
+        }
+        Taken::End => {
+            *answer = [0, 0, 0, 0, 0];
+        }
+        Taken::Refused(number, place) => {
+            *answer = [number as usize, place, 0, 0, 0];
+        }
+    }
+}
+
+// Take.
+#[no_mangle]
+pub extern "C" fn ranthelo_take(
+    sheet: &[u8],
+    place: u8,
+    last: &[u8],
+    board: &mut [u8],
+    sequence: &mut [u8],
+    answer: &mut [usize; 5],
+)
+    ensures { λ r. ⌜ now (answer .exit) ≡ takenNumbers (takenAnswer (taking (now (sheet .entry)) (standing (placeOf place) (now (last .entry))) (length (now (board .entry))) (length (now (sequence .entry))))) ⌝ }
+    ensures { λ r. ⌜ now (board .exit) ≡ overlay (takenBoard (taking (now (sheet .entry)) (standing (placeOf place) (now (last .entry))) (length (now (board .entry))) (length (now (sequence .entry))))) (now (board .entry)) ⌝ }
+    ensures { λ r. ⌜ now (sequence .exit) ≡ overlay (takenSequence (taking (now (sheet .entry)) (standing (placeOf place) (now (last .entry))) (length (now (board .entry))) (length (now (sequence .entry))))) (now (sequence .entry)) ⌝ }
+{
+    let at = place_of(place);
+    tell_taken(walking::take(sheet, at, last, board, sequence), answer);
+}
+
+// A test added.
+#[no_mangle]
+pub extern "C" fn ranthelo_add_test(
+    sheet: &[u8],
+    presses: &[u8],
+    buffer: &mut [u8],
+    answer: &mut [usize; 3],
+)
+    ensures { λ r. ⌜ now (answer .exit) ≡ writtenNumbers (writtenAnswer (adding (now (sheet .entry)) (now (presses .entry)) (length (now (buffer .entry))))) ⌝ }
+    ensures { λ r. ⌜ now (buffer .exit) ≡ overlay (sheetWrites (adding (now (sheet .entry)) (now (presses .entry)) (length (now (buffer .entry))))) (now (buffer .entry)) ⌝ }
+{
+    tell_length(adding::add_test(sheet, presses, buffer), answer);
 }
 
 // A complete suite.

@@ -7,3 +7,4 @@ pub mod MadeRows
 pub mod ListRows
 pub mod TrayRows
 pub mod MergedRows
+pub mod WalkRows

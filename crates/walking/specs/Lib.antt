@@ -1,0 +1,3 @@
+pub mod Taking
+pub mod Walked
+pub mod laws

@@ -1,0 +1,3 @@
+-- The laws of the definitions.
+pub mod TurnLaw
+pub mod WalkedLaw
