@@ -20,6 +20,9 @@ ghost use Rattle.mutation.specs.Judging.{judgedAnswer, boardWrites, sequenceWri
 ghost use Rattle.making.specs.Answers.{madeAnswer, madeWrites};
 ghost use Rattle.tray.specs.Answers.{triedAnswer, triedWrites};
 ghost use Rattle.ranthelo.specs.Numbers.{readNumbers, partNumbers, writtenNumbers, ranNumbers, failedNumbers, comparedNumbers, judgedNumbers, madeNumbers, triedNumbers};
+
+mod driving;
+
 use making::Made;
 use mutation::Compared;
 use mutation::Failed;
