@@ -2,7 +2,8 @@
 //!
 //! These are safe functions over the proved library. A sheet is a string of bytes: a specified machine, the faults that
 //! production may introduce, and a list of tests. [`judge`] says whether the list is complete, and if it is not, which
-//! faulty board passes it and which test to add; [`make`] adds tests until it is. README.md of the repository has the
+//! faulty board passes it and which test to add; [`make`] adds tests until it is. A [`Station`] drives a lock through a complete
+//! list. README.md of the repository has the
 //! format and what the answers mean.
 //!
 //! ```
@@ -42,6 +43,7 @@ mod names;
 mod operations;
 pub mod raw;
 mod refusal;
+mod station;
 pub mod text;
 
 pub use names::Names;
@@ -51,6 +53,7 @@ pub use operations::{
 };
 pub use raw::Tables;
 pub use refusal::{Refusal, meaning};
+pub use station::{Station, Step};
 
 /// The most bytes that a sheet has.
 pub const MOST_BYTES: usize = 16_384;

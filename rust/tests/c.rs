@@ -155,12 +155,13 @@ fn constants_are_those_of_the_package() {
         ("RANTHELO_MOST_SEQUENCE", ranthelo::MOST_SEQUENCE),
         ("RANTHELO_NO_TEST", 17),
         ("RANTHELO_NO_ROOM", 18),
+        ("RANTHELO_NO_PRESS_DUE", 24),
     ] {
         assert_eq!(value(name), expected.to_string(), "{name}");
     }
 }
 
-/// The refusals are numbered without a gap, each with a line for what it means.
+/// The refusals are those that the package knows, in order, each with a comment that says what it means.
 #[test]
 fn refusals_are_numbered() {
     let header = header();
@@ -173,12 +174,19 @@ fn refusals_are_numbered() {
         .skip(1)
         .take_while(|line| *line != "};")
         .collect();
-    for (number, line) in lines.iter().enumerate() {
-        assert!(line.contains(&format!(" = {number}")), "{line}");
+    let number = |line: &&str| -> usize {
+        let mut words = line.split_whitespace().skip_while(|word| *word != "=");
+        let number = words.nth(1).expect("a number").trim_end_matches(',');
+        number.parse().expect("a number")
+    };
+    let numbers: Vec<usize> = lines.iter().map(number).collect();
+    let meant = (1..100).filter(|&number| ranthelo::meaning(number).is_some());
+    let known: Vec<usize> = [0].into_iter().chain(meant).collect();
+    assert_eq!(numbers, known);
+    for line in lines {
         assert!(line.contains("/* ") && line.ends_with("*/"), "{line}");
-        assert!(number == 0 || ranthelo::meaning(number).is_some(), "{line}");
     }
-    assert!(lines.len() > 18);
+    assert!(numbers.len() > 18);
 }
 
 /// The header, the package, the pkg-config file and the change log have one version; what came after it is under Next.
