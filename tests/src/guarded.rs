@@ -7,4 +7,5 @@ pub mod judge;
 pub mod making;
 pub mod mutation;
 pub mod reading;
+pub mod station;
 pub mod writing;

@@ -10,3 +10,4 @@ pub mod listed;
 pub mod pictures;
 pub mod reference;
 pub mod seeded;
+pub mod station;

@@ -146,7 +146,9 @@ fn every_operation_promises() {
         "mutation/src/verdict.rt",
         "making/src/lib.rt",
         "tray/src/lib.rt",
+        "station/src/lib.rt",
         "ranthelo/src/lib.rt",
+        "ranthelo/src/driving.rt",
         "report/src/lib.rt",
     ] {
         let text = fs::read_to_string(located(file)).expect(file);
