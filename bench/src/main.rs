@@ -8,6 +8,7 @@ mod making;
 mod mutation;
 mod reading;
 mod stack;
+mod station;
 mod table;
 mod writing;
 
@@ -30,6 +31,7 @@ fn main() {
         writing::measure(&mut table);
         generate::measure(&mut table);
         mutation::measure(&mut table);
+        station::measure(&mut table);
     }
     judge::measure(&mut table);
     if library {

@@ -4,7 +4,8 @@ mod common;
 
 use common::root;
 use ranthelo::{
-    STACK, Tables, compare, first_failed, generate, judge, make, raw, read, run, tray, write,
+    STACK, Station, Step, Tables, compare, first_failed, generate, judge, make, raw, read, run,
+    tray, write,
 };
 use std::fs;
 use std::thread::Builder;
@@ -29,6 +30,8 @@ fn judging_and_making() {
     for sheet in sheets {
         in_stack(STACK / 4 * 3, move || {
             judge(&sheet).expect("an accepted sheet");
+            let begun = Station::begin(&sheet).map_err(|refusal| refusal.number);
+            assert!(matches!(begun, Ok(_) | Err(22)), "{begun:?}");
             let refused = make(&sheet).err().map(|refusal| refusal.number);
             assert!(matches!(refused, None | Some(18)), "{refused:?}");
         });
@@ -60,5 +63,12 @@ fn other_operations() {
         };
         assert!(write(tables).is_ok());
         raw::test_span(&sheet, 31, &mut [0; 4]);
+        let mut station = Station::resume(&sheet, [32, 231, 0, 0]).expect("an accepted sheet");
+        let last = Step::Press {
+            press: 0,
+            position: 231,
+        };
+        assert_eq!(station.next_step(), last);
+        assert_eq!(station.sound(0), Ok(None));
     });
 }

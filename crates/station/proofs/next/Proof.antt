@@ -11,52 +11,59 @@ use Rattle.station.proofs.next.Tie as tie
 
 returns : tie.Need-returns
 returns c =
-    let a = c .before .before .before .before .before .args in
+    let at-read = c .before .before .before in
+    let a = at-read .before .before .args in
     let s = now (a .sheet) in
     let g = c .before .enum-told .given in
     let z = refusal-told _ _ _ _ (c .refusal-of .ensures) (g .1) in
-    let answer = ap₂ Refused (z .0) (z .1) ∙ next-refused s (a .state) (is-refused s (c .before .before .before .read .ensures) (g .1)) in
+    let answer = ap₂ Refused (z .0) (z .1) ∙ next-refused s (a .state) (is-refused s (at-read .read .ensures) (g .1)) in
     (answer, next-told s (a .state) _ answer)
 
 along-requires : tie.Need-along-requires
 along-requires c κs =
-    let (sh, e, m) = is-accepted (now (c .before .before .before .before .before .before .before .args .sheet)) (c .before .before .before .before .before .read .ensures) (c .before .before .before .reading .given .1) in
+    let at-read = c .before .before .before .before .before in
+    let (sh, e, m) = is-accepted (now (at-read .before .before .args .sheet)) (at-read .read .ensures) (c .before .before .before .reading .given .1) in
     (sh, e, tests-are sh m)
 
 along-requires-2 : tie.Need-along-requires-2
 along-requires-2 c κs =
-    let (sh, e, m) = is-accepted (now (c .before .before .before .before .before .before .before .args .sheet)) (c .before .before .before .before .before .read .ensures) (c .before .before .before .reading .given .1) in
+    let at-read = c .before .before .before .before .before in
+    let (sh, e, m) = is-accepted (now (at-read .before .before .args .sheet)) (at-read .read .ensures) (c .before .before .before .reading .given .1) in
     (sh, e, tests-are sh m)
 
 returns-2 : tie.Need-returns-2
 returns-2 c =
-    let a = c .before .before .before .before .before .before .before .before .args in
+    let at-read = c .before .before .before .before .before .before in
+    let a = at-read .before .before .args in
     let s = now (a .sheet) in
-    let (sh, e, m) = is-accepted s (c .before .before .before .before .before .before .read .ensures) (c .before .before .before .before .reading .given .1) in
+    let (sh, e, m) = is-accepted s (at-read .read .ensures) (c .before .before .before .before .reading .given .1) in
     let answer = next-ready s (a .state) sh e (c .before .enum-told2 .given .1) (c .along .ensures sh e) in
     (answer, next-told s (a .state) _ answer)
 
 returns-3 : tie.Need-returns-3
 returns-3 c =
-    let a = c .before .before .before .before .before .before .before .before .args in
+    let at-read = c .before .before .before .before .before .before in
+    let a = at-read .before .before .args in
     let s = now (a .sheet) in
-    let (sh, e, m) = is-accepted s (c .before .before .before .before .before .before .read .ensures) (c .before .before .before .before .reading .given .1) in
+    let (sh, e, m) = is-accepted s (at-read .read .ensures) (c .before .before .before .before .reading .given .1) in
     let answer = next-due s (a .state) sh e (c .before .enum-told3 .given .1) (c .along2 .ensures sh e) in
     (answer, next-told s (a .state) _ answer)
 
 returns-4 : tie.Need-returns-4
 returns-4 c =
-    let a = c .before .before .before .before .before .before .before .args in
+    let at-read = c .before .before .before .before .before in
+    let a = at-read .before .before .args in
     let s = now (a .sheet) in
-    let (sh, e, m) = is-accepted s (c .before .before .before .before .before .read .ensures) (c .before .before .before .reading .given .1) in
+    let (sh, e, m) = is-accepted s (at-read .read .ensures) (c .before .before .before .reading .given .1) in
     let answer = next-passed s (a .state) sh e (c .enum-told4 .given .1) in
     (answer, next-told s (a .state) _ answer)
 
 returns-5 : tie.Need-returns-5
 returns-5 c =
-    let a = c .before .before .before .before .before .before .before .before .args in
+    let at-read = c .before .before .before .before .before .before in
+    let a = at-read .before .before .args in
     let s = now (a .sheet) in
-    let (sh, e, m) = is-accepted s (c .before .before .before .before .before .before .read .ensures) (c .before .before .before .before .reading .given .1) in
+    let (sh, e, m) = is-accepted s (at-read .read .ensures) (c .before .before .before .before .reading .given .1) in
     let answer = next-failed s (a .state) sh e (c .before .enum-told5 .given .1) (c .test-of .ensures) in
     (answer, next-told s (a .state) _ answer)
 
