@@ -7,7 +7,7 @@ use mathlib.Core.List.{List, [], _∷_, _++_}
 use Rattle.sheet.specs.Sheet.{Sheet}
 use Rattle.sheet.specs.Reading.{accepted, reading}
 use Rattle.model.specs.Suite.{Place}
-use Rattle.model.specs.Implementation.{Guaranteed}
+use Rattle.model.specs.Implementation.{Event, input, Guaranteed}
 use Rattle.model.specs.Verdict.{Complete}
 use Rattle.station.specs.declared.State.{State}
 use Rattle.station.specs.declared.Step.{Step}
@@ -21,7 +21,7 @@ use Rattle.station.specs.declared.Taken.the-variants as taken
 use Rattle.station.specs.declared.Changed.{Changed}
 use Rattle.station.specs.declared.Changed.the-variants as changed
 use Rattle.station.specs.Station.{fresh, inputAt, nexting, taking, Agree, isOpen}
-use Rattle.station.specs.Calls.{Call, next, take-output, History, lastSheet, lastState, dueIn, GivesPass, GivesFailure, Some, RightMeans, PassMeans, FailureMeans}
+use Rattle.station.specs.Calls.{Call, next, take-output, History, lastSheet, lastState, dueIn, gotIn, GivesPass, GivesFailure, Some, RightMeans, PassMeans, FailureMeans}
 
 -- begin, of an accepted sheet: it begins exactly if the suite is complete, and otherwise answers 22
 pub record BegunSays (sh : Sheet) (r : Begun) : Type 0 where
@@ -44,9 +44,10 @@ abbrev pub AdvancedSays : List ℕ → List Call → Advanced → Type 0
 AdvancedSays first calls (advanced.Given q st) = StepSays first calls q
 AdvancedSays first calls (advanced.Refused number place) = ⊥
 
--- a verdict once given is given again
+-- an input that is due, the last that the implementation got, is given again, and so is a verdict
 pub record NextSays (first : List ℕ) (calls : List Call) (s : List ℕ) (st : State) (r : Advanced) : Type 0 where
   pub given : AdvancedSays first (calls ++ next s st (nexting s st) ∷ []) r
+  pub same-input : dueIn calls ≡ true → (x : ℕ) × (es : List Event) × (gotIn calls ≡ es ++ input x ∷ []) × (r ≡ advanced.Given (step.Input x) st)
   pub pass-again : Some GivesPass calls → r ≡ advanced.Given step.Pass st
   pub failure-again : (f : Place) → Some (GivesFailure f) calls → r ≡ advanced.Given (step.Failure (f .test) (f .position)) st
 

@@ -27,9 +27,9 @@ use Rattle.model.specs.laws.Demands.{judged-told}
 use Rattle.station.specs.declared.Phase.{Phase}
 use Rattle.station.specs.declared.Phase.the-variants as phase
 use Rattle.station.specs.declared.State.{State}
-use Rattle.station.specs.Station.{fresh, current, elementAt, expected, dueBy, placeOf, Heard, heardAs, takeBy, taking, isOpen}
+use Rattle.station.specs.Station.{fresh, current, elementAt, inputAt, expected, dueBy, placeOf, Heard, heardAs, takeBy, taking, isOpen}
 use Rattle.station.specs.Calls.{Call, History, lastSheet, lastState, dueIn, gotIn, takenIn, GivesPass, GivesFailure, Some, FrontMeans, RightMeans, PassMeans, FailureMeans}
-use Rattle.station.specs.laws.ProgressLaw.{element-at, element-some, progress, progress-more, testEvents, partEvents, events-more, events-front, suite-joined, outputs-front}
+use Rattle.station.specs.laws.ProgressLaw.{element-at, element-some, progress, progress-more, testEvents, partEvents, eventsTo, events-more, events-front, suite-joined, outputs-front}
 use Rattle.station.specs.laws.StandsLaw.{isDue, Asked, Done, Wrong, Stands, begun, Stood, begun-with, Inv, chain-inv}
 use Rattle.station.specs.laws.VerdictLaw.{take-left, verdict-last, Passed, pass-left, FailedAt, fail-left}
 
@@ -155,6 +155,21 @@ module _ (s : List ℕ) (calls : List Call) (h : History s calls) where
       let m = open-front (last-inv .sheet) (st .begun) (st .position) (gotIn calls) (takenIn calls) (st .phase) o (last-inv .stood .stands) in
       let f = front-told in
       record { sheet = last-inv .sheet; read = last-inv .read; complete = f .complete; rest = f .rest; got = f .got; more = m .0; taken = m .1 }
+
+  -- an input that is due is the last that was given, and the one at the position
+  pub due-told : dueIn calls ≡ true →
+      (x : ℕ) × (es : List Event) × (gotIn calls ≡ es ++ input x ∷ []) × (lastState (h .start) calls .phase ≡ phase.Due) × (inputAt (front-told .sheet) (lastState (h .start) calls) ≡ some x)
+  unfolding front-told inputAt
+  due-told d = go (lastState (h .start) calls .phase) refl (last-inv .stood .due-is) (last-inv .stood .stands)
+    where
+      go : (p : Phase) → lastState (h .start) calls .phase ≡ p → dueIn calls ≡ isDue p →
+          Stands p (last-inv .sheet) (lastState (h .start) calls .begun) (lastState (h .start) calls .position) (gotIn calls) (takenIn calls) →
+          (x : ℕ) × (es : List Event) × (gotIn calls ≡ es ++ input x ∷ []) × (lastState (h .start) calls .phase ≡ phase.Due)
+          × (elementAt (current (last-inv .sheet .tests) (lastState (h .start) calls .begun)) (lastState (h .start) calls .position) ≡ some x)
+      go phase.Ready e q w = never (cc)
+      go phase.Due e q a = (a .press, eventsTo (last-inv .sheet .tests) (lastState (h .start) calls .begun) (lastState (h .start) calls .position), a .events, e, a .there)
+      go phase.Passed e q w = never (cc)
+      go phase.Failed e q w = never (cc)
 
   -- an output is taken only if an input is due
   pub taken-due : (o : ℕ) (x : Heard) → taking (lastSheet s calls) (lastState (h .start) calls) o ≡ accepted x → dueIn calls ≡ true

@@ -23,17 +23,18 @@ use Rattle.station.specs.declared.Step.the-variants as step
 use Rattle.station.specs.declared.Begun.{Begun}
 use Rattle.station.specs.declared.Begun.the-variants as begun
 use Rattle.station.specs.declared.Advanced.{Advanced}
+use Rattle.station.specs.declared.Advanced.the-variants as advanced
 use Rattle.station.specs.declared.Taken.{Taken}
 use Rattle.station.specs.declared.Changed.{Changed}
 use Rattle.station.specs.declared.Changed.the-variants as changed
-use Rattle.station.specs.Station.{fresh, isComplete, suited, beginning, inputAt, Given, onward, along, nextBy, nexting, Heard, heardAs, placeOf, taking, agrees, Agree, isOpen, changing}
+use Rattle.station.specs.Station.{stateAt, fresh, isComplete, suited, beginning, inputAt, Given, onward, along, nextBy, nexting, Heard, heardAs, placeOf, taking, agrees, Agree, isOpen, changing}
 use Rattle.station.specs.Answers.{begunAnswer, nextAnswer, heardOf, takenAnswer, changedAnswer}
 use Rattle.station.specs.Calls.{Call, next, take-output, sheetOf, stateOf, Answered, sheetLeft, stateLeft, Chained, History, lastSheet, lastState, dueIn, GivesPass, GivesFailure, Some, RightMeans, PassMeans, FailureMeans}
 use Rattle.station.specs.Told.{BegunSays, ToldBegun, StepSays, AdvancedSays, NextSays, ToldNext, TakenSays, ToldTaken, ChangedSays, ToldChanged}
 use Rattle.station.specs.laws.ProgressLaw.{current-agree}
 use Rattle.station.specs.laws.AgreeLaw.{agrees-true, true-agrees}
 use Rattle.station.specs.laws.VerdictLaw.{next-left, take-left}
-use Rattle.station.specs.laws.PassedLaw.{front-told, right-told, taken-due, refused-told, passed-last, failed-last, pass-told, failure-told}
+use Rattle.station.specs.laws.PassedLaw.{front-told, right-told, due-told, taken-due, refused-told, passed-last, failed-last, pass-told, failure-told}
 
 -- ---- a first or a changed sheet
 module _ (s : List ℕ) (sh : Sheet) (read : reading s ≡ accepted sh) where
@@ -155,10 +156,21 @@ module _ (s : List ℕ) (st : State) (first : List ℕ) (calls : List Call) (h :
   next-given (accepted g) eg = next-step g eg (g .step) refl
   next-given (refused number place) k = let z = next-on (read-on .0) (read-on .1) (st .phase) refl in never (cc)
 
+  due-given : (sh : Sheet) (x : ℕ) → reading s ≡ accepted sh → st .phase ≡ phase.Due → inputAt sh st ≡ some x → nextAnswer (nexting s st) ≡ advanced.Given (step.Input x) st
+  due-given sh x er p i =
+      ap nextAnswer (next-on sh er phase.Due p)
+      ∙ ap (λ (o : Option ℕ). nextAnswer (accepted (along sh st o))) i
+      ∙ ap (λ (q : Phase). advanced.Given (step.Input x) (stateAt (st .begun) (st .position) q)) (sym p)
+
   next-says : (r : Advanced) → r ≡ nextAnswer (nexting s st) → NextSays first calls s st r
   next-says r e =
       record {
         given = subst (AdvancedSays first (calls ++ next s st (nexting s st) ∷ [])) (sym e) (next-given (nexting s st) refl);
+        same-input =
+            λ d.
+            let f = front-told first calls h in
+            let (x, before, got, p, i) = due-told first calls h d in
+            (x, before, got, e ∙ due-given (f .sheet) x (rw es at (f .read)) (rw et at p) (rw et at i));
         pass-again = λ m. e ∙ ap nextAnswer (next-on (read-on .0) (read-on .1) phase.Passed (ap (λ (q : State). q .phase) (sym et) ∙ passed-last first calls h m));
         failure-again =
             λ f m.
