@@ -4,9 +4,12 @@
  * tables and buffers are lent for the call only. Each pointer is valid for its length and not null, even at length 0; a buffer that is
  * written, `answer` and `nodes` overlap nothing else that is lent. Each function fills `answer`, whose first two numbers are the
  * refusal's number (0: none) and place; after a refusal the others are 0 (but Merge tells the sheet concerned) and every lent buffer is as it was.
+ * written, `answer`, `state` and `nodes` overlap nothing else that is lent. Each function fills `answer`, whose first two numbers are the
+ * refusal's number (0: none) and place; after a refusal the others are 0 and every lent buffer is as it was.
  *
  * Threads: the library keeps nothing between calls and has no memory of its own, so any number of threads may call it at once.
  * Stack: a thread that calls it has RANTHELO_STACK bytes free. Judging, taking and making need about half of that, the other functions a tenth; with less
+ * Stack: a thread that calls it has RANTHELO_STACK bytes free. Judging and making, and with them a station's Begin and Change, need about half of that, the other functions a tenth; with less
  * the stack overflows, unchecked. No heap is used. */
 #ifndef RANTHELO_H
 #define RANTHELO_H
@@ -55,6 +58,10 @@ enum ranthelo_refusal {
     RANTHELO_NO_TEST = 17,         /* there is no such test; place 0 */
     RANTHELO_NO_ROOM = 18,         /* the next test does not fit: 256 tests or 16,384 bytes would be passed; place 0 */
     RANTHELO_OTHER_MACHINE = 21    /* SIZE, QUIET or the RULEs of two sheets differ; place 0 */
+    RANTHELO_NO_ROOM = 18,         /* the next test does not fit: 256 tests or 16,384 bytes would be passed; place 0 */
+    RANTHELO_NOT_COMPLETE = 22,    /* a station's first or changed sheet has a list that is not complete; place 0 */
+    RANTHELO_NOT_EQUAL = 23,       /* a changed sheet differs in what is in use, or comes after the verdict; place 0 */
+    RANTHELO_NO_PRESS_DUE = 24     /* a sound when no press is due, or one not below the number of sounds; place 0 */
 };
 
 /* The indexes of `answer`. The first two are those of every function. */
@@ -252,6 +259,69 @@ enum ranthelo_merge_answer {
 
 void ranthelo_merge(const uint8_t *first, size_t first_len, const uint8_t *second, size_t second_len, uint8_t *buffer,
                     size_t buffer_len, size_t answer[RANTHELO_MERGE_ANSWER]);
+
+/* The bench station drives one lock through a sheet's list: Begin, then Next for each pulse and press, Sound for each sound. The caller
+ * keeps the state, four numbers, and the sheet, and lends both to each call; a refusal leaves the state as it was. If each call gets the
+ * sheet and the state that the one before left, the lock gets each pulse and press once, in order and nothing else, and its sounds are
+ * those taken, then a lock that is passed and behaves as a board of the last sheet gives every specified sound on every list of fresh
+ * starts and presses. Any four numbers are a state: a press that is due is any number but 0, a failure any verdict but 0 and 1, and a
+ * verdict goes before a press that is due. */
+enum ranthelo_station_state {
+    RANTHELO_STATION_BEGUN = 0,    /* how many tests have begun; the current one is the last of them */
+    RANTHELO_STATION_POSITION = 1, /* how many sounds of it were taken: the position of the press that is due, or of the next */
+    RANTHELO_STATION_DUE = 2,      /* 1 if a press is due */
+    RANTHELO_STATION_VERDICT = 3,  /* 0 for none, 1 for pass, 2 for a failure, whose test and position the first two tell */
+    RANTHELO_STATION_STATE = 4     /* how many numbers `state` has */
+};
+
+/* Begin: the list is complete (22), and no test has begun. */
+enum ranthelo_station_begin_answer {
+    RANTHELO_STATION_BEGIN_ANSWER = 2
+};
+
+void ranthelo_station_begin(const uint8_t *sheet, size_t sheet_len, size_t state[RANTHELO_STATION_STATE],
+                            size_t answer[RANTHELO_STATION_BEGIN_ANSWER]);
+
+/* What a step of the station is, and what taking a sound comes to. */
+enum ranthelo_station_kind {
+    RANTHELO_STATION_PULSE = 0, /* of Next: wake the lock anew. Of Sound: it was taken */
+    RANTHELO_STATION_PRESS = 1,
+    RANTHELO_STATION_PASS = 2,
+    RANTHELO_STATION_FAILURE = 3
+};
+
+/* Next: the verdict, if there is one; the press that is due once more; the next press of the current test, which is then due; the pulse
+ * that begins the next test; or pass. The lock gets a press that is given again only once. */
+enum ranthelo_station_next_answer {
+    RANTHELO_STATION_NEXT_KIND = 2,  /* RANTHELO_STATION_PULSE and so on */
+    RANTHELO_STATION_NEXT_FIRST = 3, /* of a pulse the test, from 0; of a press the press; of a failure its test */
+    RANTHELO_STATION_NEXT_PLACE = 4, /* of a press its position, from 0; of a failure the position of the wrong sound */
+    RANTHELO_STATION_NEXT_ANSWER = 5
+};
+
+void ranthelo_station_next(const uint8_t *sheet, size_t sheet_len, size_t state[RANTHELO_STATION_STATE],
+                           size_t answer[RANTHELO_STATION_NEXT_ANSWER]);
+
+/* Sound: the sound of the press that is due (24 if none is). As specified it is taken; otherwise it is the failure, at once. */
+enum ranthelo_station_sound_answer {
+    RANTHELO_STATION_SOUND_KIND = 2,     /* 0 for taken, RANTHELO_STATION_FAILURE */
+    RANTHELO_STATION_SOUND_TEST = 3,     /* of the failure, from 0 */
+    RANTHELO_STATION_SOUND_POSITION = 4, /* of the wrong sound in it, from 0 */
+    RANTHELO_STATION_SOUND_ANSWER = 5
+};
+
+void ranthelo_station_sound(const uint8_t *sheet, size_t sheet_len, size_t state[RANTHELO_STATION_STATE], uint8_t sound,
+                            size_t answer[RANTHELO_STATION_SOUND_ANSWER]);
+
+/* Change: whether the station goes on at the same press with a changed sheet. Its list is complete (22); no verdict was given, and SIZE,
+ * QUIET, the RULEs and every test up to and including the current one are those of the station's sheet (23). From then on the caller
+ * lends the changed sheet; after a refusal the old one. */
+enum ranthelo_station_change_answer {
+    RANTHELO_STATION_CHANGE_ANSWER = 2
+};
+
+void ranthelo_station_change(const uint8_t *sheet, size_t sheet_len, const uint8_t *changed, size_t changed_len,
+                             const size_t state[RANTHELO_STATION_STATE], size_t answer[RANTHELO_STATION_CHANGE_ANSWER]);
 
 #ifdef __cplusplus
 }

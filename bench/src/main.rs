@@ -13,6 +13,7 @@ mod mutation;
 mod reading;
 mod records;
 mod stack;
+mod station;
 mod table;
 mod walking;
 mod writing;
@@ -44,6 +45,7 @@ fn main() {
         merging::measure(&mut table);
         mutation::measure(&mut table);
         walking::measure(&mut table);
+        station::measure(&mut table);
     }
     judge::measure(&mut table);
     if library {

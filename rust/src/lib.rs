@@ -4,6 +4,9 @@
 //! production may introduce, and a list of tests. [`judge`] says whether the list is complete, and if it is not, which
 //! faulty board passes it and which test to add; [`make`] adds tests until it is. [`take`] gives the boards that pass one
 //! after another, and [`add_test`] a longer list. README.md of the repository has the format and what the answers mean.
+//! faulty board passes it and which test to add; [`make`] adds tests until it is. A [`Station`] drives a lock through a complete
+//! list. README.md of the repository has the
+//! format and what the answers mean.
 //!
 //! ```
 //! use ranthelo::{Verdict, judge, text};
@@ -42,6 +45,7 @@ mod names;
 mod operations;
 pub mod raw;
 mod refusal;
+mod station;
 pub mod text;
 
 pub use names::Names;
@@ -57,6 +61,7 @@ pub use operations::{
 pub use operations::{Recorded, Suspected, check_record, explain_record};
 pub use raw::Tables;
 pub use refusal::{Refusal, meaning};
+pub use station::{Station, Step};
 
 /// The most bytes that a sheet has.
 pub const MOST_BYTES: usize = 16_384;

@@ -113,7 +113,7 @@ impl std::fmt::Display for MergeRefusal {
 impl std::error::Error for MergeRefusal {}
 
 /// The numbers after the refusal's number and place.
-fn rest<const N: usize>(answer: &[usize; N]) -> Result<&[usize], Refusal> {
+pub(crate) fn rest<const N: usize>(answer: &[usize; N]) -> Result<&[usize], Refusal> {
     let (number, place) = (answer[0], answer[1]);
     match number {
         0 => Ok(&answer[2..]),

@@ -152,6 +152,33 @@ mod c {
             buffer_len: usize,
             answer: *mut usize,
         );
+        pub fn ranthelo_station_begin(
+            sheet: *const u8,
+            sheet_len: usize,
+            state: *mut usize,
+            answer: *mut usize,
+        );
+        pub fn ranthelo_station_next(
+            sheet: *const u8,
+            sheet_len: usize,
+            state: *mut usize,
+            answer: *mut usize,
+        );
+        pub fn ranthelo_station_sound(
+            sheet: *const u8,
+            sheet_len: usize,
+            state: *mut usize,
+            sound: u8,
+            answer: *mut usize,
+        );
+        pub fn ranthelo_station_change(
+            sheet: *const u8,
+            sheet_len: usize,
+            changed: *const u8,
+            changed_len: usize,
+            state: *const usize,
+            answer: *mut usize,
+        );
     }
 }
 
@@ -454,6 +481,63 @@ pub fn merge(first: &[u8], second: &[u8], buffer: &mut [u8], answer: &mut [usize
             second.len(),
             buffer.as_mut_ptr(),
             buffer.len(),
+            answer.as_mut_ptr(),
+        )
+    }
+}
+
+/// Begin to drive a lock. Number, place; the state, as it was on a refusal: tests begun, position, 1 if a press is due,
+/// verdict (0 none, 1 pass, 2 failure).
+pub fn station_begin(sheet: &[u8], state: &mut [usize; 4], answer: &mut [usize; 2]) {
+    // SAFETY: the slice, the state and the answer are valid for their lengths throughout the call.
+    unsafe {
+        c::ranthelo_station_begin(
+            sheet.as_ptr(),
+            sheet.len(),
+            state.as_mut_ptr(),
+            answer.as_mut_ptr(),
+        )
+    }
+}
+
+/// The station's next step. Number, place, kind (0 pulse, 1 press, 2 pass, 3 failure); of a pulse the test and 0, of a press
+/// that and its position, of a failure its test and position.
+pub fn station_next(sheet: &[u8], state: &mut [usize; 4], answer: &mut [usize; 5]) {
+    // SAFETY: the slice, the state and the answer are valid for their lengths throughout the call.
+    unsafe {
+        c::ranthelo_station_next(
+            sheet.as_ptr(),
+            sheet.len(),
+            state.as_mut_ptr(),
+            answer.as_mut_ptr(),
+        )
+    }
+}
+
+/// The station takes a sound. Number, place, kind (0 taken, 3 failure), test and position of the failure.
+pub fn station_sound(sheet: &[u8], state: &mut [usize; 4], sound: u8, answer: &mut [usize; 5]) {
+    // SAFETY: the slice, the state and the answer are valid for their lengths throughout the call.
+    unsafe {
+        c::ranthelo_station_sound(
+            sheet.as_ptr(),
+            sheet.len(),
+            state.as_mut_ptr(),
+            sound,
+            answer.as_mut_ptr(),
+        )
+    }
+}
+
+/// Whether the station goes on with a changed sheet. Number, place; the state is only read.
+pub fn station_change(sheet: &[u8], changed: &[u8], state: &[usize; 4], answer: &mut [usize; 2]) {
+    // SAFETY: both slices, the state and the answer are valid for their lengths throughout the call.
+    unsafe {
+        c::ranthelo_station_change(
+            sheet.as_ptr(),
+            sheet.len(),
+            changed.as_ptr(),
+            changed.len(),
+            state.as_ptr(),
             answer.as_mut_ptr(),
         )
     }

@@ -156,6 +156,7 @@ fn constants_are_those_of_the_package() {
         ("RANTHELO_NO_TEST", 17),
         ("RANTHELO_NO_ROOM", 18),
         ("RANTHELO_OTHER_MACHINE", 21),
+        ("RANTHELO_NO_PRESS_DUE", 24),
     ] {
         assert_eq!(value(name), expected.to_string(), "{name}");
     }

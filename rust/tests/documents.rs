@@ -3,7 +3,7 @@
 mod common;
 
 use common::{output, root, text};
-use ranthelo::{Refusal, raw};
+use ranthelo::{Refusal, Station, raw};
 use std::env;
 use std::fs;
 use std::os::unix::fs::symlink;
@@ -194,16 +194,26 @@ fn refusal(example: &str) -> Refusal {
     ranthelo::read(&sheet).unwrap_err()
 }
 
+fn sheet(name: &str) -> Vec<u8> {
+    fs::read(root().join(format!("examples/{name}.sheet"))).unwrap()
+}
+
+fn station() -> Station {
+    Station::begin(&sheet("P2")).expect("a complete list")
+}
+
 fn refusal_in_words(example: &str) -> Refusal {
     match example {
         "any 16,385 bytes" => ranthelo::read(&[0; 16_385]).unwrap_err(),
         "P1 with a buffer of 3 bytes" => {
-            let p1 = fs::read(root().join("examples/P1.sheet")).unwrap();
             let mut answer = [0; 4];
-            raw::compare(&p1, &[0], &mut [0; 3], &mut answer);
+            raw::compare(&sheet("P1"), &[0], &mut [0; 3], &mut answer);
             let [number, place, ..] = answer;
             Refusal { number, place }
         }
+        "a station begun with P1" => Station::begin(&sheet("P1")).unwrap_err(),
+        "a station of P2 given P10" => station().change(&sheet("P10")).unwrap_err(),
+        "a station of P2 that gets a sound at once" => station().sound(0).unwrap_err(),
         other => panic!("{other}"),
     }
 }
@@ -223,7 +233,8 @@ fn refusals_have_examples() {
     }
     met.sort();
     met.dedup();
-    assert_eq!(met, (1..=18).collect::<Vec<_>>());
+    let known = (1..100).filter(|&number| ranthelo::meaning(number).is_some());
+    assert_eq!(met, known.collect::<Vec<_>>());
 }
 
 /// Every folder and file in back quotes, and every linked one, but for those that the build makes.

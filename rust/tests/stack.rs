@@ -6,6 +6,8 @@ use common::root;
 use ranthelo::{
     Place, STACK, Tables, add_test, compare, first_failed, generate, judge, make, raw, read, run,
     take, tray, write,
+    STACK, Station, Step, Tables, compare, first_failed, generate, judge, make, raw, read, run,
+    tray, write,
 };
 use std::fs;
 use std::thread::Builder;
@@ -31,6 +33,8 @@ fn judging_taking_and_making() {
         in_stack(STACK / 4 * 3, move || {
             judge(&sheet).expect("an accepted sheet");
             take(&sheet, &Place::Start).expect("an accepted sheet");
+            let begun = Station::begin(&sheet).map_err(|refusal| refusal.number);
+            assert!(matches!(begun, Ok(_) | Err(22)), "{begun:?}");
             let refused = make(&sheet).err().map(|refusal| refusal.number);
             assert!(matches!(refused, None | Some(18)), "{refused:?}");
         });
@@ -63,5 +67,12 @@ fn other_operations() {
         };
         assert!(write(tables).is_ok());
         raw::test_span(&sheet, 31, &mut [0; 4]);
+        let mut station = Station::resume(&sheet, [32, 231, 0, 0]).expect("an accepted sheet");
+        let last = Step::Press {
+            press: 0,
+            position: 231,
+        };
+        assert_eq!(station.next_step(), last);
+        assert_eq!(station.sound(0), Ok(None));
     });
 }

@@ -10,4 +10,5 @@ pub mod mutation;
 pub mod reading;
 pub mod records;
 pub mod walking;
+pub mod station;
 pub mod writing;

@@ -13,3 +13,4 @@ pub mod pictures;
 pub mod records;
 pub mod reference;
 pub mod seeded;
+pub mod station;

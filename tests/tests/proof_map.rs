@@ -150,7 +150,9 @@ fn every_operation_promises() {
         "tray/src/lib.rt",
         "records/src/lib.rt",
         "merging/src/lib.rt",
+        "station/src/lib.rt",
         "ranthelo/src/lib.rt",
+        "ranthelo/src/driving.rt",
         "report/src/lib.rt",
     ] {
         let text = fs::read_to_string(located(file)).expect(file);

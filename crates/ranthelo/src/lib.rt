@@ -27,6 +27,9 @@ ghost use Rattle.records.specs.Record.{checking, explaining};
 ghost use Rattle.records.specs.Answers.{recordedAnswer, explainedAnswer, explainedBoard, explainedSequence};
 ghost use Rattle.renaming.specs.Merging.{merging};
 ghost use Rattle.merging.specs.Answers.{mergedAnswer, mergedWrites};
+
+mod driving;
+
 use making::Made;
 use merging::Merged;
 use mutation::Compared;
