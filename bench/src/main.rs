@@ -7,6 +7,7 @@ mod judge;
 mod making;
 mod mutation;
 mod reading;
+mod say;
 mod stack;
 mod table;
 mod writing;
