@@ -28,7 +28,7 @@ fn judging_and_making() {
     assert!(sheets.len() > 10);
     for sheet in sheets {
         in_stack(STACK / 4 * 3, move || {
-            judge(&sheet).expect("an accepted sheet");
+            let _ = judge(&sheet).expect("an accepted sheet");
             let refused = make(&sheet).err().map(|refusal| refusal.number);
             assert!(matches!(refused, None | Some(18)), "{refused:?}");
         });
