@@ -229,15 +229,33 @@ fn shuffled_lists() {
     let mut moved = 0;
     for i in 0..3_000 {
         let shape = if i % 3 == 0 { generator::LARGE } else { SMALL };
-        let mut sheet = generator::sheet(&mut random, &Shape { open_pairs: 12, ..shape });
+        let mut sheet = generator::sheet(
+            &mut random,
+            &Shape {
+                open_pairs: 12,
+                ..shape
+            },
+        );
         let (before, first) = (judge(&sheet.encode()), sheet.tests.clone());
         random.shuffle(&mut sheet.tests);
         moved += usize::from(sheet.tests != first);
-        assert_eq!(judge(&sheet.encode()), before, "{}", spelled(&sheet.encode()));
+        assert_eq!(
+            judge(&sheet.encode()),
+            before,
+            "{}",
+            spelled(&sheet.encode())
+        );
         if !sheet.tests.is_empty() {
             let again = sheet.tests[random.below(sheet.tests.len())].clone();
-            sheet.tests.insert(random.below(sheet.tests.len() + 1), again);
-            assert_eq!(judge(&sheet.encode()), before, "{}", spelled(&sheet.encode()));
+            sheet
+                .tests
+                .insert(random.below(sheet.tests.len() + 1), again);
+            assert_eq!(
+                judge(&sheet.encode()),
+                before,
+                "{}",
+                spelled(&sheet.encode())
+            );
         }
     }
     assert!(moved > 1_000);
@@ -258,7 +276,9 @@ fn longer_lists() {
         for _ in 0..4 {
             let length = random.below(12);
             let test = generator::walk(&mut random, &sheet, length);
-            sheet.tests.insert(random.below(sheet.tests.len() + 1), test);
+            sheet
+                .tests
+                .insert(random.below(sheet.tests.len() + 1), test);
             let after = judge(&sheet.encode());
             let told = spelled(&sheet.encode());
             match (&before, &after) {
