@@ -12,6 +12,7 @@ mod merging;
 mod mutation;
 mod reading;
 mod records;
+mod say;
 mod stack;
 mod station;
 mod table;

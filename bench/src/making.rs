@@ -1,5 +1,6 @@
 //! Make, from sheets without tests: beside judging the made list once, and beside one judgement after the other in plain Rust.
 
+use crate::say::say;
 use ranthelo::raw;
 use ranthelo_bench::families::{self, Family};
 use ranthelo_bench::timing::{self, shown};
@@ -19,17 +20,17 @@ struct Rows {
 }
 
 pub fn print() {
-    println!("\nlists made from nothing");
+    say!("\nlists made from nothing");
     let columns = ["case", "tests", "making", "judging", "ratio", "plain Rust"];
     print_row(columns.map(str::to_string));
     let mut rows = Rows { over: vec![] };
     rows.all();
     let over = rows.over;
-    println!("{} over {BOUND}: {}", over.len(), over.join("; "));
+    say!("{} over {BOUND}: {}", over.len(), over.join("; "));
 }
 
 fn print_row([case, tests, making, judging, ratio, plain]: [String; 6]) {
-    println!("{case:<44} {tests:>5} {making:>10} {judging:>10} {ratio:>6} {plain:>11}");
+    say!("{case:<44} {tests:>5} {making:>10} {judging:>10} {ratio:>6} {plain:>11}");
 }
 
 impl Rows {

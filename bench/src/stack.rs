@@ -1,6 +1,7 @@
 //! How much stack the operations need: the smallest thread in which a child of this
 //! program finishes.
 
+use crate::say::say;
 use crate::writing;
 use ranthelo::raw;
 use ranthelo_bench::families;
@@ -39,12 +40,12 @@ const OPERATIONS: &[&str] = &[
 ];
 
 pub fn print() {
-    println!("\nsmallest stack of a thread that does");
+    say!("\nsmallest stack of a thread that does");
     for operation in OPERATIONS {
         match smallest(operation) {
-            Some(LEAST) => println!("{operation:<13} at most {} KiB", LEAST / KIB),
-            Some(bytes) => println!("{operation:<13} {} KiB", bytes / KIB),
-            None => println!("{operation:<13} over {} KiB", MOST / KIB),
+            Some(LEAST) => say!("{operation:<13} at most {} KiB", LEAST / KIB),
+            Some(bytes) => say!("{operation:<13} {} KiB", bytes / KIB),
+            None => say!("{operation:<13} over {} KiB", MOST / KIB),
         }
     }
 }

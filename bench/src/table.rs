@@ -1,5 +1,6 @@
 //! The table that is printed.
 
+use crate::say::say;
 use ranthelo_bench::timing;
 
 /// How the time grows when the data doubles.
@@ -68,16 +69,16 @@ impl Table {
     }
 
     pub fn print_growth(&self) {
-        println!("\ntwice the data takes so many times as long");
+        say!("\ntwice the data takes so many times as long");
         for growth in &self.growths {
             let (library, plain) = (growth.library, growth.plain);
             let operation = growth.operation;
-            println!("{operation:<13} library {library:.2}, plain Rust {plain:.2}");
+            say!("{operation:<13} library {library:.2}, plain Rust {plain:.2}");
         }
     }
 }
 
 fn print_row([operation, case, library, plain, ratio]: [String; 5], note: &str) {
     let row = format!("{operation:<13} {case:<44} {library:>10} {plain:>11} {ratio:>6}  {note}");
-    println!("{}", row.trim_end());
+    say!("{}", row.trim_end());
 }

@@ -1,19 +1,30 @@
 //! The commands of a string of bytes, told apart by their widths alone: it need not be a sheet that is accepted.
 
+/// The numbers of states, presses and sounds.
 pub const SIZE: u8 = 0x01;
+/// A specified transition.
 pub const RULE: u8 = 0x02;
+/// What production may do in its place.
 pub const FAULT: u8 = 0x03;
+/// The begin of a test.
 pub const TEST: u8 = 0x04;
+/// A press of a test.
 pub const PRESS: u8 = 0x05;
+/// The last byte.
 pub const END: u8 = 0x06;
+/// A state in which a board may wake.
 pub const START: u8 = 0x07;
+/// A press without a RULE gives sound 0 and stays.
 pub const QUIET: u8 = 0x08;
 
 /// A command of the format: its byte, its word, and what its operands are.
 #[derive(Debug, PartialEq, Eq)]
 pub struct Kind {
+    /// The command byte.
     pub byte: u8,
+    /// Its word in a text.
     pub word: &'static str,
+    /// What each operand is.
     pub operands: &'static [&'static str],
 }
 
@@ -64,14 +75,17 @@ pub struct Command<'a> {
 }
 
 impl<'a> Command<'a> {
+    /// Its first byte.
     pub fn byte(self) -> u8 {
         self.bytes[0]
     }
 
+    /// The operands that are there.
     pub fn operands(self) -> &'a [u8] {
         &self.bytes[1..]
     }
 
+    /// Its kind, if that is known.
     pub fn kind(self) -> Option<&'static Kind> {
         Kind::of(self.byte())
     }

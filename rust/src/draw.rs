@@ -32,6 +32,7 @@ pub enum Line {
 /// Where an arrow leads.
 #[derive(Clone, Copy, Debug, PartialEq, Eq, PartialOrd, Ord)]
 pub enum Target {
+    /// To this state.
     State(u8),
     /// To any state at all.
     Any,
@@ -41,28 +42,39 @@ pub enum Target {
 /// goes along it.
 #[derive(Clone, Copy, Debug, PartialEq, Eq, PartialOrd, Ord)]
 pub struct Arrow {
+    /// The state that it leaves.
     pub from: Option<u8>,
+    /// Where it leads.
     pub to: Target,
+    /// What it stands for.
     pub line: Line,
+    /// Whether the departing sequence goes along it.
     pub marked: bool,
 }
 
 /// What a press does at a state, and at which positions the departing sequence comes by.
 #[derive(Clone, Debug, PartialEq, Eq)]
 pub struct Transition {
+    /// The state.
     pub state: u8,
+    /// The press.
     pub press: u8,
     /// None for any sound and any next state.
     pub to: Option<Move>,
+    /// What it stands for.
     pub line: Line,
+    /// The positions of the departing sequence.
     pub positions: Vec<usize>,
 }
 
 /// A state after a fresh start, and whether the departing sequence begins there.
 #[derive(Clone, Copy, Debug, PartialEq, Eq)]
 pub struct Waking {
+    /// The state.
     pub state: u8,
+    /// What it stands for.
     pub line: Line,
+    /// Whether the departing sequence begins there.
     pub marked: bool,
 }
 
@@ -71,10 +83,15 @@ pub struct Waking {
 pub struct Picture {
     /// Of a board: what it is. Empty for a machine.
     pub title: String,
+    /// What things are called.
     pub names: Names,
+    /// How many states.
     pub states: u8,
+    /// How many presses.
     pub presses: u8,
+    /// How many sounds.
     pub sounds: u8,
+    /// The states after a fresh start.
     pub wakings: Vec<Waking>,
     /// Ascending by state and press.
     pub transitions: Vec<Transition>,
@@ -240,7 +257,7 @@ pub fn board(
         Comparison::Departs { sequence } => Some(sequence),
     };
     let machine = Machine::of(sheet)?;
-    let board = machine.with(choices);
+    let board = machine.with(choices).expect("the library took the board");
     let mut picture = Picture::new(&machine, names);
     picture.title = title(choices, sequence.as_deref(), names);
     add_wakings(&mut picture, &board, sequence.is_some());

@@ -6,7 +6,7 @@ use crate::commands::{Command, FAULT, PRESS, RULE, START, TEST, commands};
 use crate::machine::{Machine, Site};
 use crate::names::Names;
 use crate::text::{spelled, words};
-use crate::{MOST_OPEN_PAIRS, Refusal, meaning};
+use crate::{MOST_OPEN_PAIRS, Refusal, meaning, read};
 
 pub use answers::{board, comparison, sequence, trial, verdict};
 
@@ -18,12 +18,18 @@ pub use answers::{board, comparison, sequence, trial, verdict};
 /// assert_eq!(ranthelo::explain::reason(&sheet, refusal), "press 3 is not below 1");
 /// ```
 pub fn reason(sheet: &[u8], refusal: Refusal) -> String {
+    reason_named(sheet, refusal, &Names::NUMBERS)
+}
+
+/// The same with names.
+pub fn reason_named(sheet: &[u8], refusal: Refusal, names: &Names) -> String {
     let Refusal { number, place } = refusal;
     let command = commands(sheet).find(|command| command.place == place);
     let detail = match (number, command) {
+        _ if read(sheet) != Err(refusal) => None,
         (1, _) => Some("over 16,384 bytes".to_string()),
         (2, None) => Some("the sheet ends without END".to_string()),
-        (2..=12, Some(command)) => command_reason(sheet, number, command),
+        (2..=12, Some(command)) => command_reason(sheet, number, command, names),
         _ => None,
     };
     let general = || meaning(number).unwrap_or("unknown number").to_string();
@@ -31,7 +37,7 @@ pub fn reason(sheet: &[u8], refusal: Refusal) -> String {
 }
 
 /// Why reading refuses a command with a number from 2 to 12.
-fn command_reason(sheet: &[u8], number: usize, command: Command) -> Option<String> {
+fn command_reason(sheet: &[u8], number: usize, command: Command, names: &Names) -> Option<String> {
     let before = Machine::before(sheet, command.place);
     match number {
         2 => cut(command),
@@ -39,11 +45,11 @@ fn command_reason(sheet: &[u8], number: usize, command: Command) -> Option<Strin
         4 => wrong_sizes(command),
         5 => out_of_range(&before, command),
         6 => not_ascending(sheet, command),
-        7 => wrong_alternative(&before, command),
+        7 => wrong_alternative(&before, command, names),
         8 => one_too_many(&before, command),
-        9 => undefined_press(&before, command),
+        9 => undefined_press(&before, command, names),
         10 => Some(format!("byte {} follows END", spelled(&command.bytes[..1]))),
-        11 => unreached(&before),
+        11 => unreached(&before, names),
         12 => {
             let open = before.open_pairs().len();
             Some(format!("{open} open pairs, over {MOST_OPEN_PAIRS}"))
@@ -111,17 +117,14 @@ fn not_ascending(sheet: &[u8], command: Command) -> Option<String> {
     Some(format!("it does not ascend after {}", words(last)))
 }
 
-fn wrong_alternative(before: &Machine, command: Command) -> Option<String> {
+fn wrong_alternative(before: &Machine, command: Command, names: &Names) -> Option<String> {
     match *command.operands() {
         [s, x, _, _] if before.rules.contains_key(&(s, x)) => Some(format!(
             "it equals the RULE at {}",
-            Names::NUMBERS.site(Site::Pair((s, x)))
+            names.site(Site::Pair((s, x)))
         )),
-        [s, x, _, _] => Some(format!(
-            "no RULE at {}",
-            Names::NUMBERS.site(Site::Pair((s, x)))
-        )),
-        _ => Some("every board may wake in state 0".to_string()),
+        [s, x, _, _] => Some(format!("no RULE at {}", names.site(Site::Pair((s, x))))),
+        _ => Some(format!("every board may wake in state {}", names.state(0))),
     }
 }
 
@@ -135,17 +138,18 @@ fn one_too_many(before: &Machine, command: Command) -> Option<String> {
     Some(format!("{there} {kind} stand before it"))
 }
 
-fn undefined_press(before: &Machine, command: Command) -> Option<String> {
+fn undefined_press(before: &Machine, command: Command, names: &Names) -> Option<String> {
     let state = before.reached(before.tests.last()?)?;
     let &[press] = command.operands() else {
         return None;
     };
+    let (state, press) = (names.state(state), names.press(press));
     Some(format!(
         "the test has reached state {state}, which has no RULE for press {press}"
     ))
 }
 
-fn unreached(before: &Machine) -> Option<String> {
+fn unreached(before: &Machine, names: &Names) -> Option<String> {
     let mut reached = vec![0];
     let mut next = 0;
     while let Some(&state) = reached.get(next) {
@@ -157,7 +161,7 @@ fn unreached(before: &Machine) -> Option<String> {
         next += 1;
     }
     let missing = (0..before.states).filter(|state| !reached.contains(state));
-    let missing: Vec<String> = missing.map(|state| state.to_string()).collect();
+    let missing: Vec<String> = missing.map(|state| names.state(state)).collect();
     match missing.as_slice() {
         [] => None,
         [one] => Some(format!("state {one} can't be reached by RULEs")),

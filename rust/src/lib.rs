@@ -32,23 +32,30 @@
 //! Every operation takes the sheet's bytes and gives a `Result`: its answer, or a [`Refusal`] with a number and a place. The
 //! functions keep nothing between calls and may be called from many threads at once.
 //!
-//! What the operations answer is proved. The modules [`text`], [`commands`], [`machine`], [`list`], [`explain`] and [`draw`]
-//! are plain Rust: they spell and show, and decide nothing of a sheet.
+//! What the operations answer is proved. The modules [`text`], [`commands`], [`machine`], [`list`], [`explain`], [`asked`],
+//! [`faults`], [`import`], [`records`] and [`draw`] are plain Rust: they spell and show, and decide nothing of a sheet.
 
+#![warn(missing_docs)]
+
+mod answers;
+pub mod asked;
 mod columns;
 pub mod commands;
 pub mod draw;
 pub mod explain;
+pub mod faults;
+pub mod import;
 pub mod list;
 pub mod machine;
 mod names;
 mod operations;
 pub mod raw;
+pub mod records;
 mod refusal;
 mod station;
 pub mod text;
 
-pub use names::Names;
+pub use names::{Named, Names};
 pub use operations::{
     Comparison, Failure, Made, Run, Summary, Trial, Used, Verdict, compare, first_failed, generate,
     judge, make, read, run, test_part, test_span, tray, write,
@@ -60,7 +67,7 @@ pub use operations::{
 };
 pub use operations::{Recorded, Suspected, check_record, explain_record};
 pub use raw::Tables;
-pub use refusal::{Refusal, meaning};
+pub use refusal::{Refusal, meaning, Kind as RefusalKind};
 pub use station::{Station, Step};
 
 /// The most bytes that a sheet has.

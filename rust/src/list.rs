@@ -2,7 +2,7 @@
 
 use crate::commands::{Command, FAULT, PRESS, QUIET, RULE, SIZE, START, TEST, commands};
 use crate::explain::reason;
-use crate::machine::{Machine, Move, OpenPair, Origin};
+use crate::machine::{Machine, Move, OpenPair, Origin, Site};
 use crate::names::Names;
 use crate::text::{spelled, words};
 use crate::{Refusal, read};
@@ -22,14 +22,20 @@ use std::ops::Range;
 /// );
 /// ```
 pub fn list(sheet: &[u8]) -> String {
+    named(sheet, &Names::NUMBERS)
+}
+
+/// The same with names in what it says beside the commands.
+pub fn named(sheet: &[u8], names: &Names) -> String {
     match read(sheet) {
         Ok(_) => {
             let machine = Machine::before(sheet, sheet.len());
             let pairs = machine.open_pairs();
-            let pairs = pairs.iter().enumerate().map(|(i, pair)| open_pair(i, pair));
-            understood(sheet, sheet.len()) + &pairs.collect::<String>()
+            let pairs = pairs.iter().enumerate();
+            let pairs = pairs.map(|(i, pair)| open_pair(i, pair, names));
+            understood(sheet, sheet.len(), names) + &pairs.collect::<String>()
         }
-        Err(refusal) => refused(sheet, refusal),
+        Err(refusal) => refused(sheet, refusal, names),
     }
 }
 
@@ -41,12 +47,12 @@ fn line(mark: char, place: usize, bytes: &[u8], words: &str, meaning: &str) -> S
 }
 
 /// The commands before a place up to which the sheet is read.
-fn understood(sheet: &[u8], place: usize) -> String {
+fn understood(sheet: &[u8], place: usize, names: &Names) -> String {
     let machine = Machine::before(sheet, place);
     let (mut test, mut state) = (0, 0);
     let mut lines = String::new();
     for command in commands(sheet).take_while(|command| command.place < place) {
-        let mut meaning = meaning(command);
+        let mut meaning = meaning(command, names);
         match (command.byte(), command.operands()) {
             (TEST, _) => {
                 meaning = format!("test {test}");
@@ -54,7 +60,8 @@ fn understood(sheet: &[u8], place: usize) -> String {
             }
             (PRESS, &[press]) => {
                 if let Some(&Move { sound, next }) = machine.rules.get(&(state, press)) {
-                    meaning = format!("{state} -> {next}, sound {sound}");
+                    let (from, to) = (names.state(state), names.state(next));
+                    meaning = format!("{from} -> {to}, sound {}", names.sound(sound));
                     state = next;
                 }
             }
@@ -67,20 +74,21 @@ fn understood(sheet: &[u8], place: usize) -> String {
 }
 
 /// What a command outside the tests means.
-fn meaning(command: Command) -> String {
+fn meaning(command: Command, names: &Names) -> String {
     match (command.byte(), command.operands()) {
         (SIZE, &[n, k, m]) => {
             let (n, k, m) = (many(n, "state"), many(k, "press"), many(m, "sound"));
             format!("{n}, {k}, {m}")
         }
         (RULE | FAULT, &[s, x, sound, next]) => {
-            format!(
-                "state {s}, press {x}: {}",
-                Names::NUMBERS.to(Move { sound, next })
-            )
+            let (site, to) = (names.site(Site::Pair((s, x))), Move { sound, next });
+            format!("{site}: {}", names.to(to))
         }
-        (START, &[t]) => format!("a board may wake in state {t}"),
-        (QUIET, _) => "a press without a RULE gives sound 0 and stays".to_string(),
+        (START, &[t]) => format!("a board may wake in state {}", names.state(t)),
+        (QUIET, _) => format!(
+            "a press without a RULE gives sound {} and stays",
+            names.sound(0)
+        ),
         _ => String::new(),
     }
 }
@@ -95,12 +103,12 @@ fn many(number: u8, thing: &str) -> String {
 
 /// The commands up to the refused place, that place with its mark and the reason, and the rest in words alone. Of a sheet
 /// that is too long no command has been looked at; it is shown as far as a sheet may go.
-fn refused(sheet: &[u8], refusal: Refusal) -> String {
+fn refused(sheet: &[u8], refusal: Refusal, names: &Names) -> String {
     let Refusal { number, place } = refusal;
     let marked = marked(sheet, refusal);
     match number {
         1 => in_words(sheet, 0..place) + &marked,
-        _ => understood(sheet, place) + &marked + &in_words(sheet, place + 1..sheet.len()),
+        _ => understood(sheet, place, names) + &marked + &in_words(sheet, place + 1..sheet.len()),
     }
 }
 
@@ -124,21 +132,20 @@ fn in_words(sheet: &[u8], part: Range<usize>) -> String {
 }
 
 /// An open pair with its choices by number.
-fn open_pair(number: usize, pair: &OpenPair) -> String {
+fn open_pair(number: usize, pair: &OpenPair, names: &Names) -> String {
     let count = pair.choices.len();
     let mut lines = format!(
         "open pair {number}: {}, {count} choices\n",
-        Names::NUMBERS.site(pair.site)
+        names.site(pair.site)
     );
     if pair.choices[0].origin == Origin::Unspecified {
-        return lines + &unspecified(pair);
+        return lines + &unspecified(pair, names);
     }
     for (i, choice) in pair.choices.iter().enumerate() {
         let does = match choice.origin {
-            Origin::Rule => format!("RULE   {}", Names::NUMBERS.to(choice.to)),
-            Origin::Fault => format!("FAULT  {}", Names::NUMBERS.to(choice.to)),
-            _ if i == 0 => "state 0".to_string(),
-            _ => format!("state {}", choice.to.next),
+            Origin::Rule => format!("RULE   {}", names.to(choice.to)),
+            Origin::Fault => format!("FAULT  {}", names.to(choice.to)),
+            _ => format!("state {}", names.state(choice.to.next)),
         };
         lines += &format!("{i:>7}  {does}\n");
     }
@@ -146,7 +153,7 @@ fn open_pair(number: usize, pair: &OpenPair) -> String {
 }
 
 /// The choices at a pair without a RULE, a line for each sound.
-fn unspecified(pair: &OpenPair) -> String {
+fn unspecified(pair: &OpenPair, names: &Names) -> String {
     let lines = pair
         .choices
         .chunk_by(|a, b| a.to.sound == b.to.sound)
@@ -154,11 +161,10 @@ fn unspecified(pair: &OpenPair) -> String {
             let start = *first;
             *first += choices.len();
             let (sound, last) = (choices[0].to.sound, choices.len() - 1);
-            let states = format!("next state 0 to {last}");
-            Some(format!(
-                "{start:>7} to {}  sound {sound}, {states}\n",
-                start + last
-            ))
+            let (sound, end) = (names.sound(sound), start + last);
+            let [first, last] = [0, last as u8].map(|state| names.state(state));
+            let states = format!("next state {first} to {last}");
+            Some(format!("{start:>7} to {end}  sound {sound}, {states}\n"))
         });
     lines.collect()
 }

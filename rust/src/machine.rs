@@ -12,14 +12,18 @@ pub type Pair = (u8, u8);
 /// A sound and a next state.
 #[derive(Clone, Copy, Debug, PartialEq, Eq, PartialOrd, Ord)]
 pub struct Move {
+    /// The sound.
     pub sound: u8,
+    /// The next state.
     pub next: u8,
 }
 
 /// What a choice comes from.
 #[derive(Clone, Copy, Debug, PartialEq, Eq)]
 pub enum Origin {
+    /// The RULE.
     Rule,
+    /// A FAULT.
     Fault,
     /// The pair has no RULE.
     Unspecified,
@@ -30,7 +34,9 @@ pub enum Origin {
 /// One of the choices that a board has at a place. Waking gives no sound.
 #[derive(Clone, Copy, Debug, PartialEq, Eq)]
 pub struct Choice {
+    /// What it comes from.
     pub origin: Origin,
+    /// What it does.
     pub to: Move,
 }
 
@@ -39,36 +45,46 @@ pub struct Choice {
 pub enum Site {
     /// At a fresh start, if the sheet has STARTs.
     Waking,
+    /// At a state and a press.
     Pair(Pair),
 }
 
 /// A place with two or more choices.
 #[derive(Clone, Debug, PartialEq, Eq)]
 pub struct OpenPair {
+    /// The place.
     pub site: Site,
+    /// The choices, by their numbers.
     pub choices: Vec<Choice>,
 }
 
 /// A transition of a board, and the open pair that it takes it from, if it is one.
 #[derive(Clone, Copy, Debug, PartialEq, Eq)]
 pub struct Step {
+    /// What it does.
     pub to: Move,
+    /// The open pair, by its number.
     pub open_pair: Option<usize>,
 }
 
 /// What an accepted sheet says.
 #[derive(Clone, Debug, Default, PartialEq, Eq)]
 pub struct Machine {
+    /// How many states.
     pub states: u8,
+    /// How many presses.
     pub presses: u8,
+    /// How many sounds.
     pub sounds: u8,
     /// A pair without a RULE gives sound 0 and stays.
     pub quiet: bool,
+    /// The RULEs.
     pub rules: BTreeMap<Pair, Move>,
     /// The FAULTs at a pair, ascending.
     pub faults: BTreeMap<Pair, Vec<Move>>,
     /// The states that STARTs name, ascending.
     pub starts: Vec<u8>,
+    /// The presses of each test.
     pub tests: Vec<Vec<u8>>,
 }
 
@@ -109,7 +125,11 @@ impl Machine {
             }
             (START, &[t]) => self.starts.push(t),
             (TEST, _) => self.tests.push(Vec::new()),
-            (PRESS, &[x]) => self.tests.last_mut().expect("a TEST came before").push(x),
+            (PRESS, &[x]) => {
+                if let Some(test) = self.tests.last_mut() {
+                    test.push(x);
+                }
+            }
             _ => {}
         }
     }
@@ -173,13 +193,24 @@ impl Machine {
             .collect()
     }
 
-    /// The machine with a board's choices.
-    pub fn with<'a>(&'a self, board: &'a [u8]) -> Board<'a> {
-        Board {
+    /// The machine with a board's choices; none if the board is not one of the machine's.
+    ///
+    /// ```
+    /// let sheet = ranthelo::text::assemble(b"SIZE 2 1 1\n RULE 0 0 0 1")?;
+    /// let machine = ranthelo::machine::Machine::of(&sheet)?;
+    /// assert_eq!(machine.with(&[1]).map(|board| board.step(1, 0).to.next), Some(1));
+    /// assert!(machine.with(&[2]).is_none() && machine.with(&[]).is_none());
+    /// # Ok::<(), Box<dyn std::error::Error>>(())
+    /// ```
+    pub fn with<'a>(&'a self, board: &'a [u8]) -> Option<Board<'a>> {
+        let open_pairs = self.open_pairs();
+        let fits = |(pair, &choice): (&OpenPair, &u8)| usize::from(choice) < pair.choices.len();
+        let whole = board.len() == open_pairs.len() && open_pairs.iter().zip(board).all(fits);
+        whole.then_some(Board {
             machine: self,
-            open_pairs: self.open_pairs(),
+            open_pairs,
             choices: board,
-        }
+        })
     }
 }
 

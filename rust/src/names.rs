@@ -2,25 +2,67 @@
 
 use crate::machine::{Move, Site};
 
+/// What has names.
+#[derive(Clone, Copy, Debug, PartialEq, Eq)]
+pub enum Named {
+    /// A state.
+    State,
+    /// A press.
+    Press,
+    /// A sound.
+    Sound,
+}
+
+impl Named {
+    /// All of them, in the order of the sizes.
+    pub const ALL: [Named; 3] = [Named::State, Named::Press, Named::Sound];
+
+    /// The word of a text's line that gives the names.
+    pub(crate) fn word(self) -> &'static str {
+        match self {
+            Named::State => "STATES",
+            Named::Press => "PRESSES",
+            Named::Sound => "SOUNDS",
+        }
+    }
+
+    /// One of them, in words.
+    pub fn one(self) -> &'static str {
+        match self {
+            Named::State => "state",
+            Named::Press => "press",
+            Named::Sound => "sound",
+        }
+    }
+
+    /// What an operand of a command is.
+    pub(crate) fn of_operand(operand: &str) -> Option<Self> {
+        match operand {
+            "state" | "next state" => Some(Named::State),
+            "press" => Some(Named::Press),
+            "sound" => Some(Named::Sound),
+            _ => None,
+        }
+    }
+}
+
 /// The names of states, presses and sounds, in the order of their numbers. Where one is missing, the number stands.
 ///
 /// ```
-/// use ranthelo::Names;
+/// use ranthelo::{Named, Names};
 ///
 /// let names = Names { states: vec!["locked".to_string()], ..Names::default() };
 /// assert_eq!((names.state(0), names.state(1)), ("locked".to_string(), "1".to_string()));
+/// assert_eq!(names.number(Named::State, "locked"), Some(0));
 /// ```
 #[derive(Clone, Debug, Default, PartialEq, Eq)]
 pub struct Names {
+    /// The names of states.
     pub states: Vec<String>,
+    /// The names of presses.
     pub presses: Vec<String>,
+    /// The names of sounds.
     pub sounds: Vec<String>,
-}
-
-/// A name, or the number where there is none.
-fn called(names: &[String], number: u8) -> String {
-    let name = names.get(usize::from(number)).cloned();
-    name.unwrap_or_else(|| number.to_string())
 }
 
 impl Names {
@@ -31,16 +73,53 @@ impl Names {
         sounds: Vec::new(),
     };
 
+    /// The names of one kind.
+    pub fn of(&self, kind: Named) -> &[String] {
+        match kind {
+            Named::State => &self.states,
+            Named::Press => &self.presses,
+            Named::Sound => &self.sounds,
+        }
+    }
+
+    pub(crate) fn of_mut(&mut self, kind: Named) -> &mut Vec<String> {
+        match kind {
+            Named::State => &mut self.states,
+            Named::Press => &mut self.presses,
+            Named::Sound => &mut self.sounds,
+        }
+    }
+
+    /// Whether there are none.
+    pub fn is_empty(&self) -> bool {
+        Named::ALL.iter().all(|&kind| self.of(kind).is_empty())
+    }
+
+    /// A name, or the number where there is none.
+    pub fn called(&self, kind: Named, number: u8) -> String {
+        let name = self.of(kind).get(usize::from(number)).cloned();
+        name.unwrap_or_else(|| number.to_string())
+    }
+
+    /// The number that has a name.
+    pub fn number(&self, kind: Named, name: &str) -> Option<u8> {
+        let number = self.of(kind).iter().position(|other| other == name)?;
+        u8::try_from(number).ok()
+    }
+
+    /// What a state is called.
     pub fn state(&self, state: u8) -> String {
-        called(&self.states, state)
+        self.called(Named::State, state)
     }
 
+    /// What a press is called.
     pub fn press(&self, press: u8) -> String {
-        called(&self.presses, press)
+        self.called(Named::Press, press)
     }
 
+    /// What a sound is called.
     pub fn sound(&self, sound: u8) -> String {
-        called(&self.sounds, sound)
+        self.called(Named::Sound, sound)
     }
 
     /// `state 1, press 0`, or `waking`.

@@ -7,11 +7,17 @@ use std::ops::Range;
 /// The figures of an accepted sheet.
 #[derive(Clone, Copy, Debug, PartialEq, Eq)]
 pub struct Summary {
+    /// How many states.
     pub states: usize,
+    /// How many presses.
     pub presses: usize,
+    /// How many sounds.
     pub sounds: usize,
+    /// How many RULEs.
     pub rules: usize,
+    /// How many FAULTs.
     pub faults: usize,
+    /// How many TESTs.
     pub tests: usize,
     /// How many choices a board of the sheet has.
     pub open_pairs: usize,
@@ -20,7 +26,9 @@ pub struct Summary {
 /// The open pairs that were used: how many, and bit i for pair i. A pair used twice counts once.
 #[derive(Clone, Copy, Debug, PartialEq, Eq)]
 pub struct Used {
+    /// How many.
     pub number: usize,
+    /// Which.
     pub set: u32,
 }
 
@@ -29,18 +37,22 @@ pub struct Used {
 pub struct Run {
     /// One sound for each press.
     pub sounds: Vec<u8>,
+    /// The open pairs that it met.
     pub used: Used,
 }
 
 /// Where a board first goes wrong, both numbers from 0.
 #[derive(Clone, Copy, Debug, PartialEq, Eq)]
 pub struct Failure {
+    /// The test.
     pub test: usize,
+    /// The position of the wrong sound in it.
     pub position: usize,
 }
 
 /// What the list of tests makes of a board.
 #[derive(Clone, Copy, Debug, PartialEq, Eq)]
+#[must_use]
 pub struct Trial {
     /// None if the board passes every test.
     pub failure: Option<Failure>,
@@ -50,20 +62,30 @@ pub struct Trial {
 
 /// What a board is, beside the specification.
 #[derive(Clone, Debug, PartialEq, Eq)]
+#[must_use]
 pub enum Comparison {
     /// It sounds as specified on every sequence of presses that the specification defines.
     Conforms,
     /// It does not; this is the shortest sequence that shows it.
-    Departs { sequence: Vec<u8> },
+    Departs {
+        /// The presses.
+        sequence: Vec<u8>,
+    },
 }
 
 /// What the list of tests is worth.
 #[derive(Clone, Debug, PartialEq, Eq)]
+#[must_use]
 pub enum Verdict {
     /// Every departing board fails some test.
     Complete,
     /// The first departing board that passes the list, and the shortest sequence that shows it: the test to add.
-    Survivor { board: Vec<u8>, sequence: Vec<u8> },
+    Survivor {
+        /// The board's choices.
+        board: Vec<u8>,
+        /// The presses of the test to add.
+        sequence: Vec<u8>,
+    },
 }
 
 /// The place of a walk over the boards that pass a list.
@@ -86,6 +108,7 @@ pub struct Passing {
 
 /// A sheet whose list was made complete.
 #[derive(Clone, Debug, PartialEq, Eq)]
+#[must_use]
 pub struct Made {
     /// The sheet with its own tests first, and the appended ones after them.
     pub sheet: Vec<u8>,

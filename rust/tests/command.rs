@@ -129,7 +129,7 @@ fn made_lists_are_complete() {
 fn make_without_room() {
     let full = "full-list.txt";
     let to = file("unmade.sheet", b"old");
-    let why = "the next test does not fit: 256 tests or 16,384 bytes would be passed";
+    let why = "the next test does not fit: 256 tests stand, 256 of them its own";
     let told = format!("ranthelo: {full}: refused 18 at 0: {why}\n");
     gives(&["make", full], 2, "", &told);
     gives(&["make", full, "-o", &to], 2, "", &told);
@@ -162,7 +162,7 @@ fn read() {
         &["read", "--test=1", "P1.sheet"],
         2,
         "",
-        "ranthelo: P1.sheet: refused 17 at 0: there is no such test\n",
+        "ranthelo: P1.sheet: refused 17 at 0: there is no test 1: the sheet has 1 test\n",
     );
 }
 
@@ -186,19 +186,19 @@ fn run() {
         &["run", "P1.sheet", "--board", "1", "--press", "0,2"],
         2,
         "",
-        "ranthelo: P1.sheet: refused 15 at 1: a press is not below the number of presses\n",
+        "ranthelo: P1.sheet: refused 15 at 1: press 2 at index 1 is not below 2\n",
     );
     gives(
         &["run", "P1.sheet", "--board", "1"],
         3,
         "",
-        "ranthelo: run needs --press; see ranthelo run --help\n",
+        "ranthelo: run needs --press; see ranthelo help run\n",
     );
     gives(
         &["run", "P1.sheet", "--board", "1", "--press", "0,x"],
         3,
         "",
-        "ranthelo: run --press: x is not a number from 0 to 255; see ranthelo run --help\n",
+        "ranthelo: run --press: x is no number; see ranthelo help run\n",
     );
 }
 
@@ -241,7 +241,7 @@ It conforms: it gives the specified sound on every sequence of presses that the 
         &["first-failed", "P2.sheet", "--board", "2"],
         2,
         "",
-        "ranthelo: P2.sheet: refused 14 at 0: a choice is not below its pair's number of choices\n",
+        "ranthelo: P2.sheet: refused 14 at 0: choice 2 at open pair 0 (state 1, press 1), which has 2\n",
     );
 }
 
@@ -286,7 +286,7 @@ specified   board
         &["compare", "P1.sheet", "--board", ""],
         2,
         "",
-        "ranthelo: P1.sheet: refused 13 at 0: the board's length is not the number of open pairs\n",
+        "ranthelo: P1.sheet: refused 13 at 0: 0 choices, and the sheet has 1 open pair\n",
     );
 }
 
@@ -328,10 +328,7 @@ fn assemble_tells_mistakes_by_line() {
             "\n# nothing\nSIZE 1 1",
             "line 3: SIZE takes 3 operands (states, presses, sounds), not 2",
         ),
-        (
-            "SIZE 1 1 1\nTEST 0 256",
-            "line 2: 256 is not a number from 0 to 255",
-        ),
+        ("SIZE 1 1 1\nTEST 0 256", "line 2: 256 is not 0 to 255"),
         (
             "SIZE 1 1 1\nQUIET 1",
             "line 2: QUIET takes no operands, not 1",
@@ -398,19 +395,19 @@ fn generate() {
         &["generate", "7", "3", "2", "17"],
         2,
         "",
-        "ranthelo: generate: refused 4 at 0: the number of states, presses or sounds is not 1 to 16\n",
+        "ranthelo: generate: refused 4 at 0: 3 states, 2 presses and 17 sounds: each is 1 to 16\n",
     );
     gives(
         &["generate", "7", "3", "2"],
         3,
         "",
-        "ranthelo: generate takes SEED STATES PRESSES SOUNDS and options, 3 given; see ranthelo generate --help\n",
+        "ranthelo: generate takes SEED STATES PRESSES SOUNDS and options, 3 given; see ranthelo help generate\n",
     );
     gives(
         &["generate", "4294967296", "3", "2", "2"],
         3,
         "",
-        "ranthelo: generate takes a number as SEED, not 4294967296; see ranthelo generate --help\n",
+        "ranthelo: generate takes 0 to 4294967295 as SEED, not 4294967296; see ranthelo help generate\n",
     );
 }
 
@@ -543,7 +540,7 @@ digraph {
         &["draw", "--board", "0", "P4.sheet"],
         2,
         "",
-        "ranthelo: P4.sheet: refused 13 at 0: the board's length is not the number of open pairs\n",
+        "ranthelo: P4.sheet: refused 13 at 0: 1 choice, and the sheet has 2 open pairs\n",
     );
     let picture = file("P4.svg", b"");
     gives(&["draw", "--svg", "P4.sheet", "-o", &picture], 0, "", "");
@@ -596,7 +593,7 @@ fn draw_a_mealy_machine() {
         &board,
         "",
     );
-    let both = "ranthelo: draw takes --svg or --mealy, not both; see ranthelo draw --help\n";
+    let both = "ranthelo: draw takes --svg or --mealy, not both; see ranthelo help draw\n";
     gives(&["draw", "--mealy", "--svg", "P4.sheet"], 3, "", both);
 }
 
@@ -624,7 +621,7 @@ fn missing_and_unreadable_files() {
         let folder = "ranthelo: .: Is a directory (os error 21)\n";
         gives(&with(word, &["."]), 3, "", folder);
         let mistake = file("mistake.txt", b"SIZE 1 1 1\nRULE 0 0 0 zero\n");
-        let told = format!("ranthelo: {mistake}: line 2: zero is not a number from 0 to 255\n");
+        let told = format!("ranthelo: {mistake}: line 2: zero is no number\n");
         gives(&with(word, &[&mistake]), 3, "", &told);
     }
 }
@@ -662,34 +659,38 @@ fn bad_usage() {
         &[],
         3,
         "",
-        "ranthelo: a word is missing; see ranthelo --help\n",
+        "ranthelo: a word is missing; see ranthelo help\n",
     );
     gives(
         &["jduge", "P1.sheet"],
         3,
         "",
-        "ranthelo: jduge is no word of ranthelo; see ranthelo --help\n",
+        "ranthelo: jduge is no word of ranthelo; judge is near; see ranthelo help\n",
     );
     for word in WORDS {
         let name = word[0];
-        let see = format!("; see ranthelo {name} --help\n");
-        let none = format!("ranthelo: {name} takes SHEET and options, 0 given{see}");
+        let see = format!("; see ranthelo help {name}\n");
+        let one = ["make", "assemble", "write", "draw"].contains(&name);
+        let takes = if one { "SHEET" } else { "SHEET.." };
+        let none = format!("ranthelo: {name} takes {takes} and options, 0 given{see}");
         gives(word, 3, "", &none);
-        let two = format!("ranthelo: {name} takes SHEET and options, 2 given{see}");
-        gives(&with(word, &["P1.sheet", "P2.sheet"]), 3, "", &two);
+        if one {
+            let two = format!("ranthelo: {name} takes {takes} and options, 2 given{see}");
+            gives(&with(word, &["P1.sheet", "P2.sheet"]), 3, "", &two);
+        }
         let unknown = format!("ranthelo: {name} has no option --odd{see}");
         gives(&with(word, &["--odd", "P1.sheet"]), 3, "", &unknown);
     }
-    let twice = "ranthelo: judge --explain is given twice; see ranthelo judge --help\n";
+    let twice = "ranthelo: judge --explain is given twice; see ranthelo help judge\n";
     gives(
         &["judge", "--explain", "--explain", "P1.sheet"],
         3,
         "",
         twice,
     );
-    let value = "ranthelo: judge --explain takes no value; see ranthelo judge --help\n";
+    let value = "ranthelo: judge --explain takes no value; see ranthelo help judge\n";
     gives(&["judge", "--explain=1", "P1.sheet"], 3, "", value);
-    let missing = "ranthelo: compare --board takes a value: LIST; see ranthelo compare --help\n";
+    let missing = "ranthelo: compare --board takes a value: LIST; see ranthelo help compare\n";
     gives(&["compare", "P1.sheet", "--board"], 3, "", missing);
     gives(&["judge", "--", "P2.sheet"], 0, "complete\n", "");
 }

@@ -270,7 +270,7 @@ fn rust_program_in_a_fresh_package() {
     fs::copy(root().join("examples/judge.rs"), folder.join("src/main.rs")).unwrap();
     let package = env!("CARGO_MANIFEST_DIR");
     let manifest = format!(
-        "[package]\nname = \"try\"\nversion = \"0.1.0\"\nedition = \"2024\"\n[workspace]\n\
+        "[package]\nname = \"trial\"\nversion = \"0.1.0\"\nedition = \"2024\"\n[workspace]\n\
          [dependencies]\nranthelo = {{ path = {package:?} }}\n"
     );
     fs::write(folder.join("Cargo.toml"), manifest).unwrap();

@@ -35,6 +35,7 @@ fn judging_taking_and_making() {
             take(&sheet, &Place::Start).expect("an accepted sheet");
             let begun = Station::begin(&sheet).map_err(|refusal| refusal.number);
             assert!(matches!(begun, Ok(_) | Err(22)), "{begun:?}");
+            let _ = judge(&sheet).expect("an accepted sheet");
             let refused = make(&sheet).err().map(|refusal| refusal.number);
             assert!(matches!(refused, None | Some(18)), "{refused:?}");
         });

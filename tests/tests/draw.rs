@@ -287,7 +287,7 @@ fn tabled(sheet: &Sheet, open: &Picture) {
 fn board_is_shown(sheet: &Sheet, board: &[u8], picture: &Picture) {
     let bytes = sheet.encode();
     let machine = Machine::of(&bytes).expect("an accepted sheet");
-    let taken = machine.with(board);
+    let taken = machine.with(board).expect("a board");
     let (edges, start) = edges(&draw::mealy(picture));
     assert_eq!(start, taken.wake().to.next);
     let table = entries(&draw::table(picture));

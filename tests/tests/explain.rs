@@ -14,7 +14,7 @@ fn machine(bytes: &[u8]) -> Machine {
 
 /// The sounds of a board by the package's own steps.
 fn sounds(machine: &Machine, board: &[u8], presses: &[u8]) -> Vec<u8> {
-    let board = machine.with(board);
+    let board = machine.with(board).expect("a board");
     let mut state = board.wake().to.next;
     let step = |&press: &u8| {
         let to = board.step(state, press).to;
@@ -26,7 +26,7 @@ fn sounds(machine: &Machine, board: &[u8], presses: &[u8]) -> Vec<u8> {
 
 /// The open pairs used, by the package's own steps.
 fn used(machine: &Machine, board: &[u8], presses: &[u8]) -> u32 {
-    let board = machine.with(board);
+    let board = machine.with(board).expect("a board");
     let wake = board.wake();
     let mut state = wake.to.next;
     let bit = |pair: Option<usize>| pair.map_or(0, |pair| 1 << pair);
@@ -196,7 +196,7 @@ fn any_board_is_explained() {
 /// The states told are those that defined sequences lead to, the specified one first.
 fn together(bytes: &[u8], board: &[u8], told: &str) {
     let machine = machine(bytes);
-    let taken = machine.with(board);
+    let taken = machine.with(board).expect("a board");
     let mut met = vec![(0, taken.wake().to.next)];
     let mut next = 0;
     while let Some(&(state, other)) = met.get(next) {

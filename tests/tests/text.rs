@@ -3,11 +3,13 @@
 use ranthelo::text::{assemble, bytes_of, disassemble, is_text, line_at};
 use ranthelo_tests::generator::{self, Random, LARGE, SMALL};
 use ranthelo_tests::listed::{self, spelled};
+use ranthelo_tests::reference::read;
 
-/// Text and bytes are each other's, and the text is taken for a text.
+/// Text and bytes are each other's, and the text is taken for a text; bytes that reading accepts are not.
 fn there_and_back(bytes: &[u8]) {
     let text = disassemble(bytes);
     assert!(is_text(text.as_bytes()), "{}", spelled(bytes));
+    assert!(!is_text(bytes) || read(bytes).is_err(), "{text}");
     assert_eq!(assemble(text.as_bytes()).as_deref(), Ok(bytes), "{text}");
     assert_eq!(bytes_of(text.into_bytes()).as_deref(), Ok(bytes));
 }
@@ -82,9 +84,12 @@ fn damaged_texts() {
             let place = random.below(text.len());
             text[place] = random.pick(b"0 1\n#xR-\xff");
         }
-        if let Err(mistake) = assemble(&text) {
+        if let Err(mistakes) = assemble(&text) {
             let lines = text.split(|&byte| byte == b'\n').count();
-            assert!((1..=lines).contains(&mistake.line), "{mistake}");
+            assert!(!mistakes.is_empty());
+            for mistake in mistakes.iter() {
+                assert!((1..=lines).contains(&mistake.line), "{mistake}");
+            }
         }
     }
 }

@@ -1,9 +1,13 @@
 //! A word's arguments.
 
 use super::failure::Failure;
-use super::words::Word;
+use super::input::is_piped;
+use super::near::near;
+use super::table::Word;
+use ranthelo::{Named, Names};
 use std::collections::BTreeMap;
 use std::ffi::{OsStr, OsString};
+use std::num::IntErrorKind;
 
 /// What follows a word: options, with or without a value, and the rest in order.
 pub struct Arguments {
@@ -12,8 +16,23 @@ pub struct Arguments {
     rest: Vec<OsString>,
 }
 
+/// A whole number that an argument may be.
+pub trait Whole: std::str::FromStr<Err = std::num::ParseIntError> + std::fmt::Display {
+    const MOST: Self;
+}
+
+impl Whole for u8 {
+    const MOST: Self = u8::MAX;
+}
+impl Whole for u32 {
+    const MOST: Self = u32::MAX;
+}
+impl Whole for usize {
+    const MOST: Self = usize::MAX;
+}
+
 impl Arguments {
-    /// Takes the arguments of a word: exactly those that it has, and options that it knows.
+    /// Takes the arguments of a word: those that it has, and options that it knows.
     pub fn parse(word: &'static Word, arguments: &[OsString]) -> Result<Self, Failure> {
         let (options, rest) = (BTreeMap::new(), Vec::new());
         let mut parsed = Arguments {
@@ -31,11 +50,7 @@ impl Arguments {
                 _ => parsed.rest.push(argument.clone()),
             }
         }
-        let (given, due) = (parsed.rest.len(), word.arguments.len());
-        if given != due {
-            let names = word.arguments.join(" ");
-            return Err(parsed.wrong(format!("takes {names} and options, {given} given")));
-        }
+        parsed.check()?;
         Ok(parsed)
     }
 
@@ -51,7 +66,9 @@ impl Arguments {
         };
         let option = self.word.options.iter().find(|option| option.name == name);
         let Some(option) = option else {
-            return Err(self.wrong(format!("has no option {name}")));
+            let known = self.word.options.iter().map(|option| option.name);
+            let meant = near(name, known).map_or(String::new(), |near| format!("; {near} is near"));
+            return Err(self.wrong(format!("has no option {name}{meant}")));
         };
         let value = match (option.value, inline) {
             (None, None) => OsString::new(),
@@ -68,9 +85,33 @@ impl Arguments {
         Ok(())
     }
 
-    fn wrong(&self, what: String) -> Failure {
+    /// As many arguments as the word takes, the last of them from a pipe if it is not named; and the options that it needs.
+    fn check(&mut self) -> Result<(), Failure> {
+        let takes = &self.word.takes;
+        let (given, due) = (self.rest.len(), takes.names.len());
+        let enough = given == due || takes.several && given > due;
+        if !enough && takes.piped && given + 1 == due && is_piped() {
+            self.rest.push("-".into());
+        } else if !enough && given < takes.least || given > due && !takes.several {
+            let shown = takes.shown();
+            return Err(self.wrong(format!("takes {shown} and options, {given} given")));
+        }
+        let missing = self.word.needs.iter().find(|option| !self.has(option.name));
+        match missing {
+            Some(option) => Err(self.wrong(format!("needs {}", option.name))),
+            None => Ok(()),
+        }
+    }
+
+    /// A failure that names the word.
+    pub fn wrong(&self, what: impl std::fmt::Display) -> Failure {
         let name = self.word.name;
-        Failure::usage(format!("{name} {what}; see ranthelo {name} --help"))
+        Failure::usage(format!("{name} {what}; see ranthelo help {name}"))
+    }
+
+    /// Whether the word knows an option.
+    pub fn knows(&self, option: &str) -> bool {
+        self.word.options.iter().any(|known| known.name == option)
     }
 
     pub fn has(&self, option: &str) -> bool {
@@ -81,36 +122,63 @@ impl Arguments {
         self.options.get(option).map(OsString::as_os_str)
     }
 
+    /// All arguments but the options.
+    pub fn all(&self) -> &[OsString] {
+        &self.rest
+    }
+
     pub fn argument(&self, index: usize) -> &OsStr {
         &self.rest[index]
     }
 
     /// An argument that is a number.
-    pub fn number<T: std::str::FromStr>(&self, index: usize) -> Result<T, Failure> {
-        self.parsed(self.word.arguments[index], self.argument(index))
+    pub fn number<T: Whole>(&self, index: usize) -> Result<T, Failure> {
+        self.parsed(self.word.takes.names[index], self.argument(index))
     }
 
-    /// An option's value that is a number.
-    pub fn option_number<T: std::str::FromStr>(&self, option: &str) -> Result<T, Failure> {
-        self.parsed(option, self.value(option).unwrap_or_default())
+    /// An option's value that is a number, if the option is given.
+    pub fn option_number<T: Whole>(&self, option: &str) -> Result<Option<T>, Failure> {
+        let value = self.value(option);
+        value.map(|value| self.parsed(option, value)).transpose()
     }
 
-    fn parsed<T: std::str::FromStr>(&self, name: &str, text: &OsStr) -> Result<T, Failure> {
+    fn parsed<T: Whole>(&self, name: &str, text: &OsStr) -> Result<T, Failure> {
         let text = text.to_string_lossy();
-        let value = text.parse().ok();
-        value.ok_or_else(|| self.wrong(format!("takes a number as {name}, not {text}")))
+        text.parse::<T>().map_err(|error| match error.kind() {
+            IntErrorKind::PosOverflow | IntErrorKind::NegOverflow => {
+                self.wrong(format!("takes 0 to {} as {name}, not {text}", T::MOST))
+            }
+            _ => self.wrong(format!("takes a number as {name}, not {text}")),
+        })
     }
 
-    /// The list of numbers that an option has, which must be given: `0 1 0` or `0,1,0`.
-    pub fn list(&self, option: &str) -> Result<Vec<u8>, Failure> {
-        let Some(text) = self.value(option) else {
-            return Err(self.wrong(format!("needs {option}")));
-        };
-        let text = text.to_string_lossy();
+    /// The list of numbers or names that an option has, `0 1 0` or `0,1,0`; empty if it is not given.
+    pub fn list(
+        &self,
+        option: &str,
+        kind: Option<Named>,
+        names: &Names,
+    ) -> Result<Vec<u8>, Failure> {
+        let text = self.value(option).unwrap_or_default().to_string_lossy();
         let numbers = text.split([' ', ',']).filter(|number| !number.is_empty());
-        let wrong = |number| format!("{option}: {number} is not a number from 0 to 255");
-        numbers
-            .map(|number| number.parse().map_err(|_| self.wrong(wrong(number))))
-            .collect()
+        let number = |word: &str| {
+            numbered(word, kind, names).map_err(|what| self.wrong(format!("{option}: {what}")))
+        };
+        numbers.map(number).collect()
     }
+}
+
+/// The number that a word stands for.
+pub fn numbered(word: &str, kind: Option<Named>, names: &Names) -> Result<u8, String> {
+    if let Some(number) = kind.and_then(|kind| names.number(kind, word)) {
+        return Ok(number);
+    }
+    word.parse()
+        .map_err(|error: std::num::ParseIntError| match error.kind() {
+            IntErrorKind::PosOverflow => format!("{word} is not 0 to 255"),
+            _ => match kind.filter(|&kind| !names.of(kind).is_empty()) {
+                Some(kind) => format!("{word} is no number and no name of a {}", kind.one()),
+                None => format!("{word} is no number"),
+            },
+        })
 }

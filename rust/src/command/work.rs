@@ -1,43 +1,69 @@
 //! Work that may take long: in a thread with the stack that it needs, and with a word to whoever waits at a terminal.
 
+use super::failure::Failure;
 use super::output;
 use std::io::{self, IsTerminal};
-use std::sync::mpsc::channel;
+use std::sync::mpsc::{RecvTimeoutError, channel};
 use std::thread::{self, Builder};
 use std::time::Duration;
 
-/// How long nothing is said.
+/// How long nothing is said, and how long between two words.
 const PATIENCE: Duration = Duration::from_secs(1);
 
 /// Does some work; if it takes over a second and standard error is a terminal, says there what is being done.
-pub fn at_work<T: Send>(what: &str, work: impl FnOnce() -> T + Send) -> T {
-    let tell = || {
-        if io::stderr().is_terminal() {
+pub fn at_work<T: Send>(what: &str, work: impl FnOnce() -> T + Send) -> Result<T, Failure> {
+    let mut said = false;
+    watched(work, || {
+        if !said {
             output::tell(what);
         }
-    };
-    with_patience(PATIENCE, tell, work)
+        said = true;
+    })
+}
+
+/// Does some work; while it goes on and standard error is a terminal, there is a word every second.
+pub fn watched<T: Send>(
+    work: impl FnOnce() -> T + Send,
+    mut tell: impl FnMut(),
+) -> Result<T, Failure> {
+    let heard = io::stderr().is_terminal();
+    with_patience(
+        PATIENCE,
+        || {
+            if heard {
+                tell()
+            }
+        },
+        work,
+    )
+    .map_err(unstarted)
+}
+
+fn unstarted(error: io::Error) -> Failure {
+    Failure::usage(format!("no thread can be started: {error}"))
+}
+
+/// A thread with the stack that judging needs.
+pub fn builder() -> Builder {
+    Builder::new().stack_size(2 * ranthelo::STACK)
 }
 
 fn with_patience<T: Send>(
     patience: Duration,
-    tell: impl FnOnce(),
+    mut tell: impl FnMut(),
     work: impl FnOnce() -> T + Send,
-) -> T {
+) -> io::Result<T> {
     thread::scope(|scope| {
         let (done, wait) = channel();
-        let worker = Builder::new()
-            .stack_size(2 * ranthelo::STACK)
-            .spawn_scoped(scope, move || {
-                let result = work();
-                let _ = done.send(());
-                result
-            })
-            .expect("a thread starts");
-        if wait.recv_timeout(patience).is_err() {
+        let worker = builder().spawn_scoped(scope, move || {
+            let result = work();
+            let _ = done.send(());
+            result
+        })?;
+        while wait.recv_timeout(patience) == Err(RecvTimeoutError::Timeout) {
             tell();
         }
-        worker.join().expect("the work ends")
+        Ok(worker.join().expect("the work ends"))
     })
 }
 
@@ -45,23 +71,24 @@ fn with_patience<T: Send>(
 mod tests {
     use super::*;
 
-    fn told(patience: u64, work: u64) -> (bool, u8) {
-        let mut told = false;
+    fn told(patience: u64, work: u64) -> (usize, u8) {
+        let mut told = 0;
         let [patience, work] = [patience, work].map(Duration::from_millis);
         let result = with_patience(
             patience,
-            || told = true,
+            || told += 1,
             || {
                 thread::sleep(work);
                 7
             },
         );
-        (told, result)
+        (told, result.expect("a thread starts"))
     }
 
     #[test]
     fn only_long_work_is_told() {
-        assert_eq!(told(20, 200), (true, 7));
-        assert_eq!(told(10_000, 1), (false, 7));
+        let (words, result) = told(20, 200);
+        assert!(words > 1 && result == 7);
+        assert_eq!(told(10_000, 1), (0, 7));
     }
 }

@@ -147,7 +147,7 @@ fn choice(all: &[Choice], number: usize, names: &Names) -> String {
 pub fn board(sheet: &[u8], choices: &[u8], names: &Names) -> Result<String, Refusal> {
     run(sheet, choices, &[])?;
     let machine = Machine::of(sheet)?;
-    let board = machine.with(choices);
+    let board = machine.with(choices).expect("the library took the board");
     let taken: Vec<(&OpenPair, usize)> = board.taken().collect();
     let others = taken.iter().filter(|(_, number)| *number == 0);
     let others: Vec<&OpenPair> = others.map(|(pair, _)| *pair).collect();
@@ -200,7 +200,7 @@ pub fn sequence(
     let given = run(sheet, choices, presses)?.sounds;
     let specified = run(sheet, &vec![0; choices.len()], presses)?.sounds;
     let machine = Machine::of(sheet)?;
-    let board = machine.with(choices);
+    let board = machine.with(choices).expect("the library took the board");
     let step = |from: u8, to: u8, sound: u8| {
         let (from, to, sound) = (names.state(from), names.state(to), names.sound(sound));
         format!("{from} -> {to}, sound {sound}")
@@ -240,7 +240,7 @@ pub fn sequence(
 /// The states in which a board may be beside each specified one.
 fn together(sheet: &[u8], choices: &[u8], names: &Names) -> Result<String, Refusal> {
     let machine = Machine::of(sheet)?;
-    let board = machine.with(choices);
+    let board = machine.with(choices).expect("the library took the board");
     let mut met: BTreeMap<u8, Vec<u8>> = BTreeMap::new();
     let mut left = vec![(0, board.wake().to.next)];
     while let Some((state, other)) = left.pop() {

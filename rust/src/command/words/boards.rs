@@ -1,46 +1,66 @@
 //! `run`, `first-failed` and `compare`.
 
-use super::{BOARD, EXPLAIN, PRESS, fields};
+use super::{BOARD, EXPLAIN, NAMES, PRESS};
 use crate::command::Status;
+use crate::command::answer::Answer;
 use crate::command::arguments::Arguments;
 use crate::command::failure::Failure;
 use crate::command::input::Input;
-use crate::command::output::print;
-use ranthelo::commands::commands;
-use ranthelo::{Comparison, Failure as Failed, Names, explain};
+use crate::command::json::{Fields, bytes, list};
+use ranthelo::asked::Asked;
+use ranthelo::commands::{TEST, commands};
+use ranthelo::{Comparison, Failure as Failed, Named, Names, Used, explain};
 
-/// The sheet and the board.
-fn open(arguments: &Arguments) -> Result<(Input, Vec<u8>), Failure> {
-    let board = arguments.list(BOARD.name)?;
-    Ok((Input::open(arguments.argument(0))?, board))
+/// The names to print: those of the text if they are asked for.
+pub fn shown(arguments: &Arguments, input: &Input) -> Names {
+    match arguments.has(NAMES.name) {
+        true => input.names.clone(),
+        false => Names::default(),
+    }
 }
 
-pub fn run(arguments: &Arguments) -> Result<Status, Failure> {
-    let presses = arguments.list(PRESS.name)?;
-    let (input, board) = open(arguments)?;
-    let run = ranthelo::run(&input.sheet, &board, &presses).map_err(|r| input.refused(r))?;
-    let text = fields("sound", run.sounds) + &fields("used", run.used.pairs());
-    print(text.as_bytes())
+/// The board that the option names.
+pub fn board(arguments: &Arguments) -> Result<Vec<u8>, Failure> {
+    arguments.list(BOARD.name, None, &Names::default())
 }
 
-pub fn first_failed(arguments: &Arguments) -> Result<Status, Failure> {
-    let (input, board) = open(arguments)?;
-    let sheet = &input.sheet;
-    let trial = ranthelo::first_failed(sheet, &board).map_err(|r| input.refused(r))?;
-    let used = fields("used", trial.used.pairs());
-    let (mut text, status) = match trial.failure {
-        None => (format!("passes\n{used}"), Status::Good),
+fn used(used: Used) -> Fields {
+    vec![("used", list(used.pairs()))]
+}
+
+pub fn run(arguments: &Arguments, input: &Input) -> Result<Answer, Failure> {
+    let presses = arguments.list(PRESS.name, Some(Named::Press), &input.names)?;
+    let board = board(arguments)?;
+    let asked = Asked::Run {
+        board: &board,
+        presses: &presses,
+    };
+    let run =
+        ranthelo::run(&input.sheet, &board, &presses).map_err(|r| input.refused(r, &asked))?;
+    let lines = run.named(&shown(arguments, input)) + "\n";
+    let mut fields: Fields = vec![("answer", "ran".into()), ("sound", bytes(&run.sounds))];
+    fields.extend(used(run.used));
+    Ok(Answer::new(Status::Good, lines, fields))
+}
+
+pub fn first_failed(arguments: &Arguments, input: &Input) -> Result<Answer, Failure> {
+    let (board, sheet) = (board(arguments)?, &input.sheet);
+    let refused = |r| input.refused(r, &Asked::Board(&board));
+    let trial = ranthelo::first_failed(sheet, &board).map_err(refused)?;
+    let (status, mut fields): (Status, Fields) = match trial.failure {
+        None => (Status::Good, vec![("answer", "passes".into())]),
         Some(Failed { test, position }) => {
-            let text = format!("fails\ntest {test}\nposition {position}\n{used}");
-            (text, Status::Wanting)
+            let place = [("test", test.into()), ("position", position.into())];
+            let fields = [("answer", "fails".into())].into_iter().chain(place);
+            (Status::Wanting, fields.collect())
         }
     };
+    fields.extend(used(trial.used));
+    let mut answer = Answer::new(status, format!("{trial}\n"), fields);
     if arguments.has(EXPLAIN.name) {
-        let told = explain::trial(sheet, &board, &trial, &Names::default());
-        text += &format!("\n{}", told.map_err(|r| input.refused(r))?);
+        answer.explain(explain::trial(sheet, &board, &trial, &input.names).map_err(refused)?);
     }
-    print(text.as_bytes())?;
-    Ok(status)
+    Ok(answer)
 }
 
 /// The presses of PRESS commands.
@@ -49,21 +69,34 @@ pub fn presses(part: &[u8]) -> Vec<u8> {
     operands.copied().collect()
 }
 
-pub fn compare(arguments: &Arguments) -> Result<Status, Failure> {
-    let (input, board) = open(arguments)?;
-    let sheet = &input.sheet;
-    let comparison = ranthelo::compare(sheet, &board).map_err(|r| input.refused(r))?;
-    let (mut text, status) = match &comparison {
-        Comparison::Conforms => ("conforms\n".to_string(), Status::Good),
+/// The presses of each test.
+pub fn tests(part: &[u8]) -> Vec<Vec<u8>> {
+    let mut tests: Vec<Vec<u8>> = Vec::new();
+    for command in commands(part) {
+        match tests.last_mut() {
+            Some(test) if command.byte() != TEST => test.extend(command.operands()),
+            _ => tests.push(Vec::new()),
+        }
+    }
+    tests
+}
+
+pub fn compare(arguments: &Arguments, input: &Input) -> Result<Answer, Failure> {
+    let (board, sheet) = (board(arguments)?, &input.sheet);
+    let refused = |r| input.refused(r, &Asked::Board(&board));
+    let comparison = ranthelo::compare(sheet, &board).map_err(refused)?;
+    let (status, fields): (Status, Fields) = match &comparison {
+        Comparison::Conforms => (Status::Good, vec![("answer", "conforms".into())]),
         Comparison::Departs { sequence } => {
-            let text = format!("departs\n{}", fields("press", sequence));
-            (text, Status::Wanting)
+            let fields = vec![("answer", "departs".into()), ("press", bytes(sequence))];
+            (Status::Wanting, fields)
         }
     };
+    let lines = comparison.named(&shown(arguments, input)) + "\n";
+    let mut answer = Answer::new(status, lines, fields);
     if arguments.has(EXPLAIN.name) {
-        let told = explain::comparison(sheet, &board, &comparison, &Names::default());
-        text += &format!("\n{}", told.map_err(|r| input.refused(r))?);
+        let told = explain::comparison(sheet, &board, &comparison, &input.names);
+        answer.explain(told.map_err(refused)?);
     }
-    print(text.as_bytes())?;
-    Ok(status)
+    Ok(answer)
 }
