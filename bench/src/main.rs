@@ -1,9 +1,7 @@
 //! Prints how long the library's operations take, beside the same in plain Rust, how long lists take
-//! to be made, and how much stack it all needs. With --plain: how long judge takes in plain Rust
-//! alone; with --making: how long lists take to be made; with --records: how long records take.
-//! to be made and boards to be taken, and how much stack it all needs. With --plain: how long judge
-//! takes in plain Rust alone; with --making: how long lists take to be made; with --walking: how long
-//! boards take to be taken.
+//! to be made, boards to be taken and records to be checked, and how much stack it all needs. With
+//! --plain: how long judge takes in plain Rust alone; with --making, --walking or --records: that
+//! part alone.
 
 mod generate;
 mod judge;

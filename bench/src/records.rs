@@ -1,6 +1,7 @@
 //! A lock's own record: the record of a complete list, and the same with one run more that ends in a wrong sound, which no board
 //! gives; beside judging the list. And records of a million commands.
 
+use crate::say::say;
 use ranthelo::raw;
 use ranthelo_bench::families;
 use ranthelo_bench::timing::{self, shown};
@@ -11,7 +12,7 @@ use ranthelo_tests::reference::{self, Sheet};
 use std::hint::black_box;
 
 pub fn print() {
-    println!("\nrecords, beside judging");
+    say!("\nrecords, beside judging");
     print_row(["case", "given", "not given", "judging", "ratio"].map(str::to_string));
     for seed in 1..3 {
         one(
@@ -47,7 +48,7 @@ pub fn print() {
 }
 
 fn print_row([case, given, not_given, judging, ratio]: [String; 5]) {
-    println!("{case:<44} {given:>10} {not_given:>10} {judging:>10} {ratio:>6}");
+    say!("{case:<44} {given:>10} {not_given:>10} {judging:>10} {ratio:>6}");
 }
 
 /// The choices of the board that takes each RULE.

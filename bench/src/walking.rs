@@ -1,5 +1,6 @@
 //! Take and tests added: takes from places spread over a sheet's boards, beside plain Rust and one judgement; walks of many boards.
 
+use crate::say::say;
 use crate::table::Table;
 use ranthelo::raw;
 use ranthelo_bench::families;
@@ -49,7 +50,7 @@ pub fn measure(table: &mut Table) {
 }
 
 pub fn print() {
-    println!("\ntakes from places spread over a sheet's boards");
+    say!("\ntakes from places spread over a sheet's boards");
     print_row(
         [
             "case", "takes", "typical", "worst", "plain", "worst", "judge",
@@ -72,7 +73,7 @@ pub fn print() {
     for (name, sheet) in families::KEPT {
         one(&format!("{name}, kept"), sheet);
     }
-    println!("\nwalks of {LONG} boards");
+    say!("\nwalks of {LONG} boards");
     long(
         "32 unspecified pairs of 256 choices",
         &families::wide().encode(),
@@ -88,9 +89,7 @@ pub fn print() {
 }
 
 fn print_row([case, takes, typical, worst, plain, plain_worst, judge]: [String; 7]) {
-    println!(
-        "{case:<44} {takes:>5} {typical:>9} {worst:>9} {plain:>9} {plain_worst:>9} {judge:>9}"
-    );
+    say!("{case:<44} {takes:>5} {typical:>9} {worst:>9} {plain:>9} {plain_worst:>9} {judge:>9}");
 }
 
 fn family(name: &str, family: &families::Family) {
@@ -213,7 +212,7 @@ fn long(case: &str, bytes: &[u8]) {
         taken
     });
     let each = shown(time / (taken.max(1) as f64));
-    println!(
+    say!(
         "{case:<44} {taken:>6} boards {:>10} {each:>10} each",
         shown(time)
     );

@@ -57,17 +57,12 @@ pub mod text;
 
 pub use names::{Named, Names};
 pub use operations::{
-    Comparison, Failure, Made, Run, Summary, Trial, Used, Verdict, compare, first_failed, generate,
-    judge, make, read, run, test_part, test_span, tray, write,
-    Comparison, Failure, Made, MergeRefusal, Run, Summary, Trial, Used, Verdict, compare,
-    first_failed, generate, judge, make, merge, read, run, test_part, test_span, write,
-    Comparison, Failure, Made, Passing, Place, Run, Summary, Trial, Used, Verdict, add_test,
-    compare, first_failed, generate, judge, make, read, run, take, test_part, test_span, tray,
-    write,
+    Comparison, Failure, Made, MergeRefusal, Passing, Place, Recorded, Run, Summary, Trial, Used,
+    Verdict, add_test, check_record, compare, explain_record, first_failed, generate, judge, make,
+    merge, read, run, take, test_part, test_span, tray, write,
 };
-pub use operations::{Recorded, Suspected, check_record, explain_record};
 pub use raw::Tables;
-pub use refusal::{Refusal, meaning, Kind as RefusalKind};
+pub use refusal::{Kind as RefusalKind, Refusal, meaning};
 pub use station::{Station, Step};
 
 /// The most bytes that a sheet has.

@@ -99,10 +99,12 @@ pub enum Place {
     End,
 }
 
-/// A board that passes the list, and what it is beside the specification.
+/// A board that passes the list, or gives a record, and what it is beside the specification.
 #[derive(Clone, Debug, PartialEq, Eq)]
 pub struct Passing {
+    /// Its choices.
     pub board: Vec<u8>,
+    /// What compare answers of it.
     pub comparison: Comparison,
 }
 
@@ -121,6 +123,7 @@ pub struct Made {
 pub struct MergeRefusal {
     /// The sheet that a refusal on reading concerns, 1 or 2; none for any other refusal.
     pub sheet: Option<usize>,
+    /// Its number and place.
     pub refusal: Refusal,
 }
 
@@ -448,13 +451,6 @@ pub struct Recorded {
     pub given: bool,
 }
 
-/// The first board that gives a record.
-#[derive(Clone, Debug, PartialEq, Eq)]
-pub struct Suspected {
-    pub board: Vec<u8>,
-    pub comparison: Comparison,
-}
-
 /// Checks a lock's own record: `0x10` for a pulse, `0x11 x o` for a press and its sound, of any length. The thread needs
 /// [`STACK`](crate::STACK) bytes of stack.
 ///
@@ -478,7 +474,7 @@ pub fn check_record(sheet: &[u8], log: &[u8]) -> Result<Recorded, Refusal> {
 
 /// The first board in dictionary order that gives a record, if there is one. The thread needs [`STACK`](crate::STACK) bytes
 /// of stack.
-pub fn explain_record(sheet: &[u8], log: &[u8]) -> Result<Option<Suspected>, Refusal> {
+pub fn explain_record(sheet: &[u8], log: &[u8]) -> Result<Option<Passing>, Refusal> {
     let (mut board, mut sequence) = ([0; MOST_OPEN_PAIRS], [0; MOST_SEQUENCE]);
     let mut answer = [0; 5];
     raw::record_board(sheet, log, &mut board, &mut sequence, &mut answer);
@@ -491,7 +487,7 @@ pub fn explain_record(sheet: &[u8], log: &[u8]) -> Result<Option<Suspected>, Ref
         _ => unreachable!("three numbers follow"),
     };
     let board = board[..read(sheet)?.open_pairs].to_vec();
-    Ok(Some(Suspected { board, comparison }))
+    Ok(Some(Passing { board, comparison }))
 }
 
 /// The sheet with the faults and STARTs of two sheets of one machine, each once, in order, and the first sheet's tests followed by the

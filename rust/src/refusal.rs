@@ -112,28 +112,6 @@ impl Refusal {
     }
 }
 
-/// What each number means, from 1 on.
-const MEANINGS: [&str; 18] = [
-    "the sheet has over 16,384 bytes",
-    "the sheet ends where a command or an operand is due, or a table is cut",
-    "the command is unknown or not allowed at this point",
-    "the number of states, presses or sounds is not 1 to 16",
-    "an operand is out of range",
-    "RULEs, FAULTs or STARTs do not ascend",
-    "a FAULT has no RULE at its pair or equals it, or a START names state 0",
-    "one FAULT, TEST or PRESS too many",
-    "a PRESS has no RULE at the state that its test has reached",
-    "a byte follows END",
-    "a state can't be reached from state 0 by RULEs",
-    "over 32 open pairs",
-    "the board's length is not the number of open pairs",
-    "a choice is not below its pair's number of choices",
-    "a press is not below the number of presses",
-    "a buffer is too short",
-    "there is no such test",
-    "the next test does not fit: 256 tests or 16,384 bytes would be passed",
-];
-
 /// What a refusal's number means; none for a number that no operation gives.
 ///
 /// ```
@@ -161,28 +139,8 @@ pub fn meaning(number: usize) -> Option<&'static str> {
         16 => "a buffer is too short",
         17 => "there is no such test",
         18 => "the next test does not fit: 256 tests or 16,384 bytes would be passed",
+        20 => "a command of the record is cut, unknown, out of range, or a SEEN before any PULSE",
         21 => "SIZE, QUIET or the RULEs of the two sheets differ",
-        _ => return None,
-    })
-    Some(match number {
-        1 => "the sheet has over 16,384 bytes",
-        2 => "the sheet ends where a command or an operand is due, or a table is cut",
-        3 => "the command is unknown or not allowed at this point",
-        4 => "the number of states, presses or sounds is not 1 to 16",
-        5 => "an operand is out of range",
-        6 => "RULEs, FAULTs or STARTs do not ascend",
-        7 => "a FAULT has no RULE at its pair or equals it, or a START names state 0",
-        8 => "one FAULT, TEST or PRESS too many",
-        9 => "a PRESS has no RULE at the state that its test has reached",
-        10 => "a byte follows END",
-        11 => "a state can't be reached from state 0 by RULEs",
-        12 => "over 32 open pairs",
-        13 => "the board's length is not the number of open pairs",
-        14 => "a choice is not below its pair's number of choices",
-        15 => "a press is not below the number of presses",
-        16 => "a buffer is too short",
-        17 => "there is no such test",
-        18 => "the next test does not fit: 256 tests or 16,384 bytes would be passed",
         22 => "a first or changed sheet of a station has a list that is not complete",
         23 => "a changed sheet differs in what is in use, or comes after the verdict",
         24 => "a sound when no press is due, or one not below the number of sounds",

@@ -7,9 +7,17 @@ use crate::{Failure, Refusal, raw, read};
 #[derive(Clone, Copy, Debug, PartialEq, Eq)]
 pub enum Step {
     /// Wake the lock anew: a test begins.
-    Pulse { test: usize },
+    Pulse {
+        /// Its number.
+        test: usize,
+    },
     /// Press, and tell the sound. The press is due until then; given again, it is the same one, which the lock gets once.
-    Press { press: u8, position: usize },
+    Press {
+        /// Which press.
+        press: u8,
+        /// Its position in the test.
+        position: usize,
+    },
     /// No step is left, and every sound was the specified one.
     Pass,
     /// The first wrong sound.

@@ -4,10 +4,8 @@ mod common;
 
 use common::root;
 use ranthelo::{
-    Place, STACK, Tables, add_test, compare, first_failed, generate, judge, make, raw, read, run,
-    take, tray, write,
-    STACK, Station, Step, Tables, compare, first_failed, generate, judge, make, raw, read, run,
-    tray, write,
+    Place, STACK, Station, Step, Tables, add_test, check_record, compare, first_failed, generate,
+    judge, make, raw, read, run, take, tray, write,
 };
 use std::fs;
 use std::thread::Builder;
@@ -31,7 +29,7 @@ fn judging_taking_and_making() {
     assert!(sheets.len() > 10);
     for sheet in sheets {
         in_stack(STACK / 4 * 3, move || {
-            judge(&sheet).expect("an accepted sheet");
+            check_record(&sheet, &[0x10]).expect("an accepted sheet");
             take(&sheet, &Place::Start).expect("an accepted sheet");
             let begun = Station::begin(&sheet).map_err(|refusal| refusal.number);
             assert!(matches!(begun, Ok(_) | Err(22)), "{begun:?}");

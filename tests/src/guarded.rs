@@ -9,6 +9,6 @@ pub mod merging;
 pub mod mutation;
 pub mod reading;
 pub mod records;
-pub mod walking;
 pub mod station;
+pub mod walking;
 pub mod writing;

@@ -3,7 +3,7 @@ ghost use mathlib.Core.Path.{_≡_};
 ghost use mathlib.Core.List.{_∷_};
 ghost use Rattle.station.specs.Station.{beginning, nexting, taking, changing};
 ghost use Rattle.station.specs.Answers.{begunAnswer, nextAnswer, takenAnswer, changedAnswer};
-ghost use Rattle.ranthelo.specs.Numbers.{phaseOf, stateOf, stateNumbers, begunNumbers, begunState, stepNumbers, advancedNumbers, advancedState, takenNumbers, takenState, changedNumbers};
+ghost use Rattle.ranthelo.specs.Driving.{phaseOf, stateOf, stateNumbers, begunNumbers, begunState, stepNumbers, advancedNumbers, advancedState, takenNumbers, takenState, changedNumbers};
 use station::Advanced;
 use station::Begun;
 use station::Changed;

@@ -446,10 +446,7 @@ pub extern "C" fn ranthelo_record_board(
     ensures { λ r. ⌜ now (board .exit) ≡ overlay (explainedBoard (explaining (now (sheet .entry)) (now (log .entry)) (length (now (board .entry))) (length (now (sequence .entry))))) (now (board .entry)) ⌝ }
     ensures { λ r. ⌜ now (sequence .exit) ≡ overlay (explainedSequence (explaining (now (sheet .entry)) (now (log .entry)) (length (now (board .entry))) (length (now (sequence .entry))))) (now (sequence .entry)) ⌝ }
 {
-    tell_explained(
-        records::explain_record(sheet, log, board, sequence),
-        answer,
-    );
+    tell_explained(records::explain_record(sheet, log, board, sequence), answer);
 }
 
 // Merge two sheets.

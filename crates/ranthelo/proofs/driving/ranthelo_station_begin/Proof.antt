@@ -3,7 +3,7 @@ use borrow.Author.Needs.{needs}
 use mathlib.Core.Path.{ap, sym, _∙_}
 use denote.Ref.{now}
 use Rattle.station.specs.declared.Begun.{Begun}
-use Rattle.ranthelo.specs.Numbers.{begunNumbers, begunState}
+use Rattle.ranthelo.specs.Driving.{begunNumbers, begunState}
 use Rattle.ranthelo.proofs.driving.ranthelo_station_begin.Statement.{statement}
 use Rattle.ranthelo.proofs.driving.ranthelo_station_begin.Tie as tie
 

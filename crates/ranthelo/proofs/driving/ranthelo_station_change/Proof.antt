@@ -5,7 +5,7 @@ use denote.Ref.{now}
 use Rattle.station.specs.declared.State.{State}
 use Rattle.station.specs.Station.{changing}
 use Rattle.station.specs.Answers.{changedAnswer}
-use Rattle.ranthelo.specs.Numbers.{changedNumbers}
+use Rattle.ranthelo.specs.Driving.{changedNumbers}
 use Rattle.ranthelo.proofs.driving.ranthelo_station_change.Statement.{statement}
 use Rattle.ranthelo.proofs.driving.ranthelo_station_change.Tie as tie
 

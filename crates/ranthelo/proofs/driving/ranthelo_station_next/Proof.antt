@@ -6,7 +6,7 @@ use Rattle.station.specs.declared.State.{State}
 use Rattle.station.specs.declared.Advanced.{Advanced}
 use Rattle.station.specs.Station.{nexting}
 use Rattle.station.specs.Answers.{nextAnswer}
-use Rattle.ranthelo.specs.Numbers.{advancedNumbers, advancedState}
+use Rattle.ranthelo.specs.Driving.{advancedNumbers, advancedState}
 use Rattle.ranthelo.proofs.driving.ranthelo_station_next.Statement.{statement}
 use Rattle.ranthelo.proofs.driving.ranthelo_station_next.Tie as tie
 

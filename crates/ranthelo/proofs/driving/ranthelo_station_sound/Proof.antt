@@ -6,7 +6,7 @@ use Rattle.station.specs.declared.State.{State}
 use Rattle.station.specs.declared.Taken.{Taken}
 use Rattle.station.specs.Station.{taking}
 use Rattle.station.specs.Answers.{takenAnswer}
-use Rattle.ranthelo.specs.Numbers.{takenNumbers, takenState}
+use Rattle.ranthelo.specs.Driving.{takenNumbers, takenState}
 use Rattle.ranthelo.proofs.driving.ranthelo_station_sound.Statement.{statement}
 use Rattle.ranthelo.proofs.driving.ranthelo_station_sound.Tie as tie
 
