@@ -329,14 +329,6 @@ impl Tables<'_> {
         u32::from(self.waking > 1)
     }
 
-    /// How many choices each byte of a board has.
-    fn counts(&self) -> Vec<usize> {
-        let pairs = (0..self.states).flat_map(|s| (0..self.inputs).map(move |x| pair(s, x)));
-        let choices = pairs.map(|p| self.choices(p));
-        let waking = std::iter::once(self.waking);
-        waking.chain(choices).filter(|&count| count > 1).collect()
-    }
-
     /// A bit for each open pair, none for the others.
     fn bits(&self) -> [u32; 256] {
         let mut bits = [0; 256];
