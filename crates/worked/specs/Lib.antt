@@ -5,3 +5,4 @@ pub mod WrittenRows
 pub mod GeneratedRows
 pub mod MadeRows
 pub mod ListRows
+pub mod NumberedRows
