@@ -47,7 +47,7 @@ pub mod text;
 pub use names::Names;
 pub use operations::{
     Comparison, Failure, Made, Run, Summary, Trial, Used, Verdict, compare, first_failed, generate,
-    judge, make, read, run, test_part, test_span, write,
+    judge, make, read, renumber, run, test_part, test_span, write,
 };
 pub use raw::Tables;
 pub use refusal::{Refusal, meaning};
