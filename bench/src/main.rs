@@ -6,6 +6,7 @@ mod generate;
 mod judge;
 mod making;
 mod mutation;
+mod numbering;
 mod reading;
 mod stack;
 mod table;
@@ -29,6 +30,7 @@ fn main() {
         reading::measure(&mut table);
         writing::measure(&mut table);
         generate::measure(&mut table);
+        numbering::measure(&mut table);
         mutation::measure(&mut table);
     }
     judge::measure(&mut table);

@@ -7,6 +7,7 @@ pub mod enumeration;
 pub mod generator;
 pub mod guarded;
 pub mod listed;
+pub mod numbering;
 pub mod pictures;
 pub mod reference;
 pub mod seeded;
