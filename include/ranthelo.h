@@ -119,6 +119,17 @@ enum ranthelo_generate_answer {
 void ranthelo_generate(uint32_t seed, uint8_t states, uint8_t inputs, uint8_t outputs, uint8_t *buffer, size_t buffer_len,
                        size_t answer[RANTHELO_GENERATE_ANSWER]);
 
+/* Convert a sheet to first-reached form: states numbered as breadth-first search from state 0, presses ascending, meets them by RULEs alone;
+ * RULEs, FAULTs and STARTs renumbered and put in order, everything else as it is. The sheet at the buffer's front: it is as long as the
+ * one it was made from, and a shorter buffer is refused at place 0. Equal bytes for sheets that differ in their states' names alone. */
+enum ranthelo_renumber_answer {
+    RANTHELO_RENUMBER_LENGTH = 2, /* the sheet's */
+    RANTHELO_RENUMBER_ANSWER = 3
+};
+
+void ranthelo_renumber(const uint8_t *sheet, size_t sheet_len, uint8_t *buffer, size_t buffer_len,
+                       size_t answer[RANTHELO_RENUMBER_ANSWER]);
+
 /* Run a board on presses: one sound for each at the buffer's front, which has a byte or more for each press. */
 enum ranthelo_run_answer {
     RANTHELO_RUN_USED = 2,     /* how many open pairs were used */

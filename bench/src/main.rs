@@ -8,6 +8,7 @@ mod judge;
 mod making;
 mod merging;
 mod mutation;
+mod numbering;
 mod reading;
 mod records;
 mod say;
@@ -42,6 +43,7 @@ fn main() {
         writing::measure(&mut table);
         generate::measure(&mut table);
         merging::measure(&mut table);
+        numbering::measure(&mut table);
         mutation::measure(&mut table);
         walking::measure(&mut table);
         station::measure(&mut table);

@@ -1,4 +1,4 @@
-//! Read, sheets from seeds, run, first failed test and compare in plain Rust.
+//! Read, sheets from seeds and in first-reached form, run, first failed test and compare in plain Rust.
 
 use ranthelo_tests::enumeration::{Failed, Failure, Used};
 use ranthelo_tests::reference::{
@@ -646,5 +646,53 @@ pub fn add_test(sheet: &[u8], presses: &[u8], buffer: &mut [u8]) -> Result<usize
         to.copy_from_slice(&[PRESS, x]);
     }
     buffer[length - 1] = end[0];
+    Ok(length)
+}
+
+/// The sheet in first-reached form at the buffer's front; its length.
+pub fn renumber(sheet: &[u8], buffer: &mut [u8]) -> Result<usize, Refusal> {
+    let tables = load(sheet)?;
+    if buffer.len() < sheet.len() {
+        return refuse(16, 0);
+    }
+    let (mut met, mut number, mut count) = ([0; 16], [NONE; 16], 1);
+    number[0] = 0;
+    let mut at = 0;
+    while at < count {
+        for input in 0..tables.inputs {
+            let (_, t) = tables.rules[pair(met[at], input)];
+            if t != NONE && number[usize::from(t)] == NONE {
+                number[usize::from(t)] = count as u8;
+                met[count] = t;
+                count += 1;
+            }
+        }
+        at += 1;
+    }
+    let length = sheet.len();
+    buffer[..length].copy_from_slice(sheet);
+    let name = |state: &mut u8| *state = number[usize::from(*state)];
+    let rules = 4 + usize::from(tables.quiet);
+    let faults = rules + 5 * tables.summary.rules;
+    let starts = faults + 5 * tables.summary.faults;
+    for part in [rules..faults, faults..starts] {
+        let mut rows = [[0; 5]; 256];
+        let rows = &mut rows[..part.len() / 5];
+        for (row, bytes) in rows.iter_mut().zip(buffer[part.clone()].chunks_exact(5)) {
+            row.copy_from_slice(bytes);
+            name(&mut row[1]);
+            name(&mut row[4]);
+        }
+        rows.sort_unstable();
+        buffer[part].copy_from_slice(rows.as_flattened());
+    }
+    let mut states = [0; 16];
+    let states = &mut states[..tables.waking - 1];
+    states.copy_from_slice(&tables.wakings[1..tables.waking]);
+    states.iter_mut().for_each(name);
+    states.sort_unstable();
+    for (i, state) in states.iter().enumerate() {
+        buffer[starts + 2 * i + 1] = *state;
+    }
     Ok(length)
 }

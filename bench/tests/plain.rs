@@ -4,6 +4,7 @@ use ranthelo_bench::{engine, families, plain};
 use ranthelo_tests::enumeration::{self, Machine, Passing, Ran, Survivor};
 use ranthelo_tests::generator::{self, Random, Shape, LARGE, SMALL};
 use ranthelo_tests::listed::{self, spelled};
+use ranthelo_tests::numbering;
 use ranthelo_tests::reference::{self, Move, Pair, Sheet, MOST_BYTES};
 use ranthelo_tests::seeded;
 
@@ -28,6 +29,25 @@ fn sheets_from_seeds() {
         let length = plain::generate(seed, size, &mut buffer);
         let generated = length.map(|length| buffer[..length].to_vec());
         assert_eq!(generated, seeded::generate(seed, size, room));
+    }
+}
+
+#[test]
+fn first_reached_form() {
+    let mut random = Random::new(16);
+    for i in 0..20_000 {
+        let shape = if i % 10 == 0 { LARGE } else { SMALL };
+        let bytes = generator::sheet(&mut random, &shape).encode();
+        let room = bytes.len() - usize::from(random.chance(5));
+        let mut buffer = vec![0; room];
+        let length = plain::renumber(&bytes, &mut buffer);
+        let converted = length.map(|length| buffer[..length].to_vec());
+        assert_eq!(
+            converted,
+            numbering::renumber(&bytes, room),
+            "{}",
+            spelled(&bytes)
+        );
     }
 }
 

@@ -59,7 +59,7 @@ pub use names::{Named, Names};
 pub use operations::{
     Comparison, Failure, Made, MergeRefusal, Passing, Place, Recorded, Run, Summary, Trial, Used,
     Verdict, add_test, check_record, compare, explain_record, first_failed, generate, judge, make,
-    merge, read, run, take, test_part, test_span, tray, write,
+    merge, read, renumber, run, take, test_part, test_span, tray, write,
 };
 pub use raw::Tables;
 pub use refusal::{Kind as RefusalKind, Refusal, meaning};

@@ -243,6 +243,24 @@ pub fn generate(seed: u32, size: [u8; 3]) -> Result<Vec<u8>, Refusal> {
     })
 }
 
+/// The sheet in first-reached form: states numbered as breadth-first search from state 0, presses ascending, meets them by RULEs
+/// alone, and the commands put in order again. Two sheets have one such form exactly when they differ in their states' names alone.
+///
+/// ```
+/// let sheet = ranthelo::text::assemble(b"SIZE 3 1 2\n RULE 0 0 0 2\n RULE 1 0 1 0\n RULE 2 0 0 1\n TEST 0 0 0")?;
+/// let form = ranthelo::text::assemble(b"SIZE 3 1 2\n RULE 0 0 0 1\n RULE 1 0 0 2\n RULE 2 0 1 0\n TEST 0 0 0")?;
+/// assert_eq!(ranthelo::renumber(&sheet)?, form);
+/// assert_eq!(ranthelo::renumber(&form)?, form);
+/// # Ok::<(), Box<dyn std::error::Error>>(())
+/// ```
+pub fn renumber(sheet: &[u8]) -> Result<Vec<u8>, Refusal> {
+    let mut answer = [0; 3];
+    sheet_from(|buffer| {
+        raw::renumber(sheet, buffer, &mut answer);
+        Ok(rest(&answer)?[0])
+    })
+}
+
 /// The sheet that an operation writes to a buffer and whose length it tells.
 fn sheet_from(write: impl FnOnce(&mut [u8]) -> Result<usize, Refusal>) -> Result<Vec<u8>, Refusal> {
     let mut buffer = vec![0; MOST_BYTES];

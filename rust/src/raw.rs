@@ -41,6 +41,13 @@ mod c {
             buffer_len: usize,
             answer: *mut usize,
         );
+        pub fn ranthelo_renumber(
+            sheet: *const u8,
+            sheet_len: usize,
+            buffer: *mut u8,
+            buffer_len: usize,
+            answer: *mut usize,
+        );
         pub fn ranthelo_run(
             sheet: *const u8,
             sheet_len: usize,
@@ -250,6 +257,20 @@ pub fn generate(seed: u32, size: [u8; 3], buffer: &mut [u8], answer: &mut [usize
             states,
             inputs,
             outputs,
+            buffer.as_mut_ptr(),
+            buffer.len(),
+            answer.as_mut_ptr(),
+        )
+    }
+}
+
+/// Convert a sheet to first-reached form. Number, place, the sheet's length; the sheet at the buffer's front.
+pub fn renumber(sheet: &[u8], buffer: &mut [u8], answer: &mut [usize; 3]) {
+    // SAFETY: both slices and the answer are valid for their lengths throughout the call.
+    unsafe {
+        c::ranthelo_renumber(
+            sheet.as_ptr(),
+            sheet.len(),
             buffer.as_mut_ptr(),
             buffer.len(),
             answer.as_mut_ptr(),

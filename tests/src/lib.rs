@@ -8,6 +8,7 @@ pub mod generator;
 pub mod guarded;
 pub mod listed;
 pub mod merging;
+pub mod numbering;
 pub mod passing;
 pub mod pictures;
 pub mod records;

@@ -15,6 +15,7 @@ ghost use Rattle.lists.specs.Lists.{overlay};
 ghost use Rattle.writing.specs.Drawing.{drawing};
 ghost use Rattle.writing.specs.Writing.{writing, writtenAnswer, sheetWrites};
 ghost use Rattle.generator.specs.Generating.{generating};
+ghost use Rattle.renaming.specs.Renaming.{numbering};
 ghost use Rattle.mutation.specs.Answers.{ranAnswer, ranWrites, failedAnswer, comparedAnswer, comparedWrites};
 ghost use Rattle.mutation.specs.Judging.{judgedAnswer, boardWrites, sequenceWrites, Measured};
 ghost use Rattle.model.specs.Walk.{taking};
@@ -156,6 +157,15 @@ pub extern "C" fn ranthelo_generate(
         outputs,
     };
     tell_length(generator::generate(seed, size, buffer), answer);
+}
+
+// Convert a sheet to first-reached form.
+#[no_mangle]
+pub extern "C" fn ranthelo_renumber(sheet: &[u8], buffer: &mut [u8], answer: &mut [usize; 3])
+    ensures { λ r. ⌜ now (answer .exit) ≡ writtenNumbers (writtenAnswer (numbering (now (sheet .entry)) (length (now (buffer .entry))))) ⌝ }
+    ensures { λ r. ⌜ now (buffer .exit) ≡ overlay (sheetWrites (numbering (now (sheet .entry)) (length (now (buffer .entry))))) (now (buffer .entry)) ⌝ }
+{
+    tell_length(numbering::renumber(sheet, buffer), answer);
 }
 
 // Run.

@@ -8,3 +8,4 @@ pub mod ListRows
 pub mod TrayRows
 pub mod MergedRows
 pub mod WalkRows
+pub mod NumberedRows

@@ -1,4 +1,4 @@
-//! Sheets from tables, and from a seed.
+//! Sheets from tables, from a seed, and in first-reached form.
 
 use super::memory::{buffer, bytes, Answer, Guarded};
 use crate::drawing::Tables;
@@ -37,6 +37,16 @@ pub fn checked_generate(seed: u32, size: [u8; 3], room: usize) -> Result<Vec<u8>
     let mut buffer = buffer(room);
     let mut answer = Answer::new();
     raw::generate(seed, size, buffer.content_mut(), answer.lend());
+    written(buffer, answer)
+}
+
+/// The sheet in first-reached form, in a buffer of so many bytes.
+pub fn checked_renumber(sheet: &[u8], room: usize) -> Result<Vec<u8>, Refusal> {
+    let sheet = bytes(sheet);
+    let mut buffer = buffer(room);
+    let mut answer = Answer::new();
+    raw::renumber(sheet.content(), buffer.content_mut(), answer.lend());
+    sheet.untouched();
     written(buffer, answer)
 }
 
