@@ -111,8 +111,11 @@ fn random_trays() {
             random.below(12)
         };
         let room = (told + random.below(3)).saturating_sub(usize::from(random.chance(3)));
-        match agree(&bytes, told, &boards.concat(), room) {
+        let choices = boards.concat();
+        match agree(&bytes, told, &choices, room) {
             Ok(results) => {
+                let board = |i: usize| choices[i * counts.len()..][..counts.len()].to_vec();
+                let boards: Vec<Vec<u8>> = (0..told).map(board).collect();
                 assert_eq!(Some(&results), singly(&bytes, &boards).as_ref());
                 tried += usize::from(number > 1);
                 failing += usize::from(results.iter().any(|&result| result < 65_535));
