@@ -142,6 +142,7 @@ fn every_operation_promises() {
         "reading/src/lib.rt",
         "writing/src/lib.rt",
         "generator/src/lib.rt",
+        "numbering/src/lib.rt",
         "mutation/src/lib.rt",
         "mutation/src/verdict.rt",
         "adding/src/lib.rt",

@@ -1,5 +1,5 @@
 -- From the bytes to the answer.
-use Rattle.lists.specs.Proving.{arith, ℕ, _+_, _-_, _*_, _/_, _%_, _<_, _≤_, _≡_, refl, sym, _∙_, ap, subst, cond, List, length, getD, take, drop, ltb, lt-ltb, le-ltb, never}
+use Rattle.lists.specs.Proving.{arith, ℕ, _/_, _%_, _<_, _≤_, _≡_, refl, sym, _∙_, ap, subst, cond, List, length, getD, take, lt-ltb, never}
 use Rattle.lists.specs.Lists.{overlay}
 use Rattle.sheet.specs.declared.Reading.{Reading as ReadAnswer}
 use Rattle.sheet.specs.declared.Reading.the-variants as read
@@ -14,7 +14,7 @@ use Rattle.sheet.specs.laws.EncodedLaw.{encoded}
 use Rattle.sheet.specs.laws.TablesLaw.{table-length, table-at}
 use Rattle.writing.specs.declared.Written.{Written}
 use Rattle.writing.specs.declared.Written.the-variants as written
-use Rattle.writing.specs.Writing.{writtenAnswer, sheetWrites, Writes}
+use Rattle.writing.specs.Writing.{writtenAnswer, sheetWrites}
 use Rattle.writing.specs.words.Spelled.{Spelled}
 use Rattle.writing.specs.laws.SpelledLaw.{spelled-front}
 use Rattle.writing.specs.laws.LengthLaw.{parts-length}
@@ -22,11 +22,11 @@ use Rattle.writing.specs.laws.WritingLaw.{refuses, writes}
 use Rattle.renaming.specs.Renaming.{renamed, Renames, numberOf, numbered, numbering, Numbers}
 use Rattle.renaming.specs.laws.AgainLaw.{renamed-same}
 use Rattle.renaming.specs.laws.MetLaw.{numbers}
-use Rattle.renaming.specs.laws.NumberedLaw.{rows-length, numbered-length}
+use Rattle.renaming.specs.laws.NumberedLaw.{rows-length}
 use Rattle.renaming.specs.laws.NumberingLaw.{numbering-is, numbered-told}
 use Rattle.numbering.specs.declared.ordered.Parts.{Parts}
 use Rattle.numbering.specs.words.Searched.{Searched}
-use Rattle.numbering.specs.words.Ordered.{named, Names, partsBy, Parted}
+use Rattle.numbering.specs.words.Ordered.{named, partsBy, Parted}
 use Rattle.numbering.specs.Told.{ToldNumbered}
 
 -- what was read of an accepted sheet

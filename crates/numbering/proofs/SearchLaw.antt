@@ -1,5 +1,5 @@
 -- The search: one state more, all states that a state leads to, and one look more.
-use Rattle.lists.specs.Proving.{arith, ℕ, zero, suc, _+_, _%_, _<_, _≤_, _≡_, refl, sym, _∙_, ap, subst, Option, some, none, List, [], _∷_, length, getD, set, replicate, add-one, lt-ltb, le-ltb}
+use Rattle.lists.specs.Proving.{arith, ℕ, suc, _+_, _%_, _<_, _≤_, _≡_, refl, sym, _∙_, ap, subst, Option, some, none, List, getD, set, replicate, add-one, lt-ltb, le-ltb}
 use Rattle.lists.specs.Lists.{maybe, first}
 use lib.ListN.{drop}
 use Rattle.lists.specs.laws.ListLaw.{all-at-index}
@@ -32,8 +32,8 @@ module _ {met o number : List ℕ} {count : ℕ} (m : Marked met o number count)
       meet-new = subst (λ (l : List ℕ). Marked l (set o count t) (set number t count) (count + 1)) (sym (next-met low)) (marked-new m t low free meet-room)
 
 -- ---- the states that s leads to
-pub at-place : {sh : Sheet} {target : List ℕ} {inputs : ℕ} → Searched sh target inputs → (s x r : ℕ) → s < sh .size .states → x < inputs → r ≡ placeOf (s % 16) (x % 16) → getD target r 0 ≡ getD target (placeOf s x) 0
-at-place {target = target} h s x r l m e =
+pub read-there : {sh : Sheet} {target : List ℕ} {inputs : ℕ} → Searched sh target inputs → (s x r : ℕ) → s < sh .size .states → x < inputs → r ≡ placeOf (s % 16) (x % 16) → getD target r 0 ≡ getD target (placeOf s x) 0
+read-there {target = target} h s x r l m e =
     let few = h .formed .size .states .few in
     let narrow = h .formed .size .inputs .few in
     let same : r ≡ placeOf s x = omega (arith, e, h .width) in

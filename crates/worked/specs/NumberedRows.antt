@@ -11,7 +11,7 @@ use Rattle.model.specs.Operations.{judging}
 use Rattle.model.specs.laws.QuickJudgeLaw.{tabulate, cellAt, rounds, compareQuick, firstQuick, judgeQuick, quick}
 use Rattle.renaming.specs.Ordering.{insert, union, placeIn}
 use Rattle.renaming.specs.Renaming.{meetFrom, metBy, order, numberOf, numbered, numbering}
-use Rattle.worked.specs.Sheets.{p9machine, bababa, p9}
+use Rattle.worked.specs.Sheets.{p9}
 use Rattle.worked.specs.Rows.{computing, sheetOf}
 
 -- P9 with states 1 and 2 exchanged

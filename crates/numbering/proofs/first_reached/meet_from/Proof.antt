@@ -6,7 +6,7 @@ use Rattle.renaming.specs.Renaming.{meetFrom}
 use Rattle.renaming.specs.laws.MetLaw.{Met}
 use Rattle.renaming.specs.laws.MarkLaw.{Marked}
 use Rattle.numbering.specs.words.Searched.{Searched}
-use Rattle.numbering.proofs.SearchLaw.{at-place, from-none, from-room, from-more, from-all}
+use Rattle.numbering.proofs.SearchLaw.{read-there, from-none, from-room, from-more, from-all}
 use Rattle.numbering.proofs.first_reached.meet_from.Statement.{statement}
 use Rattle.numbering.proofs.first_reached.meet_from.Tie as tie
 
@@ -24,7 +24,7 @@ meet-requires c κs =
     let at-loop = at-loop-test .before in
     let entry = at-loop .before in
     let p = entry .pre in
-    let is = at-place (p .2) _ _ _ (p .3) (at-loop-test .loop-test .taken) (at-place .place .ensures .0) in
+    let is = read-there (p .2) _ _ _ (p .3) (at-loop-test .loop-test .taken) (at-place .place .ensures .0) in
     (_, at-loop .loop .inv .1 (p .0) (p .1) (p .2) (p .3) (p .4) (p .5), from-room (p .2) _ (p .3) (p .1) _ (at-loop-test .loop-test .taken) _ is (p .4))
 
 add-x : tie.Need-add-x Inv-loop μ-loop
@@ -46,7 +46,7 @@ loop-again c =
     let at-loop = at-loop-test .before in (
       omega (arith, at-loop-test .loop-test .taken),
       λ sh met h l hm m.
-          let is = at-place h _ _ _ l (at-loop-test .loop-test .taken) (at-place .place .ensures .0) in
+          let is = read-there h _ _ _ l (at-loop-test .loop-test .taken) (at-place .place .ensures .0) in
           from-more h _ l met _ (at-loop-test .loop-test .taken) _ is
           (c .meet .ensures _ (at-loop .loop .inv .1 sh met h l hm m) (from-room h _ l met _ (at-loop-test .loop-test .taken) _ is hm)),
     )
