@@ -57,8 +57,8 @@ enum ranthelo_refusal {
     RANTHELO_SHORT_BUFFER = 16,    /* a buffer is too short; place 0, or 1 for the sequence buffer of Judge and Take */
     RANTHELO_NO_TEST = 17,         /* there is no such test; place 0 */
     RANTHELO_NO_ROOM = 18,         /* the next test does not fit: 256 tests or 16,384 bytes would be passed; place 0 */
-    RANTHELO_OTHER_MACHINE = 21    /* SIZE, QUIET or the RULEs of two sheets differ; place 0 */
-    RANTHELO_NO_ROOM = 18,         /* the next test does not fit: 256 tests or 16,384 bytes would be passed; place 0 */
+    RANTHELO_BAD_RECORD = 20,      /* a command of a record is cut, unknown, out of range, or a SEEN before any PULSE; place its offset */
+    RANTHELO_OTHER_MACHINE = 21,   /* SIZE, QUIET or the RULEs of two sheets differ; place 0 */
     RANTHELO_NOT_COMPLETE = 22,    /* a station's first or changed sheet has a list that is not complete; place 0 */
     RANTHELO_NOT_EQUAL = 23,       /* a changed sheet differs in what is in use, or comes after the verdict; place 0 */
     RANTHELO_NO_PRESS_DUE = 24     /* a sound when no press is due, or one not below the number of sounds; place 0 */

@@ -1,6 +1,6 @@
 //! Answers as the command prints them.
 
-use crate::{Comparison, Failure, Names, Run, Summary, Trial, Verdict};
+use crate::{Comparison, Failure, Names, Passing, Recorded, Run, Step, Summary, Trial, Verdict};
 use std::fmt::{self, Display, Formatter};
 
 /// A name and what follows it, with one blank between: `board 0 1`.
@@ -94,6 +94,58 @@ impl Verdict {
                 )
             }
         }
+    }
+}
+
+/// `differs 4` or `as specified`; `given by a board` or `given by no board`
+impl Display for Recorded {
+    fn fmt(&self, f: &mut Formatter) -> fmt::Result {
+        match self.differs {
+            Some(place) => writeln!(f, "differs {place}")?,
+            None => writeln!(f, "as specified")?,
+        }
+        let whose = if self.given { "a" } else { "no" };
+        write!(f, "given by {whose} board")
+    }
+}
+
+/// `board 0 1 conforms`, or `board 0 2 departs 0 1 0`
+impl Display for Passing {
+    fn fmt(&self, f: &mut Formatter) -> fmt::Result {
+        f.write_str(&self.named(&Names::default()))
+    }
+}
+
+impl Passing {
+    /// `board 0 1 conforms`, or `board 0 2 departs 0 1 0`, in the words of names.
+    pub fn named(&self, names: &Names) -> String {
+        let board = fields("board", &self.board);
+        let told = match &self.comparison {
+            Comparison::Conforms => "conforms".to_string(),
+            Comparison::Departs { sequence } => {
+                fields("departs", sequence.iter().map(|&press| names.press(press)))
+            }
+        };
+        format!("{board} {told}")
+    }
+}
+
+/// `pulse`, `press 0`, `pass`, or `fails test 0 position 1`
+impl Display for Step {
+    fn fmt(&self, f: &mut Formatter) -> fmt::Result {
+        match self {
+            Step::Pulse { .. } => f.write_str("pulse"),
+            Step::Press { press, .. } => write!(f, "press {press}"),
+            Step::Pass => f.write_str("pass"),
+            Step::Failure(failure) => write!(f, "{failure}"),
+        }
+    }
+}
+
+/// `fails test 0 position 1`
+impl Display for Failure {
+    fn fmt(&self, f: &mut Formatter) -> fmt::Result {
+        write!(f, "fails test {} position {}", self.test, self.position)
     }
 }
 

@@ -10,6 +10,7 @@ mod making;
 mod manual;
 mod near;
 mod output;
+mod state;
 mod table;
 mod words;
 mod work;

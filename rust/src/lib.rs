@@ -52,10 +52,13 @@ mod operations;
 pub mod raw;
 pub mod records;
 mod refusal;
+pub mod score;
 mod station;
 pub mod text;
+mod walk;
 
 pub use names::{Named, Names};
+pub use operations::check_record as check_log;
 pub use operations::{
     Comparison, Failure, Made, MergeRefusal, Passing, Place, Recorded, Run, Summary, Trial, Used,
     Verdict, add_test, check_record, compare, explain_record, first_failed, generate, judge, make,
@@ -64,6 +67,7 @@ pub use operations::{
 pub use raw::Tables;
 pub use refusal::{Kind as RefusalKind, Refusal, meaning};
 pub use station::{Station, Step};
+pub use walk::Walk;
 
 /// The most bytes that a sheet has.
 pub const MOST_BYTES: usize = 16_384;

@@ -107,6 +107,26 @@ impl Names {
         u8::try_from(number).ok()
     }
 
+    /// The number that a word stands for: the one that has this name, or itself; or what is wrong with the word.
+    ///
+    /// ```
+    /// use ranthelo::{Named, Names};
+    ///
+    /// let names = Names { presses: vec!["knock".to_string()], ..Names::default() };
+    /// assert_eq!((names.value(Named::Press, "knock"), names.value(Named::Press, "7")), (Ok(0), Ok(7)));
+    /// let wrong = names.value(Named::Press, "kick").unwrap_err();
+    /// assert_eq!(wrong, "kick is no number and no name of a press");
+    /// ```
+    pub fn value(&self, kind: Named, word: &str) -> Result<u8, String> {
+        let named = self.number(kind, word).map(Ok);
+        named
+            .unwrap_or_else(|| number(word))
+            .map_err(|what| match self.of(kind) {
+                [_, ..] if !is_digits(word) => format!("{what} and no name of a {}", kind.one()),
+                _ => what,
+            })
+    }
+
     /// What a state is called.
     pub fn state(&self, state: u8) -> String {
         self.called(Named::State, state)
@@ -139,5 +159,18 @@ impl Names {
             self.sound(to.sound),
             self.state(to.next)
         )
+    }
+}
+
+fn is_digits(word: &str) -> bool {
+    word.bytes().all(|digit| digit.is_ascii_digit())
+}
+
+/// The value of a number from 0 to 255, or what is wrong with it.
+pub(crate) fn number(word: &str) -> Result<u8, String> {
+    match word.parse() {
+        Ok(value) if is_digits(word) => Ok(value),
+        _ if is_digits(word) && !word.is_empty() => Err(format!("{word} is not 0 to 255")),
+        _ => Err(format!("{word} is no number")),
     }
 }

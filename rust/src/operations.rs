@@ -101,6 +101,7 @@ pub enum Place {
 
 /// A board that passes the list, or gives a record, and what it is beside the specification.
 #[derive(Clone, Debug, PartialEq, Eq)]
+#[must_use]
 pub struct Passing {
     /// Its choices.
     pub board: Vec<u8>,

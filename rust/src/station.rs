@@ -5,6 +5,7 @@ use crate::{Failure, Refusal, raw, read};
 
 /// What is to be done next with the lock, or the verdict on it.
 #[derive(Clone, Copy, Debug, PartialEq, Eq)]
+#[must_use]
 pub enum Step {
     /// Wake the lock anew: a test begins.
     Pulse {
@@ -42,6 +43,7 @@ pub enum Step {
 /// # Ok::<(), Box<dyn std::error::Error>>(())
 /// ```
 #[derive(Clone, Debug, PartialEq, Eq)]
+#[must_use]
 pub struct Station {
     sheet: Vec<u8>,
     state: [usize; 4],

@@ -28,6 +28,8 @@ mod order;
 pub use lines::Text;
 pub use mistakes::{Mistake, Mistakes};
 
+pub(crate) use lines::{Words, control_bytes, hexadecimal, worded};
+
 use crate::Names;
 use crate::commands::{Command, commands};
 

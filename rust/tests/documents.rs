@@ -211,7 +211,12 @@ fn refusal_in_words(example: &str) -> Refusal {
             let [number, place, ..] = answer;
             Refusal { number, place }
         }
-        "a station begun with P1" => Station::begin(&sheet("P1")).unwrap_err(),
+        "P4 with two boards `0 0 3 2`" => {
+            ranthelo::tray(&sheet("P4"), 2, &[0, 0, 3, 2]).unwrap_err()
+        }
+        "a record `10 11 02 00` of P1" => {
+            ranthelo::check_record(&sheet("P1"), &[0x10, 0x11, 2, 0]).unwrap_err()
+        }
         "a station of P2 given P10" => station().change(&sheet("P10")).unwrap_err(),
         "a station of P2 that gets a sound at once" => station().sound(0).unwrap_err(),
         other => panic!("{other}"),

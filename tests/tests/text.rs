@@ -1,6 +1,8 @@
 //! The text form of sheets: to bytes and back.
 
+use ranthelo::records::{self, Record, PULSE, SEEN};
 use ranthelo::text::{assemble, bytes_of, disassemble, is_text, line_at};
+use ranthelo::Names;
 use ranthelo_tests::generator::{self, Random, LARGE, SMALL};
 use ranthelo_tests::listed::{self, spelled};
 use ranthelo_tests::reference::read;
@@ -90,6 +92,32 @@ fn damaged_texts() {
             for mistake in mistakes.iter() {
                 assert!((1..=lines).contains(&mistake.line), "{mistake}");
             }
+        }
+    }
+}
+
+/// The text form of records: to bytes and back.
+#[test]
+fn records() {
+    let mut random = Random::new(0x5EED_0050);
+    for i in 0..20_000 {
+        let bytes: Vec<u8> = (0..random.below(20))
+            .flat_map(|_| match random.below(if i % 2 == 0 { 2 } else { 3 }) {
+                0 => vec![PULSE],
+                1 => vec![SEEN, random.below(256) as u8, random.below(256) as u8],
+                _ => vec![random.below(256) as u8],
+            })
+            .collect();
+        let text = records::spelled(&bytes, &Names::default());
+        let record = Record::read(text.as_bytes(), &Names::default());
+        assert_eq!(
+            record.map(|record| record.bytes),
+            Ok(bytes.clone()),
+            "{text}"
+        );
+        if i % 2 == 0 {
+            let same = Record::read(&bytes, &Names::default());
+            assert_eq!(same.map(|record| record.bytes), Ok(bytes), "{text}");
         }
     }
 }

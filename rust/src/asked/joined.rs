@@ -72,7 +72,7 @@ pub fn changed(before: &[u8], changed: &Machine, begun: usize, over: bool) -> Op
     let differs = (0..begun).find(|&test| before.tests.get(test) != changed.tests.get(test))?;
     let begun = many(begun, "test");
     Some(match changed.tests.get(differs) {
-        None => format!("{begun} have begun, and the changed sheet has no test {differs}"),
-        Some(_) => format!("{begun} have begun, and test {differs} is another"),
+        None => format!("{begun} begun, and the changed sheet has no test {differs}"),
+        Some(_) => format!("{begun} begun, and test {differs} is another"),
     })
 }

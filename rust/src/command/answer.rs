@@ -65,6 +65,20 @@ pub fn on_sheets(
     Ok(status)
 }
 
+/// Prints the answer on one sheet: its lines, or an object if that is asked for, or nothing.
+pub fn print_answer(
+    arguments: &Arguments,
+    input: &Input,
+    lines: &str,
+    fields: Fields,
+) -> Result<(), Failure> {
+    match arguments {
+        arguments if arguments.has(JSON.name) => print_json(&input.name, &input.names, fields),
+        arguments if arguments.has(QUIET.name) => Ok(()),
+        _ => print(lines.as_bytes()),
+    }
+}
+
 /// The answer where there is none.
 fn failed(failure: Failure) -> Answer {
     Answer {

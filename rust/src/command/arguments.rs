@@ -162,23 +162,16 @@ impl Arguments {
         let text = self.value(option).unwrap_or_default().to_string_lossy();
         let numbers = text.split([' ', ',']).filter(|number| !number.is_empty());
         let number = |word: &str| {
-            numbered(word, kind, names).map_err(|what| self.wrong(format!("{option}: {what}")))
+            value(word, kind, names).map_err(|what| self.wrong(format!("{option}: {what}")))
         };
         numbers.map(number).collect()
     }
 }
 
-/// The number that a word stands for.
-pub fn numbered(word: &str, kind: Option<Named>, names: &Names) -> Result<u8, String> {
-    if let Some(number) = kind.and_then(|kind| names.number(kind, word)) {
-        return Ok(number);
+/// The number that a word of a list stands for; a board's choices have no names.
+fn value(word: &str, kind: Option<Named>, names: &Names) -> Result<u8, String> {
+    match kind {
+        Some(kind) => names.value(kind, word),
+        None => Names::default().value(Named::State, word),
     }
-    word.parse()
-        .map_err(|error: std::num::ParseIntError| match error.kind() {
-            IntErrorKind::PosOverflow => format!("{word} is not 0 to 255"),
-            _ => match kind.filter(|&kind| !names.of(kind).is_empty()) {
-                Some(kind) => format!("{word} is no number and no name of a {}", kind.one()),
-                None => format!("{word} is no number"),
-            },
-        })
 }

@@ -98,6 +98,11 @@ impl Failure {
         self.fields.clone()
     }
 
+    /// All of it on one line.
+    pub fn said(&self) -> String {
+        self.told.join("; ")
+    }
+
     pub fn tell(&self) {
         for line in &self.told {
             output::tell(line);

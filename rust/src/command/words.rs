@@ -1,12 +1,18 @@
 //! The words: what each takes, what it is for, and which function does it.
 
 mod boards;
+mod joining;
 mod judging;
 mod options;
+mod recording;
+mod renumbering;
 mod rows;
 mod sheets;
 mod showing;
+mod stations;
 mod telling;
+mod trays;
+mod walking;
 
 use super::table::{Choice, Does, Takes, Word};
 
@@ -100,6 +106,110 @@ until then. Status 0 or 1.",
             Does::Answers(boards::compare),
             "Prints conforms, or departs and the presses of the shortest departing sequence. Status 0 or 1.",
         )
+    },
+    Word {
+        name: "walk",
+        purpose: "every board that passes the list, and whether it conforms",
+        takes: SHEET,
+        options: &[&AFTER, &MOST_BOARDS, &DEPARTING, &COUNT, &NAMES, &SORT, &JSON, &QUIET],
+        needs: &[],
+        details: "\
+Prints a line for each board in dictionary order, as it is found: board, its choices, and conforms, or departs and the presses
+of its shortest departing sequence; then end, or more if --most boards were told and others are left. With --count how many
+pass, conform and depart; of a whole walk also the mutation score: of the departing boards those that fail the list, and how
+many depart. Status 0; 1 if a departing board was met; 2.",
+        does: Does::Performs(walking::walk),
+    },
+    Word {
+        name: "tray",
+        purpose: "the first failed test of each of many boards",
+        takes: Takes::piped(&["SHEET", "BOARDS"]),
+        options: &[&SORT, &JSON, &QUIET],
+        needs: &[],
+        details: "\
+BOARDS has a board a line, as 0 1 or 0,1, or as walk prints them; # begins a comment. Prints a line for each board: board, its
+choices, and passes, or fails and the test. Status 0; 1 if one fails; 2.",
+        does: Does::Performs(trays::tray),
+    },
+    Word {
+        name: "add",
+        purpose: "the sheet with one test more",
+        takes: SHEET,
+        options: &[&NEW_TEST, &OUTPUT, &TEXT, &SORT, &JSON],
+        needs: &[&NEW_TEST],
+        details: "\
+Writes the sheet with the test after its own. With --text a text stays as it is, comments too, and the new line follows.
+Status 0 or 2.",
+        does: Does::Performs(walking::add),
+    },
+    Word {
+        name: "log",
+        purpose: "whether a lock's record is as specified, and whether some board gives it",
+        takes: Takes::piped(&["SHEET", "RECORD"]),
+        options: &[&EXPLAIN, &SORT, &JSON, &QUIET],
+        needs: &[],
+        details: "\
+RECORD is bytes, 10 for a fresh start and 11 x o for a press and its sound, or a text: PULSE 0/0 1/1 with presses and sounds, and
+SEEN 0 1 for one of them on a line of its own; presses and sounds may be names of the sheet's text. Prints differs and the place
+of the first sound that is not the specified one, or as specified; and given by a board, or given by no board. With --explain
+the pulse, the position and the line, and the first board that gives the record. Status 0; 1 if it differs or no board gives
+it; 2.",
+        does: Does::Performs(recording::log),
+    },
+    Word {
+        name: "merge",
+        purpose: "one sheet from two of the same machine",
+        takes: Takes::these(&["FIRST", "SECOND"]),
+        options: &[&OUTPUT, &TEXT, &SORT, &JSON],
+        needs: &[],
+        details: "\
+Writes the sheet with the FAULTs and STARTs of both, each once, and the first sheet's tests followed by the second's. With
+--text the first text stays as it is, comments too, and the lines of the second are put in. Status 0 or 2.",
+        does: Does::Performs(joining::merge),
+    },
+    Word {
+        name: "renumber",
+        purpose: "the sheet with its states in first-reached order",
+        takes: SHEET,
+        options: &[&OUTPUT, &TEXT, &SORT, &JSON],
+        needs: &[],
+        details: "\
+Writes the sheet with states numbered as breadth-first search meets them, from state 0, presses ascending, by RULEs alone.
+Names go with their states. Status 0 or 2.",
+        does: Does::Performs(renumbering::renumber),
+    },
+    Word {
+        name: "same",
+        purpose: "whether two sheets are one with states renamed",
+        takes: Takes::these(&["FIRST", "SECOND"]),
+        options: &[&SORT, &JSON, &QUIET],
+        needs: &[],
+        details: "Prints same or different. Status 0 or 1; 2 if one of them is refused.",
+        does: Does::Performs(renumbering::same),
+    },
+    Word {
+        name: "station",
+        purpose: "drives a lock through a complete list",
+        takes: Takes::these(&["SHEET"]),
+        options: &[&STATE, &NAMES, &SORT],
+        needs: &[],
+        details: "\
+Reads lines from standard input and answers each with a line. next: pulse, press X, pass, or fails test T position P. sound O:
+taken, fails .., or refused .. and why. sheet FILE: taken, and the station goes on with that sheet at the same press, or
+refused ... With --state it goes on where it was stopped, with the sheet that it had. Status 0 if the lock passes, 1 if it
+fails, 2 if the sheet is refused, 3 if the input ends before the verdict.",
+        does: Does::Performs(stations::station),
+    },
+    Word {
+        name: "lock",
+        purpose: "a board that answers a station, for a bench without a lock",
+        takes: Takes::these(&["SHEET"]),
+        options: &[&BOARD, &SORT],
+        needs: &[&BOARD],
+        details: "\
+Prints next, then answers each line of standard input: pulse and taken with next, press X with the sound that the board gives.
+It ends at pass or fails. Joined to a station by two pipes both end with the verdict: status 0, or 1 for a failure.",
+        does: Does::Performs(stations::lock),
     },
     Word {
         name: "assemble",

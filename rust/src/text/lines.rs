@@ -31,10 +31,10 @@ pub struct Text {
 }
 
 /// The words of a line, before a comment.
-struct Words<'a> {
-    number: usize,
-    first: &'a str,
-    rest: Vec<&'a str>,
+pub(crate) struct Words<'a> {
+    pub number: usize,
+    pub first: &'a str,
+    pub rest: Vec<&'a str>,
 }
 
 impl Text {
@@ -103,7 +103,7 @@ impl Text {
 }
 
 /// Bytes that stand in no text, the first of each line.
-fn control_bytes(source: &[u8]) -> Vec<Mistake> {
+pub(crate) fn control_bytes(source: &[u8]) -> Vec<Mistake> {
     let lines = source.split(|&byte| byte == b'\n').enumerate();
     let first = |line: &[u8]| {
         line.iter()
@@ -116,7 +116,7 @@ fn control_bytes(source: &[u8]) -> Vec<Mistake> {
 }
 
 /// The lines that have words.
-fn worded(source: &str) -> impl Iterator<Item = Words<'_>> {
+pub(crate) fn worded(source: &str) -> impl Iterator<Item = Words<'_>> {
     source.split('\n').enumerate().filter_map(|(i, line)| {
         let told = line.split('#').next()?;
         let mut words = told.split_whitespace();
@@ -198,7 +198,7 @@ fn wrong_number(kind: &Kind, given: usize) -> String {
     }
 }
 
-fn hexadecimal(digits: &str) -> Result<u8, String> {
+pub(crate) fn hexadecimal(digits: &str) -> Result<u8, String> {
     let number = digits.len() == 2 && digits.bytes().all(|digit| digit.is_ascii_hexdigit());
     let value = number.then(|| u8::from_str_radix(digits, 16).ok());
     value

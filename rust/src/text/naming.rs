@@ -2,7 +2,7 @@
 
 use super::mistakes::Mistake;
 use crate::Names;
-use crate::names::Named;
+use crate::names::{Named, number};
 
 /// A line that names all states, presses or sounds.
 pub struct Naming<'a> {
@@ -61,20 +61,11 @@ pub fn lines(names: &Names) -> Vec<String> {
         .collect()
 }
 
-/// The number that a word stands for as an operand of some kind, or what is wrong with it.
-pub fn value(names: &Names, operand: &str, word: &str) -> Result<u8, String> {
-    let kind = Named::of_operand(operand);
-    if let Some(number) = kind.and_then(|kind| names.number(kind, word)) {
-        return Ok(number);
-    }
-    let numeric = word.bytes().all(|digit| digit.is_ascii_digit());
-    match word.parse() {
-        Ok(number) if numeric => Ok(number),
-        _ if numeric => Err(format!("{word} is not 0 to 255")),
-        _ => Err(match kind.filter(|&kind| !names.of(kind).is_empty()) {
-            Some(kind) => format!("{word} is no number and no name of a {}", kind.one()),
-            None => format!("{word} is no number"),
-        }),
+/// The number that a word stands for as an operand of a command, or what is wrong with it.
+pub fn value(names: &Names, what: &str, word: &str) -> Result<u8, String> {
+    match Named::of_operand(what) {
+        Some(kind) => names.value(kind, word),
+        None => number(word),
     }
 }
 

@@ -35,6 +35,23 @@ pub static PRESS: Choice = valued(
     "LIST",
     "the presses, as 0,1,0 or '0 1 0', or by name",
 );
+pub static NEW_TEST: Choice = valued(
+    "--test",
+    "LIST",
+    "the presses of the test, as 0,1,0 or '0 1 0', or by name",
+);
+pub static AFTER: Choice = valued(
+    "--after",
+    "LIST",
+    "go on after this board, which need not pass",
+);
+pub static DEPARTING: Choice = flag("--departing", "tell departing boards alone");
+pub static COUNT: Choice = flag("--count", "tell how many there are, not each of them");
+pub static STATE: Choice = valued(
+    "--state",
+    "FILE",
+    "keep the state in this file, and go on where it left off",
+);
 pub static TEST: Choice = valued(
     "--test",
     "NUMBER",
@@ -43,6 +60,7 @@ pub static TEST: Choice = valued(
 pub static OUTPUT: Choice = valued("-o", "FILE", "write to this file; - is standard output");
 pub static TEXT: Choice = flag("--text", "write the text form and not the bytes");
 pub static TESTS: Choice = flag("--tests", "write the new TEST lines alone");
+pub static MOST_BOARDS: Choice = valued("--most", "NUMBER", "tell at most so many boards");
 pub static MOST: Choice = valued("--most", "NUMBER", "append at most so many tests");
 pub static OUTPUTS: Choice = flag("--output", "another sound, the same next state");
 pub static TRANSFERS: Choice = flag("--transfer", "the same sound, another next state");
