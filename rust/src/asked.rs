@@ -4,10 +4,16 @@
 mod joined;
 mod records;
 
-use crate::commands::{END, PRESS, TEST};
 use crate::explain::reason_named;
 use crate::machine::Machine;
-use crate::{MOST_BYTES, MOST_PRESSES, MOST_TESTS, Names, Refusal, Verdict, judge, meaning, read};
+use crate::{
+    MOST_BYTES, MOST_PRESSES, MOST_TESTS, Names, Refusal, RefusalKind, Verdict, add_test, judge,
+    meaning, read,
+};
+use std::time::{Duration, Instant};
+
+/// How long is looked for the figures of a refusal that the library gave.
+const PATIENCE: Duration = Duration::from_secs(3);
 
 /// What an operation took beside the sheet.
 #[derive(Clone, Copy, Debug)]
@@ -227,36 +233,35 @@ fn spaced(numbers: &[u8]) -> String {
     list.join(" ")
 }
 
-/// The sheet with a test more, and whether it has room for it.
-pub(crate) fn with_test(sheet: &[u8], presses: &[u8]) -> Vec<u8> {
-    let before = sheet.strip_suffix(&[END]).unwrap_or(sheet);
-    let presses: Vec<u8> = presses.iter().flat_map(|&x| [PRESS, x]).collect();
-    [before, &[TEST], &presses, &[END]].concat()
-}
-
-/// Which limit keeps the next test from being appended: the tests are made once more, one after the other.
+/// Which limit keeps the next test from being appended: the tests are made once more, one after the other. None if that
+/// takes too long.
 fn full(sheet: &[u8]) -> Option<String> {
     let (own, mut sheet) = (read(sheet).ok()?.tests, sheet.to_vec());
-    loop {
-        let tests = read(&sheet).ok()?.tests;
-        if tests == MOST_TESTS {
-            return Some(format!(
-                "the next test does not fit: {tests} tests stand, {own} of them its own"
-            ));
-        }
+    let begin = Instant::now();
+    while begin.elapsed() < PATIENCE {
         let Verdict::Survivor { sequence, .. } = judge(&sheet).ok()? else {
             return None;
         };
-        let longer = with_test(&sheet, &sequence);
-        if longer.len() > MOST_BYTES {
-            let (presses, length) = (many(sequence.len(), "press"), longer.len());
-            return Some(format!(
-                "the next test does not fit: with its {presses} the sheet would have {length} bytes, over {MOST_BYTES}; \
-                 {tests} tests stand, {own} of them its own"
-            ));
+        match add_test(&sheet, &sequence) {
+            Ok(longer) => sheet = longer,
+            Err(refusal) => return Some(no_room(&sheet, &sequence, own, refusal)),
         }
-        sheet = longer;
     }
+    None
+}
+
+/// Why a test is not added to a list of which so many tests were there before.
+fn no_room(sheet: &[u8], sequence: &[u8], own: usize, refusal: Refusal) -> String {
+    let tests = read(sheet).map_or(0, |summary| summary.tests);
+    let stand = format!("{tests} tests stand, {own} of them its own");
+    if refusal.kind() == RefusalKind::TooMany {
+        return format!("the next test does not fit: {stand}");
+    }
+    let length = sheet.len() + 1 + 2 * sequence.len();
+    let presses = many(sequence.len(), "press");
+    format!(
+        "the next test does not fit: with its {presses} the sheet would have {length} bytes, over {MOST_BYTES}; {stand}"
+    )
 }
 
 /// What a list lacks.

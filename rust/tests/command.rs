@@ -6,7 +6,7 @@ use common::{command, examples, file, gives, output, output_on, status, text};
 use std::fs::{self, File};
 
 /// The words that take a sheet, with the options that they need.
-const WORDS: [&[&str]; 10] = [
+const WORDS: [&[&str]; 14] = [
     &["judge"],
     &["make"],
     &["read"],
@@ -17,6 +17,10 @@ const WORDS: [&[&str]; 10] = [
     &["write"],
     &["list"],
     &["draw"],
+    &["faults", "--all"],
+    &["walk"],
+    &["add", "--test", "0"],
+    &["renumber"],
 ];
 
 fn with<'a>(word: &[&'a str], more: &[&'a str]) -> Vec<&'a str> {
@@ -670,7 +674,8 @@ fn bad_usage() {
     for word in WORDS {
         let name = word[0];
         let see = format!("; see ranthelo help {name}\n");
-        let one = ["make", "assemble", "write", "draw"].contains(&name);
+        let several = ["judge", "read", "run", "first-failed", "compare", "list"];
+        let one = !several.contains(&name);
         let takes = if one { "SHEET" } else { "SHEET.." };
         let none = format!("ranthelo: {name} takes {takes} and options, 0 given{see}");
         gives(word, 3, "", &none);
@@ -728,9 +733,15 @@ fn failed_writes() {
             "{word:?}"
         );
     }
-    for word in ["make", "assemble", "write", "draw"] {
-        let told = "ranthelo: /dev/full: No space left on device (os error 28)\n";
-        gives(&[word, "P2.sheet", "-o", "/dev/full"], 3, "", told);
+    for word in WORDS {
+        if [
+            "make", "assemble", "write", "draw", "faults", "add", "renumber",
+        ]
+        .contains(&word[0])
+        {
+            let told = "ranthelo: /dev/full: No space left on device (os error 28)\n";
+            gives(&with(word, &["P2.sheet", "-o", "/dev/full"]), 3, "", told);
+        }
     }
     let nowhere = "ranthelo: no/where: No such file or directory (os error 2)\n";
     gives(

@@ -5,8 +5,7 @@ use super::input::Input;
 use super::output::tell;
 use super::work::{builder, watched};
 use ranthelo::asked::Asked;
-use ranthelo::commands::{END, PRESS, TEST};
-use ranthelo::{MOST_BYTES, MOST_TESTS, Refusal, Verdict, judge, make, read};
+use ranthelo::{Refusal, Verdict, add_test, judge, make};
 use std::sync::Arc;
 use std::sync::atomic::{AtomicUsize, Ordering};
 
@@ -57,14 +56,13 @@ fn one_by_one(sheet: &[u8], most: usize, count: &AtomicUsize) -> Result<Tests, R
         if made == most {
             break;
         }
-        let longer = with_test(&sheet, &sequence);
-        if longer.len() > MOST_BYTES || read(&sheet)?.tests == MOST_TESTS {
+        let Ok(longer) = add_test(&sheet, &sequence) else {
             let made = make(&sheet)?;
             return Ok(Tests {
                 sheet: made.sheet,
                 complete: true,
             });
-        }
+        };
         sheet = longer;
         count.store(made + 1, Ordering::Relaxed);
     }
@@ -72,10 +70,4 @@ fn one_by_one(sheet: &[u8], most: usize, count: &AtomicUsize) -> Result<Tests, R
         sheet,
         complete: false,
     })
-}
-
-/// An accepted sheet with one test more.
-fn with_test(sheet: &[u8], presses: &[u8]) -> Vec<u8> {
-    let presses: Vec<u8> = presses.iter().flat_map(|&x| [PRESS, x]).collect();
-    [&sheet[..sheet.len() - 1], &[TEST], &presses, &[END]].concat()
 }
