@@ -215,3 +215,33 @@ fn a_million_commands() {
     assert_eq!(checked_record(&p9, &log), refused(20, last + 1));
     assert_eq!(spell(&[Command::Pulse]), [0x10]);
 }
+
+/// The sheets kept for measuring, which are hard to judge: the record of each list, and with a run more that the specification
+/// gives and one that no board gives with it.
+#[test]
+fn hard_sheets() {
+    let folder = concat!(env!("CARGO_MANIFEST_DIR"), "/../bench/machines");
+    let files = std::fs::read_dir(folder).expect("the kept sheets");
+    let mut random = Random::new(0x5EED_0094);
+    let mut tried = 0;
+    for file in files {
+        let bytes = std::fs::read(file.unwrap().path()).unwrap();
+        let sheet = read(&bytes).expect("an accepted sheet").sheet;
+        let machine = Machine::new(&sheet);
+        let first = vec![0; machine.counts().len()];
+        let walk = generator::walk(&mut random, &sheet, 24);
+        let mut tests = [&sheet.tests[..], &[walk.clone()]].concat();
+        let log = record_of(&machine, &first, &tests);
+        let told = checked_record(&bytes, &log).unwrap();
+        assert_eq!(told, Recorded { differs: None, given: true });
+        // the same run twice, the second time with another sound at its end
+        tests.push(walk);
+        let mut log = record_of(&machine, &first, &tests);
+        let last = log.len() - 1;
+        log[last] = (log[last] + 1) % sheet.sounds;
+        let told = checked_record(&bytes, &log).unwrap();
+        assert_eq!(told, Recorded { differs: Some(last - 2), given: false });
+        tried += 1;
+    }
+    assert!(tried > 10);
+}
