@@ -2,15 +2,13 @@
  *
  * Link with target/staticlib/libranthelo.a (made by `rt staticlib ranthelo`); it needs nothing else. A sheet, a board, presses,
  * tables and buffers are lent for the call only. Each pointer is valid for its length and not null, even at length 0; a buffer that is
- * written, `answer` and `nodes` overlap nothing else that is lent. Each function fills `answer`, whose first two numbers are the
- * refusal's number (0: none) and place; after a refusal the others are 0 (but Merge tells the sheet concerned) and every lent buffer is as it was.
  * written, `answer`, `state` and `nodes` overlap nothing else that is lent. Each function fills `answer`, whose first two numbers are the
- * refusal's number (0: none) and place; after a refusal the others are 0 and every lent buffer is as it was.
+ * refusal's number (0: none) and place; after a refusal the others are 0 (but Merge tells the sheet concerned) and every lent buffer is
+ * as it was.
  *
  * Threads: the library keeps nothing between calls and has no memory of its own, so any number of threads may call it at once.
- * Stack: a thread that calls it has RANTHELO_STACK bytes free. Judging, taking and making need about half of that, the other functions a tenth; with less
- * Stack: a thread that calls it has RANTHELO_STACK bytes free. Judging and making, and with them a station's Begin and Change, need about half of that, the other functions a tenth; with less
- * the stack overflows, unchecked. No heap is used. */
+ * Stack: a thread that calls it has RANTHELO_STACK bytes free. Judging, taking, making, records and a station's Begin and Change need
+ * about half of that, the other functions a tenth; with less the stack overflows, unchecked. No heap is used. */
 #ifndef RANTHELO_H
 #define RANTHELO_H
 
@@ -54,7 +52,8 @@ enum ranthelo_refusal {
     RANTHELO_BOARD_LENGTH = 13,    /* the board's length is not the number of open pairs; place 0 */
     RANTHELO_BAD_CHOICE = 14,      /* a choice is not below its pair's number of choices; place its index */
     RANTHELO_BAD_PRESS = 15,       /* a press is not below the number of presses; place its index */
-    RANTHELO_SHORT_BUFFER = 16,    /* a buffer is too short; place 0, or 1 for the sequence buffer of Judge and Take */
+    RANTHELO_SHORT_BUFFER = 16,    /* a buffer is too short; place 0, or 1 for the sequence buffer of Judge, Take and
+                                      Record board */
     RANTHELO_NO_TEST = 17,         /* there is no such test; place 0 */
     RANTHELO_NO_ROOM = 18,         /* the next test does not fit: 256 tests or 16,384 bytes would be passed; place 0 */
     RANTHELO_BAD_RECORD = 20,      /* a command of a record is cut, unknown, out of range, or a SEEN before any PULSE; place its offset */
@@ -276,7 +275,8 @@ void ranthelo_merge(const uint8_t *first, size_t first_len, const uint8_t *secon
  * sheet and the state that the one before left, the lock gets each pulse and press once, in order and nothing else, and its sounds are
  * those taken, then a lock that is passed and behaves as a board of the last sheet gives every specified sound on every list of fresh
  * starts and presses. Any four numbers are a state: a press that is due is any number but 0, a failure any verdict but 0 and 1, and a
- * verdict goes before a press that is due. */
+ * verdict goes before a press that is due. A press that the sheet does not have counts as none: Next goes on, and Sound gets 24, as it
+ * does after a verdict. A failure with no test begun is told as test 0. Next and Sound read the lent sheet first. */
 enum ranthelo_station_state {
     RANTHELO_STATION_BEGUN = 0,    /* how many tests have begun; the current one is the last of them */
     RANTHELO_STATION_POSITION = 1, /* how many sounds of it were taken: the position of the press that is due, or of the next */
@@ -305,15 +305,15 @@ enum ranthelo_station_kind {
  * that begins the next test; or pass. The lock gets a press that is given again only once. */
 enum ranthelo_station_next_answer {
     RANTHELO_STATION_NEXT_KIND = 2,  /* RANTHELO_STATION_PULSE and so on */
-    RANTHELO_STATION_NEXT_FIRST = 3, /* of a pulse the test, from 0; of a press the press; of a failure its test */
-    RANTHELO_STATION_NEXT_PLACE = 4, /* of a press its position, from 0; of a failure the position of the wrong sound */
+    RANTHELO_STATION_NEXT_FIRST = 3, /* of a pulse the test, from 0; of a press the press; of a failure its test; of pass 0 */
+    RANTHELO_STATION_NEXT_PLACE = 4, /* of a press its position, from 0; of a failure the position of the wrong sound; else 0 */
     RANTHELO_STATION_NEXT_ANSWER = 5
 };
 
 void ranthelo_station_next(const uint8_t *sheet, size_t sheet_len, size_t state[RANTHELO_STATION_STATE],
                            size_t answer[RANTHELO_STATION_NEXT_ANSWER]);
 
-/* Sound: the sound of the press that is due (24 if none is). As specified it is taken; otherwise it is the failure, at once. */
+/* Sound: the sound of the press that is due (24 if none is, or the sound is not below the number of sounds). As specified it is taken; otherwise it is the failure, at once. */
 enum ranthelo_station_sound_answer {
     RANTHELO_STATION_SOUND_KIND = 2,     /* 0 for taken, RANTHELO_STATION_FAILURE */
     RANTHELO_STATION_SOUND_TEST = 3,     /* of the failure, from 0 */
@@ -324,7 +324,8 @@ enum ranthelo_station_sound_answer {
 void ranthelo_station_sound(const uint8_t *sheet, size_t sheet_len, size_t state[RANTHELO_STATION_STATE], uint8_t sound,
                             size_t answer[RANTHELO_STATION_SOUND_ANSWER]);
 
-/* Change: whether the station goes on at the same press with a changed sheet. Its list is complete (22); no verdict was given, and SIZE,
+/* Change: whether the station goes on at the same press with a changed sheet, which is read first. Its list is complete (22); no verdict
+ * was given, the station's own sheet is one, and SIZE,
  * QUIET, the RULEs and every test up to and including the current one are those of the station's sheet (23). From then on the caller
  * lends the changed sheet; after a refusal the old one. */
 enum ranthelo_station_change_answer {

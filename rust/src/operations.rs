@@ -450,7 +450,8 @@ pub fn make(sheet: &[u8]) -> Result<Made, Refusal> {
 pub fn tray(sheet: &[u8], boards: usize, choices: &[u8]) -> Result<Vec<Option<usize>>, Refusal> {
     // A tray that is refused needs no results: so no more are made than there are boards.
     let room = match read(sheet)?.open_pairs {
-        0 => boards,
+        0 if choices.is_empty() => boards,
+        0 => 0,
         open_pairs => boards.min(choices.len() / open_pairs),
     };
     let (mut results, mut answer) = (vec![0; room], [0; 2]);

@@ -42,7 +42,7 @@ pub record Broken (k m : ℕ) (pulsed : Bool) (rest : List ℕ) : Type 0 where
   pub no-pulse : (more : List ℕ) → rest ≡ 16 ∷ more → ⊥
   pub no-seen : (x o : ℕ) (more : List ℕ) → rest ≡ 17 ∷ x ∷ o ∷ more → x < k → o < m → pulsed ≡ false
 
--- whether there was a PULSE in a record, none stands before the first SEEN of which
+-- whether there was a PULSE, after whole commands of which the first is one
 abbrev pub pulsedIn : Bool → List Observation → Bool
 pulsedIn pulsed [] = pulsed
 pulsedIn pulsed (c ∷ l) = true

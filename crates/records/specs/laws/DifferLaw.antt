@@ -83,7 +83,20 @@ first-difference sh log = go (differsFrom (rule sh) none 0 log) (finds (rule sh)
         let e : j ≡ f .offset = omega (arith, f .place) in
         rw e (wrong-differs (rule sh) log (f .offset) (f .inside) (f .wrong), λ i l d. differs-wrong (rule sh) log i d (f .first i l))
 
--- 02: after an undefined press nothing is compared until the next PULSE
+-- 02: after an undefined press nothing is compared until the next PULSE: the press leaves the specification without a state, it stays so, and
+-- a PULSE begins in state 0
+pub undefined : (sh : Sheet) (s x : ℕ) (rest : List ℕ) → rule sh s x ≡ none →
+    (advance (rule sh) (some s) 17 (x ∷ rest) ≡ none) × (isWrong (rule sh) (some s) 17 (x ∷ rest) ≡ false)
+undefined sh s x rest e = rw e (refl, refl)
+
+pub pulsed : (sh : Sheet) (p : Option ℕ) (rest : List ℕ) → (advance (rule sh) p 16 rest ≡ some 0) × (isWrong (rule sh) p 16 rest ≡ false)
+pulsed sh p rest = (refl, refl)
+
+-- a defined press is compared, and its target follows
+pub defined : (sh : Sheet) (s x o : ℕ) (rest : List ℕ) (r : Move) → rule sh s x ≡ some r →
+    (advance (rule sh) (some s) 17 (x ∷ o ∷ rest) ≡ some (r .target)) × (isWrong (rule sh) (some s) 17 (x ∷ o ∷ rest) ≡ not (eqb (r .output) o))
+defined sh s x o rest r e = rw e (refl, refl)
+
 pub silent : (sh : Sheet) (v : ℕ) (rest : List ℕ) → (v ≡ 16 → ⊥) → (advance (rule sh) none v rest ≡ none) × (isWrong (rule sh) none v rest ≡ false)
 silent sh v rest n = rw (ne-eqb v 16 n) (go (eqb v 17))
   where
