@@ -190,6 +190,80 @@ fn refusals_are_numbered() {
     assert!(numbers.len() > 18);
 }
 
+/// Prints the version and what numbers mean, a line each, without any library.
+const WORDS: &str = r#"
+#include <stdio.h>
+#include "ranthelo.h"
+
+static void print_meaning(size_t number)
+{
+    const char *meaning = ranthelo_meaning(number);
+    printf("%s\n", meaning ? meaning : "none");
+}
+
+int main(void)
+{
+    size_t number;
+    printf("%s\n", ranthelo_version());
+    printf("%d.%d.%d\n", RANTHELO_VERSION_MAJOR, RANTHELO_VERSION_MINOR, RANTHELO_VERSION_PATCH);
+    for (number = 0; number <= 30; number++)
+        print_meaning(number);
+    print_meaning(257);
+    print_meaning(65537);
+    print_meaning((size_t)-1);
+    return 0;
+}
+"#;
+
+/// The header's words are the package's, in C of every age and in C++.
+#[test]
+fn meanings_are_those_of_the_package() {
+    let version = env!("CARGO_PKG_VERSION");
+    let numbers = (0..=30).chain([257, 65_537, usize::MAX]);
+    let meanings = numbers.map(|number| ranthelo::meaning(number).unwrap_or("none"));
+    let lines: Vec<&str> = [version, version].into_iter().chain(meanings).collect();
+    for (variable, default, standard, source) in [
+        ("CC", "cc", "-std=c89", "words-89.c"),
+        ("CC", "cc", "-std=c99", "words-99.c"),
+        ("CC", "cc", "-std=c11", "words-11.c"),
+        ("CXX", "c++", "-std=c++11", "words.cpp"),
+    ] {
+        let (source, program) = (file(source), file(&format!("{source}-built")));
+        fs::write(&source, WORDS).unwrap();
+        let mut command = compiler(variable, default, standard);
+        command.arg(&source).arg("-o").arg(&program);
+        match command.output() {
+            Err(_) if variable == "CXX" => continue,
+            built => {
+                let built = built.expect("the compiler starts");
+                assert!(built.status.success(), "{}", text(&built.stderr));
+            }
+        }
+        let printed = text(&output(&program, Stdio::null()).stdout);
+        assert_eq!(printed.lines().collect::<Vec<_>>(), lines, "{standard}");
+    }
+}
+
+/// The archive needs what the header says, where there is `nm`.
+#[test]
+fn what_the_archive_needs() {
+    let mut command = Command::new("nm");
+    let Ok(output) = command.arg("-u").arg(archive()).output() else {
+        return;
+    };
+    assert!(output.status.success(), "{}", text(&output.stderr));
+    let listing = text(&output.stdout);
+    let undefined = listing
+        .lines()
+        .filter_map(|line| line.trim().strip_prefix("U "));
+    let mut needs: Vec<&str> = undefined.collect();
+    needs.sort();
+    assert_eq!(needs, ["memcpy", "memset"]);
+    let header = header();
+    let about = header.split("*/").next().unwrap_or("");
+    assert!(needs.iter().all(|need| about.contains(need)));
+}
+
 /// The header, the package, the pkg-config file and the change log have one version; what came after it is under Next.
 #[test]
 fn one_version() {
