@@ -1,14 +1,17 @@
 /* Ranthelo for C: judges whether a test suite for a finite state machine is complete.
  *
- * Link with target/staticlib/libranthelo.a (made by `rt staticlib ranthelo`); it needs nothing else. A sheet, a board, presses,
- * tables and buffers are lent for the call only. Each pointer is valid for its length and not null, even at length 0; a buffer that is
- * written, `answer`, `state` and `nodes` overlap nothing else that is lent. Each function fills `answer`, whose first two numbers are the
- * refusal's number (0: none) and place; after a refusal the others are 0 (but Merge tells the sheet concerned) and every lent buffer is
- * as it was.
+ * Link with target/staticlib/libranthelo.a (made by `rt staticlib ranthelo`), or with the archive or the shared library that `make install`
+ * has put in its place. They are for x86-64 Linux (any such processor; position-independent code) and need memcpy and memset, which
+ * every C library has, and nothing else: no heap is used.
+ *
+ * A sheet, a board, presses, tables and buffers are lent for the call only. Each pointer is valid for its length and not null, even at
+ * length 0; a buffer that is written, `answer`, `state` and `nodes` overlap nothing else that is lent. Each function fills `answer`, whose
+ * first two numbers are the refusal's number (0: none; ranthelo_meaning has it in words) and place; after a refusal the others are 0 (but
+ * Merge tells the sheet concerned) and every lent buffer is as it was.
  *
  * Threads: the library keeps nothing between calls and has no memory of its own, so any number of threads may call it at once.
- * Stack: a thread that calls it has RANTHELO_STACK bytes free. Judging, taking, making, records and a station's Begin and Change need
- * about half of that, the other functions a tenth; with less the stack overflows, unchecked. No heap is used. */
+ * Stack: a thread that calls it has RANTHELO_STACK bytes free, 512 KiB. Judging, taking and making, records, and a station's Begin and
+ * Change need about half of that, the other functions a tenth; with less the stack overflows, unchecked. */
 #ifndef RANTHELO_H
 #define RANTHELO_H
 
@@ -19,7 +22,25 @@
 extern "C" {
 #endif
 
+/* `static inline`, for C before C99 too. */
+#if defined(__cplusplus) || (defined(__STDC_VERSION__) && __STDC_VERSION__ >= 199901L)
+#define RANTHELO_INLINE static inline
+#elif defined(__GNUC__)
+#define RANTHELO_INLINE static __inline__
+#else
+#define RANTHELO_INLINE static
+#endif
+
 #define RANTHELO_VERSION "0.7.0"
+#define RANTHELO_VERSION_MAJOR 0
+#define RANTHELO_VERSION_MINOR 7
+#define RANTHELO_VERSION_PATCH 0
+
+/* The version of the header that a program was compiled with. */
+RANTHELO_INLINE const char *ranthelo_version(void)
+{
+    return RANTHELO_VERSION;
+}
 
 /* Bytes of stack that are enough for every function. */
 #define RANTHELO_STACK 524288
@@ -62,6 +83,61 @@ enum ranthelo_refusal {
     RANTHELO_NOT_EQUAL = 23,       /* a changed sheet differs in what is in use, or comes after the verdict; place 0 */
     RANTHELO_NO_PRESS_DUE = 24     /* a sound when no press is due, or one not below the number of sounds; place 0 */
 };
+
+/* What a refusal's number means, in one line without its place; NULL for RANTHELO_ACCEPTED and for a number that no function gives. */
+RANTHELO_INLINE const char *ranthelo_meaning(size_t number)
+{
+    switch (number) {
+    case RANTHELO_TOO_LONG:
+        return "the sheet has over 16,384 bytes";
+    case RANTHELO_CUT:
+        return "the sheet ends where a command or an operand is due, or a table is cut";
+    case RANTHELO_MISPLACED:
+        return "the command is unknown or not allowed at this point";
+    case RANTHELO_BAD_SIZE:
+        return "the number of states, presses or sounds is not 1 to 16";
+    case RANTHELO_OUT_OF_RANGE:
+        return "an operand is out of range";
+    case RANTHELO_NOT_ASCENDING:
+        return "RULEs, FAULTs or STARTs do not ascend";
+    case RANTHELO_NO_ALTERNATIVE:
+        return "a FAULT has no RULE at its pair or equals it, or a START names state 0";
+    case RANTHELO_TOO_MANY:
+        return "one FAULT, TEST or PRESS too many";
+    case RANTHELO_UNDEFINED_PRESS:
+        return "a PRESS has no RULE at the state that its test has reached";
+    case RANTHELO_AFTER_END:
+        return "a byte follows END";
+    case RANTHELO_UNREACHED:
+        return "a state can't be reached from state 0 by RULEs";
+    case RANTHELO_TOO_OPEN:
+        return "over 32 open pairs";
+    case RANTHELO_BOARD_LENGTH:
+        return "the board's length is not the number of open pairs";
+    case RANTHELO_BAD_CHOICE:
+        return "a choice is not below its pair's number of choices";
+    case RANTHELO_BAD_PRESS:
+        return "a press is not below the number of presses";
+    case RANTHELO_SHORT_BUFFER:
+        return "a buffer is too short";
+    case RANTHELO_NO_TEST:
+        return "there is no such test";
+    case RANTHELO_NO_ROOM:
+        return "the next test does not fit: 256 tests or 16,384 bytes would be passed";
+    case RANTHELO_BAD_RECORD:
+        return "a command of the record is cut, unknown, out of range, or a SEEN before any PULSE";
+    case RANTHELO_OTHER_MACHINE:
+        return "SIZE, QUIET or the RULEs of the two sheets differ";
+    case RANTHELO_NOT_COMPLETE:
+        return "a first or changed sheet of a station has a list that is not complete";
+    case RANTHELO_NOT_EQUAL:
+        return "a changed sheet differs in what is in use, or comes after the verdict";
+    case RANTHELO_NO_PRESS_DUE:
+        return "a sound when no press is due, or one not below the number of sounds";
+    default:
+        return NULL;
+    }
+}
 
 /* The indexes of `answer`. The first two are those of every function. */
 enum ranthelo_answer {
