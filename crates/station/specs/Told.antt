@@ -1,5 +1,5 @@
 -- What the answers of the station's calls tell.
-use Prim.Native.Nat.{ℕ, _≤_}
+use Prim.Native.Nat.{ℕ, _<_, _≤_}
 use mathlib.Core.Path.{_≡_}
 use mathlib.Core.Bool.{true, false}
 use mathlib.Core.Logic.{_⊎_}
@@ -56,12 +56,15 @@ unfoldable pub ToldNext : List ℕ → State → Advanced → Type 0
 ToldNext s st r =
     (first : List ℕ) (calls : List Call) (h : History first calls) → lastSheet first calls ≡ s → lastState (h .start) calls ≡ st → NextSays first calls s st r
 
--- an output is taken only if an input is due: as specified, like each before it, or as the first wrong one. It is refused, with 24, only if
--- none is due or it is not below m
+-- an output is not refused exactly if an input is due and it is below m: then it is as specified, like each before it, or the first wrong one.
+-- Otherwise it is refused with 24
+abbrev pub BelowOutputs : List ℕ → ℕ → Type 0
+BelowOutputs s o = (sh : Sheet) → reading s ≡ accepted sh → o < sh .size .outputs
+
 abbrev pub TakenSays : List ℕ → List Call → List ℕ → State → ℕ → Taken → Type 0
-TakenSays first calls s st o (taken.Right left) = (dueIn calls ≡ true) × RightMeans first (calls ++ take-output s st o (taking s st o) ∷ [])
+TakenSays first calls s st o (taken.Right left) = (dueIn calls ≡ true) × BelowOutputs s o × RightMeans first (calls ++ take-output s st o (taking s st o) ∷ [])
 TakenSays first calls s st o (taken.Wrong t i left) =
-    (dueIn calls ≡ true) × FailureMeans first (calls ++ take-output s st o (taking s st o) ∷ []) (record { test = t; position = i })
+    (dueIn calls ≡ true) × BelowOutputs s o × FailureMeans first (calls ++ take-output s st o (taking s st o) ∷ []) (record { test = t; position = i })
 TakenSays first calls s st o (taken.Refused number place) =
     (number ≡ 24) × (place ≡ 0) × ((dueIn calls ≡ false) ⊎ ((sh : Sheet) → reading s ≡ accepted sh → sh .size .outputs ≤ o))
 

@@ -1,11 +1,12 @@
 -- What the answers of the station's calls tell.
-use Prim.Native.Nat.{ℕ, _-_}
+use Prim.Native.Nat.{ℕ, _-_, _<_}
 use mathlib.Core.Path.{_≡_, refl, sym, _∙_, ap, subst}
 use mathlib.Core.Bool.{Bool, true, false, not, _&&_}
 use mathlib.Core.Logic.{_⊎_, inl, inr, ⊎-elim}
 use mathlib.Core.Option.{Option, none, some}
 use mathlib.Core.List.{List, [], _∷_, _++_}
 use lib.Dec.{eqb, ltb}
+use borrow.Author.Tests.{ltb-true}
 use lib.ListN.{length}
 use Rattle.lists.specs.laws.TestLaw.{never}
 use Rattle.sheet.specs.Sheet.{Sheet}
@@ -27,10 +28,10 @@ use Rattle.station.specs.declared.Advanced.the-variants as advanced
 use Rattle.station.specs.declared.Taken.{Taken}
 use Rattle.station.specs.declared.Changed.{Changed}
 use Rattle.station.specs.declared.Changed.the-variants as changed
-use Rattle.station.specs.Station.{stateAt, fresh, isComplete, suited, beginning, inputAt, Given, onward, along, nextBy, nexting, Heard, heardAs, placeOf, taking, agrees, Agree, isOpen, changing}
+use Rattle.station.specs.Station.{stateAt, fresh, isComplete, suited, beginning, inputAt, Given, onward, along, nextBy, nexting, Heard, heardAs, placeOf, dueBy, takeBy, taking, agrees, Agree, isOpen, changing}
 use Rattle.station.specs.Answers.{begunAnswer, nextAnswer, heardOf, takenAnswer, changedAnswer}
 use Rattle.station.specs.Calls.{Call, next, take-output, sheetOf, stateOf, Answered, sheetLeft, stateLeft, Chained, History, lastSheet, lastState, dueIn, GivesPass, GivesFailure, Some, RightMeans, PassMeans, FailureMeans}
-use Rattle.station.specs.Told.{BegunSays, ToldBegun, StepSays, AdvancedSays, NextSays, ToldNext, TakenSays, ToldTaken, ChangedSays, ToldChanged}
+use Rattle.station.specs.Told.{BegunSays, ToldBegun, StepSays, AdvancedSays, NextSays, ToldNext, BelowOutputs, TakenSays, ToldTaken, ChangedSays, ToldChanged}
 use Rattle.station.specs.laws.ProgressLaw.{current-agree}
 use Rattle.station.specs.laws.AgreeLaw.{agrees-true, true-agrees}
 use Rattle.station.specs.laws.VerdictLaw.{next-left, take-left}
@@ -138,6 +139,16 @@ module _ (first : List ℕ) (calls : List Call) (h : History first calls) (c : C
   failure-more : (f : Place) → GivesFailure f c → FailureMeans first (calls ++ c ∷ []) f
   failure-more f p = failure-told first (calls ++ c ∷ []) more f (some-more (GivesFailure f) calls c p)
 
+-- an output that is taken is below m
+below : (s : List ℕ) (st : State) (o : ℕ) (g : Heard) → taking s st o ≡ accepted g → BelowOutputs s o
+unfolding taking
+below s st o g e sh read = go (dueBy (st .phase) sh st) (ltb o (sh .size .outputs)) refl (rw read at e)
+  where
+    go : (d : Option ℕ) (b : Bool) → ltb o (sh .size .outputs) ≡ b → takeBy d sh st o ≡ accepted g → o < sh .size .outputs
+    go none b eb q = never (cc)
+    go (some x) true eb q = ltb-true o (sh .size .outputs) eb
+    go (some x) false eb q = let z = rw eb at q in never (cc)
+
 module _ (s : List ℕ) (st : State) (first : List ℕ) (calls : List Call) (h : History first calls) (es : lastSheet first calls ≡ s) (et : lastState (h .start) calls ≡ st) where
   read-on : (sh : Sheet) × (reading s ≡ accepted sh)
   read-on = let f = front-told first calls h in (f .sheet, rw es at (f .read))
@@ -187,14 +198,19 @@ module _ (s : List ℕ) (st : State) (first : List ℕ) (calls : List Call) (h :
       due : dueIn calls ≡ true
       due = taken-due first calls h o g (rw (es, et) eg)
 
+      low : BelowOutputs s o
+      low = below s st o g eg
+
       says : (f : Option Place) → g .failure ≡ f → TakenSays first calls s st o (heardOf f (g .state))
       says none ef = (
         due,
+        low,
         subst (λ (r : Result Heard). RightMeans first (calls ++ take-output s st o r ∷ [])) (sym eg)
             (right-more first calls h (take-output s st o (accepted g)) es et (sym eg) (take-open s st o g eg ef)),
       )
       says (some f) ef = (
         due,
+        low,
         subst (λ (r : Result Heard). FailureMeans first (calls ++ take-output s st o r ∷ []) f) (sym eg)
             (failure-more first calls h (take-output s st o (accepted g)) es et (sym eg) f ef),
       )
