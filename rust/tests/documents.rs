@@ -424,6 +424,16 @@ fn anchor(heading: &str) -> String {
     kept.map(|c| if c == ' ' { '-' } else { c }).collect()
 }
 
+/// What is read first is at most 120 columns wide.
+#[test]
+fn lines_are_short() {
+    for name in ["README.md", "docs/GUIDE.md", "docs/FORMAT.md"] {
+        for line in document(name).lines() {
+            assert!(line.chars().count() <= 120, "{name}: {line}");
+        }
+    }
+}
+
 /// The Rust program runs in a package of its own that depends on this one.
 #[test]
 fn rust_program_in_a_fresh_package() {
