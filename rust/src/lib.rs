@@ -3,10 +3,8 @@
 //! These are safe functions over the proved library. A sheet is a string of bytes: a specified machine, the faults that
 //! production may introduce, and a list of tests. [`judge`] says whether the list is complete, and if it is not, which
 //! faulty board passes it and which test to add; [`make`] adds tests until it is. [`take`] gives the boards that pass one
-//! after another, and [`add_test`] a longer list. README.md of the repository has the format and what the answers mean.
-//! faulty board passes it and which test to add; [`make`] adds tests until it is. A [`Station`] drives a lock through a complete
-//! list. README.md of the repository has the
-//! format and what the answers mean.
+//! after another, and [`add_test`] a longer list; a [`Station`] drives a lock through a complete one. docs/FORMAT.md of the
+//! repository has the format and what the answers mean.
 //!
 //! ```
 //! use ranthelo::{Verdict, judge, text};

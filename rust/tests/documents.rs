@@ -1,17 +1,21 @@
-//! What README.md and the course show: commands with their output, sheets, programs, refusals, paths.
+//! What README.md, the guide, the format's page and the course show: commands with their output, sheets, programs, refusals,
+//! paths.
 
 mod common;
 
 use common::{output, root, text};
-use ranthelo::{Refusal, Station, raw};
+use ranthelo::raw::{self, Tables};
+use ranthelo::{MergeRefusal, Refusal, Station};
 use std::env;
 use std::fs;
 use std::os::unix::fs::symlink;
 use std::path::{Path, PathBuf};
 use std::process::Command;
 
-const DOCUMENTS: [&str; 4] = [
+const DOCUMENTS: [&str; 6] = [
     "README.md",
+    "docs/GUIDE.md",
+    "docs/FORMAT.md",
     "docs/course/1-thin-list.md",
     "docs/course/2-hiding-faults.md",
     "docs/course/3-unspecified-pair.md",
@@ -109,28 +113,37 @@ fn commands_print_what_is_shown() {
     }
 }
 
-/// A block after "This is `file`:" is that file.
+/// The file that the line before a block names, after such words.
+fn named<'a>(block: &'a Block, words: &str) -> Option<&'a str> {
+    let line = block.before.strip_suffix("`:")?;
+    line.rsplit_once(words).map(|(_, file)| file)
+}
+
+/// A block after "This is `file`:" is that file, one after "From `file`:" lines of it.
 #[test]
 fn files_are_shown_word_for_word() {
-    let mut shown = 0;
+    let (mut shown, mut parts) = (0, 0);
     for name in DOCUMENTS {
         for block in blocks(&document(name)) {
-            let shown_so = block.before.strip_suffix("`:");
-            let Some((_, file)) = shown_so.and_then(|line| line.rsplit_once("his is `")) else {
-                continue;
-            };
-            let content = document(file);
-            assert_eq!(block.lines.join("\n"), content.trim_end(), "{file}");
-            shown += 1;
+            let lines = block.lines.join("\n");
+            if let Some(file) = named(&block, "his is `") {
+                assert_eq!(lines, document(file).trim_end(), "{file}");
+                shown += 1;
+            }
+            if let Some(file) = named(&block, "rom `") {
+                let content = format!("\n{}", document(file));
+                assert!(content.contains(&format!("\n{lines}\n")), "{name}: {file}");
+                parts += 1;
+            }
         }
     }
-    assert_eq!(shown, 5);
+    assert_eq!((shown, parts), (5, 1));
 }
 
 #[test]
 fn first_sheet_is_spelled() {
-    let readme = document("README.md");
-    let block = blocks(&readme)
+    let format = document("docs/FORMAT.md");
+    let block = blocks(&format)
         .into_iter()
         .find(|block| block.lines[0].starts_with("01 "));
     let lines = block.expect("P1 in hexadecimal").lines;
@@ -202,44 +215,154 @@ fn station() -> Station {
     Station::begin(&sheet("P2")).expect("a complete list")
 }
 
+/// A sheet of 3 states and 16 presses with a FAULT at each pair of the range: so many open pairs.
+fn with_faults(pairs: std::ops::Range<usize>) -> Vec<u8> {
+    let row = |word: &str, pair: usize, sound: usize| {
+        let (state, press) = (pair / 16, pair % 16);
+        format!("{word} {state} {press} {sound} {}\n", (state + 1) % 3)
+    };
+    let rules = (0..48).map(|pair| row("RULE", pair, 0));
+    let faults = pairs.map(|pair| row("FAULT", pair, 1));
+    let text = "SIZE 3 16 2\n".to_string() + &rules.chain(faults).collect::<String>();
+    ranthelo::text::assemble(text.as_bytes()).unwrap()
+}
+
+/// P1 with so many tests of 256 presses more.
+fn with_tests(count: usize) -> Result<Vec<u8>, Refusal> {
+    (0..count).try_fold(sheet("P1"), |sheet, _| {
+        ranthelo::add_test(&sheet, &[0; 256])
+    })
+}
+
+fn merged(first: &[u8], second: &[u8]) -> Refusal {
+    let MergeRefusal { refusal, .. } = ranthelo::merge(first, second).unwrap_err();
+    refusal
+}
+
 fn refusal_in_words(example: &str) -> Refusal {
     match example {
         "any 16,385 bytes" => ranthelo::read(&[0; 16_385]).unwrap_err(),
-        "P1 with a buffer of 3 bytes" => {
-            let mut answer = [0; 4];
-            raw::compare(&sheet("P1"), &[0], &mut [0; 3], &mut answer);
-            let [number, place, ..] = answer;
-            Refusal { number, place }
-        }
-        "P4 with two boards `0 0 3 2`" => {
-            ranthelo::tray(&sheet("P4"), 2, &[0, 0, 3, 2]).unwrap_err()
+        "a rule of 3 bytes" => ranthelo::write(Tables {
+            size: [1, 1, 1],
+            rules: &[0, 0, 0],
+            ..Tables::default()
+        })
+        .unwrap_err(),
+        "P1 and a test of 257 presses" => ranthelo::add_test(&sheet("P1"), &[0; 257]).unwrap_err(),
+        "P1 with 31 tests of 256 presses, and a 32nd" => {
+            assert!(with_tests(31).is_ok());
+            with_tests(32).unwrap_err()
         }
         "a record `10 11 02 00` of P1" => {
             ranthelo::check_record(&sheet("P1"), &[0x10, 0x11, 2, 0]).unwrap_err()
         }
+        "a record `11 00 01` of P1" => {
+            ranthelo::check_record(&sheet("P1"), &[0x11, 0, 1]).unwrap_err()
+        }
+        "256 tests merged with 256 tests" => merged(&sheet("256-tests"), &sheet("256-tests")),
+        "32 open pairs merged with 32 others" => merged(&with_faults(0..32), &with_faults(16..48)),
+        "31 tests of 256 presses merged with as many" => {
+            let tests = with_tests(31).unwrap();
+            merged(&tests, &tests)
+        }
+        "P4 with two boards `0 0 3`" => ranthelo::tray(&sheet("P4"), 2, &[0, 0, 3]).unwrap_err(),
+        "P4 with two boards `0 0 3 2`" => {
+            ranthelo::tray(&sheet("P4"), 2, &[0, 0, 3, 2]).unwrap_err()
+        }
         "a station of P2 given P10" => station().change(&sheet("P10")).unwrap_err(),
         "a station of P2 that gets a sound at once" => station().sound(0).unwrap_err(),
+        other => short_buffer(other),
+    }
+}
+
+/// The refusal that a call writes.
+fn told<const N: usize>(call: impl FnOnce(&mut [usize; N])) -> Refusal {
+    let mut answer = [0; N];
+    call(&mut answer);
+    let (number, place) = (answer[0], answer[1]);
+    Refusal { number, place }
+}
+
+/// The refusal of a buffer that is too short.
+fn short_buffer(example: &str) -> Refusal {
+    let (p1, p2, almost) = (sheet("P1"), sheet("P2"), &mut [0; 16_383]);
+    let tables = Tables {
+        size: [1, 1, 1],
+        ..Tables::default()
+    };
+    match example {
+        "P1, board 0, two presses and a buffer of 1 byte" => {
+            told(|answer| raw::run(&p1, &[0], &[0, 1], &mut [0], answer))
+        }
+        "P1 with a buffer of 3 bytes" => {
+            told(|answer| raw::compare(&p1, &[0], &mut [0; 3], answer))
+        }
+        "P1 judged with no board buffer" => {
+            told(|answer| raw::judge(&p1, &mut [], &mut [0; 4], answer))
+        }
+        "P1 judged with a sequence buffer of 3 bytes" => {
+            told(|answer| raw::judge(&p1, &mut [0], &mut [0; 3], answer))
+        }
+        "a sheet of 5 bytes in a buffer of 4" => {
+            told(|answer| raw::write(tables, &mut [0; 4], answer))
+        }
+        "a generated sheet in a buffer of 16,383 bytes" => {
+            told(|answer| raw::generate(1, [1, 1, 1], almost, answer))
+        }
+        "P1 made in a buffer of 16,383 bytes" => told(|answer| raw::make(&p1, almost, answer)),
+        "P1 and an empty test in a buffer of 35 bytes" => {
+            told(|answer| raw::add_test(&p1, &[], &mut [0; 35], answer))
+        }
+        "P1 merged with P2 in a buffer of 16,383 bytes" => {
+            told(|answer| raw::merge(&p1, &p2, almost, answer))
+        }
+        "P1 with two boards and one result" => {
+            told(|answer| raw::tray(&p1, 2, &[0, 1], &mut [0], answer))
+        }
+        "P1 renumbered in a buffer of 34 bytes" => {
+            told(|answer| raw::renumber(&p1, &mut [0; 34], answer))
+        }
         other => panic!("{other}"),
     }
 }
 
-/// Every number has an example, which gets it.
+/// The rows of the tables of refusals.
+fn refusal_rows(page: &str) -> Vec<&str> {
+    let mut inside = false;
+    let row = |line: &&str| {
+        inside = line.starts_with("| number |") || inside && line.starts_with('|');
+        inside && !line.starts_with("| number |") && !line.starts_with("|---")
+    };
+    page.lines().filter(row).collect()
+}
+
+/// Every number has an example, which gets it; so does every example of a row.
 #[test]
 fn refusals_have_examples() {
-    let readme = document("README.md");
+    let format = document("docs/FORMAT.md");
     let mut met = Vec::new();
-    for row in readme.lines().filter(|line| line.starts_with("| ")) {
-        if let Some((example, expected)) = answer(row) {
-            let number = row.split('|').nth(1).unwrap_or("").trim().parse();
-            assert_eq!(number, Ok(expected.number), "{row}");
-            assert_eq!(refusal(example), expected, "{row}");
-            met.push(expected.number);
-        }
+    for row in refusal_rows(&format) {
+        let Some((example, expected)) = answer(row) else {
+            assert!(row.ends_with("| |"), "{row}");
+            continue;
+        };
+        let number = row.split('|').nth(1).unwrap_or("").trim().parse();
+        assert_eq!(number, Ok(expected.number), "{row}");
+        assert_eq!(refusal(example), expected, "{row}");
+        met.push(expected.number);
     }
+    assert!(met.len() > 45, "{} examples", met.len());
     met.sort();
     met.dedup();
     let known = (1..100).filter(|&number| ranthelo::meaning(number).is_some());
     assert_eq!(met, known.collect::<Vec<_>>());
+}
+
+/// The place of a link on a page, from the root; none for one to elsewhere or within the page.
+fn link_target(page: &str, link: &str) -> Option<PathBuf> {
+    let file = link.split('#').next().filter(|file| !file.is_empty())?;
+    let folder = Path::new(page).parent().expect("a folder");
+    (!file.contains("://")).then(|| folder.join(file))
 }
 
 /// Every folder and file in back quotes, and every linked one, but for those that the build makes.
@@ -251,20 +374,64 @@ fn paths_exist() {
         .chain(&["docs/SPECIFICATIONS.md", "CHANGELOG.md"])
     {
         let page = document(name);
-        let quoted = page.split('`').skip(1).step_by(2);
+        let plain = |path: &&str| {
+            path.contains('/')
+                && !path.contains([' ', '\n', '*', '$'])
+                && !path.starts_with("target/")
+        };
+        let quoted = page.split('`').skip(1).step_by(2).filter(plain);
         let linked = page
             .split("](")
             .skip(1)
-            .filter_map(|rest| rest.split(')').next());
-        let paths = quoted.chain(linked).filter(|word| word.contains('/'));
-        let plain =
-            |path: &&str| !path.contains([' ', '\n', '*', '$']) && !path.starts_with("target/");
-        for path in paths.filter(plain) {
-            assert!(root().join(path).exists(), "{name}: {path}");
+            .filter_map(|rest| link_target(name, rest.split(')').next()?));
+        for path in quoted.map(PathBuf::from).chain(linked) {
+            assert!(root().join(&path).exists(), "{name}: {}", path.display());
             count += 1;
         }
     }
     assert!(count > 60, "{count} paths");
+}
+
+/// Every link within a page leads to a heading.
+#[test]
+fn anchors_exist() {
+    let mut count = 0;
+    for name in DOCUMENTS {
+        let page = document(name);
+        let headings: Vec<String> = page
+            .lines()
+            .filter(|line| line.starts_with('#'))
+            .map(anchor)
+            .collect();
+        for link in page.split("](#").skip(1) {
+            let link = link.split(')').next().unwrap_or("");
+            assert!(
+                headings.iter().any(|heading| heading == link),
+                "{name}: {link}"
+            );
+            count += 1;
+        }
+    }
+    assert!(count > 20, "{count} anchors");
+}
+
+/// What leads to a heading: its words in small letters, joined by hyphens, without other signs.
+fn anchor(heading: &str) -> String {
+    let words = heading.trim_start_matches('#').trim().to_lowercase();
+    let kept = words
+        .chars()
+        .filter(|c| c.is_alphanumeric() || [' ', '-'].contains(c));
+    kept.map(|c| if c == ' ' { '-' } else { c }).collect()
+}
+
+/// What is read first is at most 120 columns wide.
+#[test]
+fn lines_are_short() {
+    for name in ["README.md", "docs/GUIDE.md", "docs/FORMAT.md"] {
+        for line in document(name).lines() {
+            assert!(line.chars().count() <= 120, "{name}: {line}");
+        }
+    }
 }
 
 /// The Rust program runs in a package of its own that depends on this one.
