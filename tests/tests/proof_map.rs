@@ -1,4 +1,5 @@
-//! docs/PROOF-MAP.md names only what is there: each file in back quotes exists, and each `file:name` is defined in it.
+//! docs/PROOF-MAP.md and docs/ARCHITECTURE.md name only what is there: each file in back quotes exists, and each `file:name` is
+//! defined in it.
 
 use std::fs;
 use std::path::{Path, PathBuf};
@@ -22,9 +23,11 @@ fn root() -> PathBuf {
     PathBuf::from(env!("CARGO_MANIFEST_DIR")).join("..")
 }
 
+const MAP: &str = "docs/PROOF-MAP.md";
+
 /// What stands in back quotes on the page and has the form of a path.
-fn references() -> Vec<String> {
-    let page = fs::read_to_string(root().join("docs/PROOF-MAP.md")).expect("the page");
+fn references(page: &str) -> Vec<String> {
+    let page = fs::read_to_string(root().join(page)).expect("the page");
     let quoted = page.split('`').skip(1).step_by(2);
     quoted
         .filter(|word| word.contains('/') && !word.contains(char::is_whitespace))
@@ -94,10 +97,12 @@ fn check(reference: &str) -> Result<(), String> {
 
 #[test]
 fn every_name_is_there() {
-    let references = references();
-    let wrong: Vec<String> = references.iter().filter_map(|r| check(r).err()).collect();
-    assert!(wrong.is_empty(), "{wrong:#?}");
-    assert!(references.len() > 100);
+    for (page, least) in [(MAP, 100), ("docs/ARCHITECTURE.md", 40)] {
+        let references = references(page);
+        let wrong: Vec<String> = references.iter().filter_map(|r| check(r).err()).collect();
+        assert!(wrong.is_empty(), "{page}: {wrong:#?}");
+        assert!(references.len() > least, "{page}");
+    }
 }
 
 #[test]
@@ -124,7 +129,7 @@ fn edits(folder: &Path) -> Vec<PathBuf> {
 
 #[test]
 fn every_edit_is_listed() {
-    let listed: Vec<PathBuf> = references().iter().map(|r| located(r)).collect();
+    let listed: Vec<PathBuf> = references(MAP).iter().map(|r| located(r)).collect();
     for member in fs::read_dir(root().join("crates")).unwrap() {
         for edit in edits(&member.unwrap().path().join("must-fail")) {
             assert!(listed.contains(&edit), "{}", edit.display());
@@ -135,7 +140,7 @@ fn every_edit_is_listed() {
 /// Each public operation has a promise, asks for nothing, and is listed.
 #[test]
 fn every_operation_promises() {
-    let references = references();
+    let references = references(MAP);
     for file in [
         "sheet/src/lib.rt",
         "commands/src/lib.rt",
