@@ -27,8 +27,8 @@
 //! # Ok::<(), Box<dyn std::error::Error>>(())
 //! ```
 //!
-//! Every operation takes the sheet's bytes and gives a `Result`: its answer, or a [`Refusal`] with a number and a place.
-//! The functions keep nothing between calls and may be called from many threads at once.
+//! Every operation takes the sheet's bytes and gives a `Result`: its answer, or a [`Refusal`] with a number and a
+//! place. The functions keep nothing between calls and may be called from many threads at once.
 //!
 //! What the operations answer is proved. The modules [`text`], [`commands`], [`machine`], [`list`], [`explain`],
 //! [`asked`], [`faults`], [`import`], [`records`] and [`draw`] are plain Rust: they spell and show, and decide nothing
