@@ -2,9 +2,9 @@
 //!
 //! These are safe functions over the proved library. A sheet is a string of bytes: a specified machine, the faults that
 //! production may introduce, and a list of tests. [`judge`] says whether the list is complete, and if it is not, which
-//! faulty board passes it and which test to add; [`make`] adds tests until it is. [`take`] gives the boards that pass one
-//! after another, and [`add_test`] a longer list; a [`Station`] drives a lock through a complete one. docs/FORMAT.md of the
-//! repository has the format and what the answers mean.
+//! faulty board passes it and which test to add; [`make`] adds tests until it is. [`take`] gives the boards that pass
+//! one after another, and [`add_test`] a longer list; a [`Station`] drives a lock through a complete one.
+//! docs/FORMAT.md of the repository has the format and what the answers mean.
 //!
 //! ```
 //! use ranthelo::{Verdict, judge, text};
@@ -27,11 +27,12 @@
 //! # Ok::<(), Box<dyn std::error::Error>>(())
 //! ```
 //!
-//! Every operation takes the sheet's bytes and gives a `Result`: its answer, or a [`Refusal`] with a number and a place. The
-//! functions keep nothing between calls and may be called from many threads at once.
+//! Every operation takes the sheet's bytes and gives a `Result`: its answer, or a [`Refusal`] with a number and a
+//! place. The functions keep nothing between calls and may be called from many threads at once.
 //!
-//! What the operations answer is proved. The modules [`text`], [`commands`], [`machine`], [`list`], [`explain`], [`asked`],
-//! [`faults`], [`import`], [`records`] and [`draw`] are plain Rust: they spell and show, and decide nothing of a sheet.
+//! What the operations answer is proved. The modules [`text`], [`commands`], [`machine`], [`list`], [`explain`],
+//! [`asked`], [`faults`], [`import`], [`records`] and [`draw`] are plain Rust: they spell and show, and decide nothing
+//! of a sheet.
 
 #![warn(missing_docs)]
 

@@ -1,5 +1,5 @@
-//! What README.md, the guide, the format's page and the course show: commands with their output, sheets, programs, refusals,
-//! paths.
+//! What README.md, the guide, the format's page and the course show: commands with their output, sheets, programs,
+//! refusals, paths.
 
 mod common;
 
