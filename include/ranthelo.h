@@ -73,8 +73,7 @@ enum ranthelo_refusal {
     RANTHELO_BOARD_LENGTH = 13,    /* the board's length is not the number of open pairs; place 0 */
     RANTHELO_BAD_CHOICE = 14,      /* a choice is not below its pair's number of choices; place its index */
     RANTHELO_BAD_PRESS = 15,       /* a press is not below the number of presses; place its index */
-    RANTHELO_SHORT_BUFFER = 16,    /* a buffer is too short; place 0, or 1 for the sequence buffer of Judge, Take and
-                                      Record board */
+    RANTHELO_SHORT_BUFFER = 16,    /* a buffer is too short; place 0, or 1 for a sequence buffer beside a board buffer */
     RANTHELO_NO_TEST = 17,         /* there is no such test; place 0 */
     RANTHELO_NO_ROOM = 18,         /* the next test does not fit: 256 tests or 16,384 bytes would be passed; place 0 */
     RANTHELO_BAD_RECORD = 20,      /* a command of a record is cut, unknown, out of range, or a SEEN before any PULSE; place its offset */

@@ -1,4 +1,4 @@
-//! The header, the pkg-config file and the C program: installed and built in each way that README.md names, and run.
+//! The header, the pkg-config file and the C program: installed and built in each way that README.md and the guide name, and run.
 
 mod common;
 
