@@ -1,5 +1,6 @@
 // A lock's own record (02, Point 9): where it first differs from the specification, and which board gives it.
 // Promises for every sheet and every record, of any length, the answer and every lent byte, and what the answer means.
+// Called by users, and by `ranthelo`.
 mod differ;
 mod scan;
 

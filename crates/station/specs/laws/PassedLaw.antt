@@ -183,7 +183,7 @@ module _ (s : List ℕ) (calls : List Call) (h : History s calls) where
       go sh e phase.Passed d q = never (cc)
       go sh e phase.Failed d q = never (cc)
 
-  -- an output is refused, with 24, exactly if no input is due or it is not below m
+  -- an output is refused, with 24, only if no input is due or it is not below m
   pub refused-told : (o number place : ℕ) → taking (lastSheet s calls) (lastState (h .start) calls) o ≡ refused number place →
       (number ≡ 24) × (place ≡ 0) × ((dueIn calls ≡ false) ⊎ (front-told .sheet .size .outputs ≤ o))
   unfolding taking front-told
