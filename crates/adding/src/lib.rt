@@ -1,6 +1,8 @@
 // A test added to a sheet (02's Point 8).
 // Promises the longer sheet's bytes and length, or the refusal, and that the longer sheet is accepted: the same machine, that test last.
 // Called by users, and by `ranthelo`.
+
+#![tactic(auto)]
 ghost use Rattle.std.specs.Prelude.{◌≡◌, [], ◌∷◌, ◌++◌, ℕ, ◌+◌, ◌-◌, ◌*◌, ◌<◌, ◌≤◌, length, take};
 ghost use Rattle.lists.specs.Lists.{overlay};
 ghost use Rattle.sheet.specs.Sheet.{Sheet};
@@ -19,7 +21,7 @@ use writing::Written;
 use writing::spell::{byte, bytes, test};
 
 // The state that presses lead to, or a refusal's number and the index of the press.
-#[derive(Drop)]
+#[derive(Clone, Copy)]
 enum Pressed {
     To(u8),
     Refused(u8, usize),

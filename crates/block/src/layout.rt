@@ -146,7 +146,7 @@ pub fn pair_of(block: &Block, i: u8) -> usize
     wide(block[PAIRS + wide(i)])
 }
 
-#[derive(Drop)]
+#[derive(Clone, Copy)]
 pub struct Step {
     pub output: u8,
     pub target: u8,

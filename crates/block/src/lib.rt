@@ -1,6 +1,8 @@
 // The tables of an accepted sheet and its mutants in one block of bytes, filled once and lent.
 // Promises that the block's specification and mutants are the sheet's (specs/laws/TabledLaw.antt), and what is read from it.
 // Called by the crates of mutants above, which show what its functions require.
+
+#![tactic(auto)]
 mod layout;
 mod logged;
 mod packing;

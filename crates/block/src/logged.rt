@@ -9,7 +9,7 @@ pub const SEEN: u8 = 17;
 
 // An observation as a number: 256 is a reset, input * 16 + output an input with the output seen, and a larger number nothing; and the
 // offset of the next.
-#[derive(Drop)]
+#[derive(Clone, Copy)]
 pub struct Observed {
     pub code: u16,
     pub next: usize,

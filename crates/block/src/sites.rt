@@ -5,7 +5,7 @@ ghost use Rattle.block.specs.Sites.{open_at, waking_first, open_choices, Numbere
 
 // By pair, at state * 16 + input: which slot it uses, 255 for none. By slot: how many choices it has, 1 past the last, and its pair, of
 // which nothing is promised. And how many slots there are.
-#[derive(Drop)]
+#[derive(Clone, Copy)]
 pub struct Sites {
     pub site: [u8; 256],
     pub slots: [u16; 32],
@@ -37,7 +37,7 @@ fn no_slots() -> [u16; 32]
 }
 
 // By slot how many choices it has, and how many slots there are.
-#[derive(Drop)]
+#[derive(Clone, Copy)]
 struct Slots {
     sizes: [u16; 32],
     count: usize,

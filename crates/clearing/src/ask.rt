@@ -68,7 +68,7 @@ fn pass(block: &[u8; BLOCK], l: u32, j: u8, c: u16) -> u16
 }
 
 // By the choices at which slots the cube clears a mutant in it, and which choice of the highest it does not clear.
-#[derive(Drop)]
+#[derive(Clone, Copy)]
 pub struct Clearing {
     pub by: u32,
     pub next: u16,

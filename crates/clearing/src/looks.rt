@@ -18,7 +18,7 @@ use walks::{Told, by_log, by_reach};
 
 // By the choices at a set of slots a mutant fails a test; it conforms; or it survives, and a sequence of this length tells it from the
 // specification.
-#[derive(Drop)]
+#[derive(Clone, Copy)]
 pub enum Looked {
     Fails(u32),
     Conforms,

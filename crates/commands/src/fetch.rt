@@ -4,14 +4,14 @@ ghost use Rattle.sheet.specs.Reading.{width};
 ghost use Rattle.commands.specs.words.Fetch.{operand_of, fetch_at, no_item, item_in};
 
 // The sheet and the place of the next command, together.
-#[derive(Drop)]
+#[derive(Clone, Copy)]
 pub(crate) struct Reader<'a> {
     pub(crate) sheet: &'a [u8],
     pub(crate) at: usize,
 }
 
 // A command by value: its byte, and its operands in order, 0 where it has none.
-#[derive(Drop)]
+#[derive(Clone, Copy)]
 pub struct Item {
     pub byte: u8,
     pub first: u8,
@@ -21,7 +21,7 @@ pub struct Item {
 }
 
 // All of a command; a command byte whose operands are missing; no byte.
-#[derive(Drop)]
+#[derive(Clone, Copy)]
 pub enum Taken {
     Whole(Item),
     Short(u8),
@@ -29,7 +29,7 @@ pub enum Taken {
 }
 
 // What stands at a place, and the place of the next command (the same place where there is no whole command).
-#[derive(Drop)]
+#[derive(Clone, Copy)]
 pub struct Fetched {
     pub taken: Taken,
     pub next: usize,

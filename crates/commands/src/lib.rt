@@ -1,6 +1,8 @@
 // A sheet's commands, one after the other.
 // Promises 01's answer of Read for every string of bytes, and the tables of an accepted sheet's rules.
 // Called by `reading`, which hands `read` on to users and to the crates above.
+
+#![tactic(auto)]
 ghost use Rattle.std.specs.Prelude.{◌≡◌};
 ghost use Rattle.sheet.specs.Reading as reading;
 ghost use Rattle.sheet.specs.Tables.{read_answer};

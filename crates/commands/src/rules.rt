@@ -28,14 +28,14 @@ const TESTING: u8 = 6;
 
 // The number of rules, or of faults, and one more than the last one's key, 0 before the first. A key has the row's numbers as digits to
 // base 16: a greater key stands later.
-#[derive(Drop)]
+#[derive(Clone, Copy)]
 pub(crate) struct Listed {
     pub(crate) count: usize,
     pub(crate) key: usize,
 }
 
 // The number of tests, of inputs in the last one, and the state that it has reached.
-#[derive(Drop)]
+#[derive(Clone, Copy)]
 pub(crate) struct Tests {
     pub(crate) count: usize,
     pub(crate) inputs: usize,
@@ -44,7 +44,7 @@ pub(crate) struct Tests {
 
 // What is read so far, but for the tables. `starts` is one more than the last START's state, 0 before the first; `quiet` is 1 after QUIET,
 // 0 before.
-#[derive(Drop)]
+#[derive(Clone, Copy)]
 pub(crate) struct State {
     pub(crate) phase: u8,
     pub(crate) size: Size,
@@ -56,19 +56,19 @@ pub(crate) struct State {
 }
 
 // What comes of a command: a refusal's number, 0 for none, and what is read then.
-#[derive(Drop)]
+#[derive(Clone, Copy)]
 pub(crate) struct Added {
     pub(crate) number: u8,
     pub(crate) rows: Listed,
 }
 
-#[derive(Drop)]
+#[derive(Clone, Copy)]
 pub(crate) struct Pressed {
     pub(crate) number: u8,
     pub(crate) tests: Tests,
 }
 
-#[derive(Drop)]
+#[derive(Clone, Copy)]
 pub(crate) struct Applied {
     pub(crate) number: u8,
     pub(crate) state: State,

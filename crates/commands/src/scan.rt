@@ -14,20 +14,20 @@ use ending::{End, finish};
 use sheet::{Reading, Size, Summary};
 
 // After a command: on at a place, or the end.
-#[derive(Drop)]
+#[derive(Clone, Copy)]
 pub(crate) enum Verdict {
     Go(usize),
     Stop(End),
 }
 
-#[derive(Drop)]
+#[derive(Clone, Copy)]
 pub(crate) struct Step {
     pub(crate) verdict: Verdict,
     pub(crate) state: State,
 }
 
 // How the reading ended, and what was read.
-#[derive(Drop)]
+#[derive(Clone, Copy)]
 pub(crate) struct Done {
     pub(crate) end: End,
     pub(crate) state: State,

@@ -1,5 +1,5 @@
 // What is sought besides the log: any mutant that gives it, or a nonconforming one.
-#[derive(Drop)]
+#[derive(Clone, Copy)]
 pub enum Goal {
     Any,
     Nonconforming,

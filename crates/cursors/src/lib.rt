@@ -2,6 +2,8 @@
 // Promises which cursors, notes and facts change, which suspects a proposal speaks of and which may be picked; the proposal itself is checked
 // by others.
 // Called by `store`, `nodes`, `refutation` and `clearing`.
+
+#![tactic(auto)]
 mod observed;
 mod progress;
 mod proposal;

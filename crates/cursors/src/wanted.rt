@@ -125,7 +125,7 @@ fn times(a: u32, b: u16) -> u64
 }
 
 // The suspect that is best so far: its choices left and the tests that wait for it.
-#[derive(Drop)]
+#[derive(Clone, Copy)]
 struct Best {
     at: u8,
     left: u32,

@@ -1,6 +1,8 @@
 // END: nothing may follow it, every state is reached, at most 32 pairs are open (where a mutant wakes counts as one).
 // Promises, of what was read before, how the reading ends: the number of open pairs, or a refusal's number and place.
 // Called by `commands`; `reading` counts the choices of a pair without a rule by it.
+
+#![tactic(auto)]
 ghost use Rattle.std.specs.Prelude.{◌≡◌, Bool, ◌||◌, ◌&&◌, cond, List, ℕ, ◌*◌, ◌<◌, ◌≤◌, length};
 ghost use Rattle.lists.specs.Lists.{any, all, count};
 ghost use Rattle.sheet.specs.Sheet.{Sheet, leads, all_reached, is_open, waking_slots, open_slots};
@@ -11,7 +13,7 @@ ghost use Rattle.ending.specs.words.Ending.{Marks, Follows, Linked, Gathered, en
 use sheet::{Row, Size};
 
 // How a reading ends: how many choices make up a mutant, or a refusal's number and place.
-#[derive(Drop)]
+#[derive(Clone, Copy)]
 pub enum End {
     Accepted(usize),
     Refused(u8, usize),

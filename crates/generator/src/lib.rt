@@ -1,6 +1,8 @@
 // Sheets from a seed (02, Point 4).
 // Promises every byte of the sheet that a seed and sizes make, and that reading accepts it.
 // Called by users, and by `ranthelo`.
+
+#![tactic(auto)]
 ghost use Rattle.std.specs.Prelude.{◌≡◌, ◌≤◌, length};
 ghost use Rattle.lists.specs.Lists.{overlay};
 ghost use Rattle.sheet.specs.Reading.{in_one_to16, size_in_range};

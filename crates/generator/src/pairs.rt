@@ -11,7 +11,7 @@ use crate::draw::draw;
 use sheet::{Row, Size};
 
 // What a pair draws: its rule, a number below 8, and the seed after them.
-#[derive(Drop)]
+#[derive(Clone, Copy)]
 struct Pair {
     rule: Row,
     lot: u8,
@@ -19,7 +19,7 @@ struct Pair {
 }
 
 // The seed, and how many faults stand in their table.
-#[derive(Drop)]
+#[derive(Clone, Copy)]
 pub(crate) struct Place {
     pub(crate) seed: u32,
     pub(crate) faults: usize,

@@ -1,13 +1,15 @@
 // The program `judge`: reads a sheet from standard input and prints the verdict on it.
 // Promises that the bytes it counts lie in its buffer. Which bytes a read brings, and that the text gets out, is tested.
 // Called by nothing: users run it.
+
+#![tactic(auto)]
 ghost use Rattle.judge.specs.Input.{Fits};
 
 use libc::{STDERR_FILENO, STDIN_FILENO, STDOUT_FILENO};
 use report::report;
 
 // What reading gave: so many bytes at the buffer's front, or a failure.
-#[derive(Drop)]
+#[derive(Clone, Copy)]
 enum Input {
     Bytes(usize),
     Failed,

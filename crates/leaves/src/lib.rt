@@ -1,6 +1,8 @@
 // Words for functions that steer: sets, transitions and literals as numbers, and notes in a lent slice.
 // Promises of sets which members, of literals which transitions, of notes which one is read or changed.
 // Called by `walks`, `cursors`, `pairs`, `store`, `nodes`, `refutation`, `search`, `clearing` and `pool`.
+
+#![tactic(auto)]
 mod notes;
 
 ghost use Rattle.std.specs.Prelude.{◌≡◌, ◌+◌, ◌*◌, ◌%◌, ◌^◌, ◌<◌, true, false, length};

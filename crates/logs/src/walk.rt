@@ -7,7 +7,7 @@ ghost use Rattle.logs.specs.Walked.{moves_in, wrong_of};
 use block::*;
 
 // The first wrong output: which test, and its position there.
-#[derive(Drop)]
+#[derive(Clone, Copy)]
 pub enum Wrong {
     Nothing,
     At(usize, usize),

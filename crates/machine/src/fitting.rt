@@ -7,7 +7,7 @@ ghost use Rattle.machine.specs.Fits.{HighAt, fit_of};
 use block::{BLOCK, choices, slots, wide};
 
 // Whether bytes are a mutant of a sheet: 13 for another length, 14 for a choice that is too high.
-#[derive(Drop)]
+#[derive(Clone, Copy)]
 pub enum Fit {
     Mutant,
     Refused(u8, usize),

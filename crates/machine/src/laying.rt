@@ -11,7 +11,7 @@ use crate::fitting::{Fit, fits};
 use block::{BLOCK, Step, choice_at, initial, inputs, states, transition, wide};
 
 // Where a mutant starts, and what it does at each state and input; or why the bytes are no mutant of the sheet.
-#[derive(Drop)]
+#[derive(Clone, Copy)]
 pub struct Machine {
     pub fit: Fit,
     pub start: u8,

@@ -11,14 +11,14 @@ use crate::laying::blank;
 use block::{BLOCK, inputs, place, rule_output, rule_target, wide};
 
 // What tells a mutant from the specification: nothing, or a distinguishing sequence of this length.
-#[derive(Drop)]
+#[derive(Clone, Copy)]
 pub enum Difference {
     Nothing,
     Shown(usize),
 }
 
 // What an input does at a pair of states: it is not specified, shows another output, or leads to a pair.
-#[derive(Drop)]
+#[derive(Clone, Copy)]
 pub(crate) enum Led {
     Undefined,
     Apart,
@@ -26,7 +26,7 @@ pub(crate) enum Led {
 }
 
 // Where an expansion ends: at an input that shows another output, or with so many entries.
-#[derive(Drop)]
+#[derive(Clone, Copy)]
 pub(crate) enum Expanded {
     Apart(u8),
     Grown(usize),

@@ -18,7 +18,7 @@ use refutation::note_test;
 use sweep::{Outcome, next_survivor};
 
 // How far a suite has grown: it is complete; the next test does not fit; or neither is known.
-#[derive(Drop)]
+#[derive(Clone, Copy)]
 pub(crate) enum State {
     Complete,
     Full,
@@ -26,7 +26,7 @@ pub(crate) enum State {
 }
 
 // The place of the sheet's END, the length of its log, how many tests more there may be, and how many were appended.
-#[derive(Drop)]
+#[derive(Clone, Copy)]
 pub(crate) struct Growth {
     pub state: State,
     pub end: usize,
@@ -36,7 +36,7 @@ pub(crate) struct Growth {
 }
 
 // What comes next: the end, or a test of so many inputs.
-#[derive(Drop)]
+#[derive(Clone, Copy)]
 enum Next {
     Ends(State),
     Appends(usize),

@@ -1,6 +1,8 @@
 // Complete test suites (02's Point 6): to an incomplete one the sequence of its first survivor is appended, until none is left.
 // Promises the made sheet, byte for byte, by the definition of `model`, and that its suite is complete and each appended test was needed.
 // Called by users, and by `ranthelo`.
+
+#![tactic(auto)]
 mod append;
 mod grow;
 mod room;
@@ -15,7 +17,7 @@ use room::make;
 use sheet::{Reading, refusal_of};
 
 // What making answers: the made sheet's length and how many tests were appended.
-#[derive(Drop)]
+#[derive(Clone, Copy)]
 pub enum Made {
     Done(usize, usize),
     Refused(u8, usize),

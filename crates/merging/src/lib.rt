@@ -1,6 +1,8 @@
 // Two fault lists become one (02's Point 10): the faults and STARTs of two sheets of one machine, each once, and the tests of both.
 // Promises the merged sheet, byte for byte, by the definition of `renaming`, or the refusal and the sheet that it concerns; and that a suite
 // which is complete for the merged sheet finds the nonconforming mutants of both. Called by users, and by `ranthelo`.
+
+#![tactic(auto)]
 mod join;
 mod outline;
 mod union;
@@ -16,7 +18,7 @@ use sheet::{Reading, refusal_of};
 
 // What merging answers: the merged sheet's length; or which sheet a refusal on reading concerns (1 or 2, 0 for another refusal), its number and
 // its place.
-#[derive(Drop)]
+#[derive(Clone, Copy)]
 pub enum Merged {
     Done(usize),
     Refused(u8, u8, usize),

@@ -10,7 +10,7 @@ ghost use Rattle.merging.specs.words.Outlined.{Surveyed, Known, Laid, either_ope
 use sheet::{Loaded, Summary};
 
 // Where the RULEs, the FAULTs, the STARTs and the tests of a sheet end, and how many tests there are.
-#[derive(Drop)]
+#[derive(Clone, Copy)]
 pub(crate) struct Outline {
     pub(crate) rules: usize,
     pub(crate) faults: usize,

@@ -1,6 +1,8 @@
 // The operations on the mutants of a sheet (01: boards): run, first failed test, compare; and judge, on its test suite (01: list).
 // Promises for every input the answer and every lent byte, by the definitions of `model`, and what the answer means.
 // Called by users, and by `ranthelo` and `report`.
+
+#![tactic(auto)]
 ghost use Rattle.std.specs.Prelude.{◌≡◌, length};
 ghost use Rattle.lists.specs.Lists.{overlay};
 ghost use Rattle.model.specs.Used.{counted as usage};
@@ -18,14 +20,14 @@ use sheet::{Reading, refusal_of};
 pub use verdict::{Judged, judge, judge_counting};
 
 // The slots that were used (02: open pairs): how many, and the set of them, bit i for slot i.
-#[derive(Drop)]
+#[derive(Clone, Copy)]
 pub struct Used {
     pub number: u32,
     pub set: u32,
 }
 
 // What Run answers: the slots used.
-#[derive(Drop)]
+#[derive(Clone, Copy)]
 pub enum Ran {
     Done(Used),
     Refused(u8, usize),
@@ -33,7 +35,7 @@ pub enum Ran {
 
 // What First failed test answers: a test and the position in it of the first wrong output, both from 0, or none; and the slots used
 // until then.
-#[derive(Drop)]
+#[derive(Clone, Copy)]
 pub enum Failed {
     At(usize, usize, Used),
     Nothing(Used),
@@ -41,7 +43,7 @@ pub enum Failed {
 }
 
 // What Compare answers: conforms, or the length of the shortest distinguishing sequence.
-#[derive(Drop)]
+#[derive(Clone, Copy)]
 pub enum Compared {
     Conforms,
     Differs(usize),

@@ -18,7 +18,7 @@ use search::{Beginning, Searched, first};
 use sheet::{Reading, refusal_of};
 
 // What Judge answers: complete, or the length of the first survivor's shortest distinguishing sequence.
-#[derive(Drop)]
+#[derive(Clone, Copy)]
 pub enum Judged {
     Complete,
     Survivor(usize),

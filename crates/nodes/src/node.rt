@@ -9,7 +9,7 @@ pub const UNHINTED: u16 = 32767;
 
 // By suspect that is settled its transition (output * 16 + next state); the suspect settled last, 254 for none; how many may
 // still be settled; what may refute it, a test or an entry of the store.
-#[derive(Drop)]
+#[derive(Clone, Copy)]
 pub struct Node {
     pub p: [u8; 32],
     pub settled: u32,

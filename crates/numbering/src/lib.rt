@@ -1,6 +1,8 @@
 // State numbers in first-reached form (02's Point 12): states are numbered as breadth-first search meets them, and the commands put in order again.
 // Promises the converted sheet, byte for byte, by the definition of `renaming`, and what it tells of the sheet it was made from.
 // Called by users, and by `ranthelo`.
+
+#![tactic(auto)]
 mod first_reached;
 mod keys;
 mod ordered;

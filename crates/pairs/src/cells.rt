@@ -6,7 +6,7 @@ use leaves::*;
 
 // The specification's next state (255: no rule) and output, the suspect met (255: none), whether every output is right, and
 // the next states after the right one.
-#[derive(Drop)]
+#[derive(Clone, Copy)]
 pub struct Cell {
     pub next: u8,
     pub output: u8,

@@ -76,7 +76,7 @@ fn safe_pairs(block: &Block, facts: &Facts, cube: &Cube, safe: &mut Sets) {
 
 // A walk over pairs: the rows in which there may be new ones, none if it ended at a wrong output, as a strict one does; whether
 // the cube stayed as it was.
-#[derive(Drop)]
+#[derive(Clone, Copy)]
 struct Rows {
     rows: u16,
     good: bool,

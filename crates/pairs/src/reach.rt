@@ -12,7 +12,7 @@ use leaves::*;
 
 // How many pairs of states are listed, the first unsettled suspect met (255: none), and whether an output can be wrong: at
 // which suspect, and which is right.
-#[derive(Drop)]
+#[derive(Clone, Copy)]
 struct Reach {
     end: usize,
     first: u8,

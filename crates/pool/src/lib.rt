@@ -1,6 +1,8 @@
 // What steers a sweep, in notes that a search leaves free: what may be spent on looks, how much is asked, some survivors that were met.
 // Promises which notes a sweep begins with, and which of them an appended test may change; no answer rests on them.
 // Called by `sweep` and `making`.
+
+#![tactic(auto)]
 ghost use Rattle.std.specs.Prelude.{◌≡◌, true, ℕ, ◌+◌, ◌<◌, ◌≤◌, length, get_or, set, replicate};
 ghost use Rattle.leaves.specs.Noted.{Changed};
 ghost use Rattle.block.specs.Tabulated.{Wf};

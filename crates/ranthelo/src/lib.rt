@@ -1,6 +1,8 @@
 // The operations for C: each fills an array with its answer as numbers. See include/ranthelo.h.
 // Promises these numbers and every lent byte, by the definitions that the operations themselves cite.
 // Called from C, and from Rust by the package in rust/.
+
+#![tactic(auto)]
 ghost use Rattle.std.specs.Prelude.{◌≡◌, not, eqb, length};
 ghost use Rattle.sheet.specs.Reading.{reading};
 ghost use Rattle.sheet.specs.Part.{parting};

@@ -1,6 +1,8 @@
 // Reading a sheet: Read, the part of one test, and all tables of an accepted sheet.
 // Promises 01's answers of Read and One test's part for every string of bytes, and every entry of the tables that it fills.
 // Called by users, and by `block`, `writing`, `report` and `ranthelo`.
+
+#![tactic(auto)]
 ghost use Rattle.std.specs.Prelude.{◌≡◌};
 ghost use Rattle.sheet.specs.Reading as reading;
 ghost use Rattle.sheet.specs.Part.{parting, part_of, LiesIn};

@@ -9,7 +9,7 @@ use commands::fetch::{fetch_from, item_in};
 use sheet::{Span, Summary};
 
 // Whether a QUIET stands; where the FAULTs, the STARTs and the tests begin, and how many STARTs there are.
-#[derive(Drop)]
+#[derive(Clone, Copy)]
 pub(crate) struct Layout {
     pub(crate) quiet: bool,
     pub(crate) faults: usize,

@@ -1,1 +1,3 @@
 // Rows of Request 9, computed through the definitions of `records`; no code.
+
+#![tactic(auto)]

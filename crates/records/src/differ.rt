@@ -12,14 +12,14 @@ use block::*;
 pub const NO_STATE: u8 = 255;
 
 // A specified transition; its target is NO_STATE where there is none.
-#[derive(Drop)]
+#[derive(Clone, Copy)]
 pub struct Rule {
     pub output: u8,
     pub target: u8,
 }
 
 // The specification's state after a byte, and whether the byte is a SEEN with a wrong output.
-#[derive(Drop)]
+#[derive(Clone, Copy)]
 pub struct Stepped {
     pub wrong: bool,
     pub state: u8,

@@ -1,6 +1,8 @@
 // A lock's own record (02, Point 9): where it first differs from the specification, and which board gives it.
 // Promises for every sheet and every record, of any length, the answer and every lent byte, and what the answer means.
 // Called by users, and by `ranthelo`.
+
+#![tactic(auto)]
 mod differ;
 mod scan;
 
@@ -22,7 +24,7 @@ use search::{Beginning, Searched, exists, first};
 use sheet::{Reading, refusal_of};
 
 // What is told of a record: as specified, or the offset of the first SEEN whose output differs; and whether some mutant gives every output.
-#[derive(Drop)]
+#[derive(Clone, Copy)]
 pub enum Recorded {
     AsSpecified(bool),
     Differs(usize, bool),
@@ -30,7 +32,7 @@ pub enum Recorded {
 }
 
 // Which mutant gives a record: one that conforms, or the length of its shortest distinguishing sequence; or none does.
-#[derive(Drop)]
+#[derive(Clone, Copy)]
 pub enum Explained {
     Conforms,
     Departs(usize),

@@ -6,7 +6,7 @@ ghost use Rattle.records.specs.Steps.{place_of, Takes};
 use block::{PULSE, SEEN};
 
 // An offset of a record, or none.
-#[derive(Drop)]
+#[derive(Clone, Copy)]
 pub enum Place {
     Nothing,
     At(usize),

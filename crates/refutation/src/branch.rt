@@ -58,7 +58,7 @@ fn recall(notes: &[u16], i: u8, known: &mut [u16; 272]) {
 const NO_PAIR: usize = 257;
 
 // A suspect to settle, its pair (257: there is none), and how many choices it has.
-#[derive(Drop)]
+#[derive(Clone, Copy)]
 pub(crate) struct Split {
     pub i: u8,
     pub k: usize,
@@ -106,7 +106,7 @@ fn next_split(
 
 // A turn of a choice, one in the first round and one in the second: its transition, whether it is passed over, and what may
 // refute it.
-#[derive(Drop)]
+#[derive(Clone, Copy)]
 pub(crate) struct Turn {
     pub step: Step,
     pub skip: bool,

@@ -1,6 +1,8 @@
 // Refutations of many mutants at once.
 // Promises, where it says so, that no mutant with the choices of a prefix is sought, and that the store stays right.
 // Called by `search`, `sweep` and `making`, which show what its functions require.
+
+#![tactic(auto)]
 mod branch;
 
 ghost use Rattle.std.specs.Prelude.{◌≡◌, true, List, ℕ, length};

@@ -1,6 +1,8 @@
 // The text that the program prints for a sheet.
 // Promises every byte of it, by the judgement of the sheet.
 // Called by `judge`.
+
+#![tactic(auto)]
 ghost use Rattle.std.specs.Prelude.{◌≡◌, length};
 ghost use Rattle.sheet.specs.Reading.{reading};
 ghost use Rattle.sheet.specs.Tables.{read_answer};

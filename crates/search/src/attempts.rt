@@ -16,7 +16,7 @@ use leaves::*;
 use machine::Difference;
 
 // What is found: no wanted mutant, or the first one, with what tells it from the specification.
-#[derive(Drop)]
+#[derive(Clone, Copy)]
 pub enum Searched {
     Nothing,
     First(Difference),

@@ -16,14 +16,14 @@ use cubes::goal::Goal;
 use cubes::tables::Facts;
 
 // Where a search begins: at the first mutant, or after one that is given.
-#[derive(Drop)]
+#[derive(Clone, Copy)]
 pub enum Beginning {
     Front,
     After,
 }
 
 // What a search finds: no wanted mutant; the first one; or neither, where a quick search gave up.
-#[derive(Drop)]
+#[derive(Clone, Copy)]
 pub(crate) enum Found {
     Nothing,
     First,
@@ -31,7 +31,7 @@ pub(crate) enum Found {
 }
 
 // What was found, and the choices of the first mutant, where there is one.
-#[derive(Drop)]
+#[derive(Clone, Copy)]
 pub(crate) struct Attempt {
     pub found: Found,
     pub choices: [u16; 32],

@@ -1,11 +1,14 @@
 // The sheet format: what a sheet is, which bytes are one, what Read and One test's part answer, and the tables of an accepted sheet. It knows
 // nothing of mutants. Definitions and theorems, and the structs of the answers; the reading itself is `reading`. Known by
 // every crate above.
+
+#![tactic(auto)]
+
 ghost use Rattle.std.specs.Prelude.{◌≡◌};
 ghost use Rattle.sheet.specs.Tables.{refusal_of};
 
 // SIZE: how many states, inputs (01: presses) and outputs (01: sounds).
-#[derive(Drop)]
+#[derive(Clone, Copy)]
 pub struct Size {
     pub states: u8,
     pub inputs: u8,
@@ -13,7 +16,7 @@ pub struct Size {
 }
 
 // A RULE or a FAULT: at the state `source` the input gives the output and leads to the state `target`.
-#[derive(Drop)]
+#[derive(Clone, Copy)]
 pub struct Row {
     pub source: u8,
     pub input: u8,
@@ -23,7 +26,7 @@ pub struct Row {
 
 // What reading a sheet tells (01: n, k, m and the numbers of RULEs, FAULTs, TESTs and open pairs; 02: where a board wakes, if
 // there is a START, counts as one of these).
-#[derive(Drop)]
+#[derive(Clone, Copy)]
 pub struct Summary {
     pub states: u8,
     pub inputs: u8,
@@ -35,28 +38,28 @@ pub struct Summary {
 }
 
 // A part of the sheet.
-#[derive(Drop)]
+#[derive(Clone, Copy)]
 pub struct Span {
     pub start: usize,
     pub length: usize,
 }
 
 // What Read answers: accepted, or refused with a number and a place.
-#[derive(Drop)]
+#[derive(Clone, Copy)]
 pub enum Reading {
     Accepted(Summary),
     Refused(u8, usize),
 }
 
 // A refusal's number and place.
-#[derive(Drop)]
+#[derive(Clone, Copy)]
 pub struct Refusal {
     pub number: u8,
     pub place: usize,
 }
 
 // What One test's part answers.
-#[derive(Drop)]
+#[derive(Clone, Copy)]
 pub enum Parting {
     At(Span),
     Refused(u8, usize),
@@ -64,7 +67,7 @@ pub enum Parting {
 
 // What the layer above gets beside the tables that it lends: the answer of Read, by choice the waking states, how many they are, and whether the
 // sheet is quiet.
-#[derive(Drop)]
+#[derive(Clone, Copy)]
 pub struct Loaded {
     pub reading: Reading,
     pub wakings: [u8; 16],

@@ -1,6 +1,8 @@
 // The bench station (02's Point 13): it drives one implementation (01: lock) through a sheet's suite.
 // Promises for every sheet and state the answer and the state that it leaves, by the definitions here, and the guarantee of a pass.
 // Called by users, and by `ranthelo`.
+
+#![tactic(auto)]
 ghost use Rattle.std.specs.Prelude.{◌-◌, ◌≡◌};
 ghost use Rattle.station.specs.Station.{beginning, nexting, taking, changing, is_open};
 ghost use Rattle.station.specs.Answers.{begun_answer, next_answer, taken_answer, changed_answer};
@@ -17,7 +19,7 @@ use steps::Found;
 use suit::Suited;
 
 // No input is due; one is; or a verdict was given.
-#[derive(Drop)]
+#[derive(Clone, Copy)]
 pub enum Phase {
     Ready,
     Due,
@@ -26,7 +28,7 @@ pub enum Phase {
 }
 
 // How many tests have begun, how many outputs of the last of them were taken, and the phase.
-#[derive(Drop)]
+#[derive(Clone, Copy)]
 pub struct State {
     pub begun: usize,
     pub position: usize,
@@ -34,7 +36,7 @@ pub struct State {
 }
 
 // A next step: a reset (01: pulse), an input (01: press), or a verdict: pass, or the test and position of the first wrong output.
-#[derive(Drop)]
+#[derive(Clone, Copy)]
 pub enum Step {
     Reset,
     Input(u8),
@@ -43,21 +45,21 @@ pub enum Step {
 }
 
 // What begin answers: the first state.
-#[derive(Drop)]
+#[derive(Clone, Copy)]
 pub enum Begun {
     At(State),
     Refused(u8, usize),
 }
 
 // What next answers: the step, and the state that it leaves.
-#[derive(Drop)]
+#[derive(Clone, Copy)]
 pub enum Advanced {
     Given(Step, State),
     Refused(u8, usize),
 }
 
 // What taking an output answers: as specified, or the test and position of the first wrong output; with the state that it leaves.
-#[derive(Drop)]
+#[derive(Clone, Copy)]
 pub enum Taken {
     Right(State),
     Wrong(usize, usize, State),
@@ -65,7 +67,7 @@ pub enum Taken {
 }
 
 // What a change answers: the station goes on with the changed sheet, and the state as it was.
-#[derive(Drop)]
+#[derive(Clone, Copy)]
 pub enum Changed {
     Accepted,
     Refused(u8, usize),

@@ -11,7 +11,7 @@ use crate::{Advanced, Phase, State, Step};
 use reading::test_part;
 
 // An element of a list, or nothing.
-#[derive(Drop)]
+#[derive(Clone, Copy)]
 pub(crate) enum Found {
     At(u8),
     Nothing,

@@ -5,7 +5,7 @@ ghost use Rattle.station.specs.words.Parts.{suited_answer, suited_by};
 
 use mutation::{Judged, judge};
 
-#[derive(Drop)]
+#[derive(Clone, Copy)]
 pub(crate) enum Suited {
     Complete,
     Refused(u8, usize),

@@ -10,7 +10,7 @@ use cubes::literals::Cube;
 use leaves::*;
 
 // A cube in which no mutant is sought, if `ok`; else nothing is said.
-#[derive(Drop)]
+#[derive(Clone, Copy)]
 pub struct Told {
     pub ok: bool,
     pub cube: Cube,

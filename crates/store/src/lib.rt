@@ -1,6 +1,8 @@
 // Cubes in which no mutant is sought, kept in a lent slice of numbers (specs/Store.antt says how).
 // Promises that a right store stays one, and that no mutant is sought in a cube that it hands out.
 // Called by `nodes` and `refutation`, which show what its functions require.
+
+#![tactic(auto)]
 mod entries;
 mod live;
 mod scan;

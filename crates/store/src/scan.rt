@@ -81,7 +81,7 @@ fn filled(store: &[u32], notes: &[u16]) -> usize
 }
 
 // What an entry is to a settled part: it disagrees, it agrees as far as that goes, or it has the part.
-#[derive(Drop)]
+#[derive(Clone, Copy)]
 enum Fit {
     Disagrees,
     Agrees,

@@ -1,6 +1,8 @@
 // The mutants in dictionary order, from one survivor to the next, while the test suite grows.
 // Promises that the next survivor is the first, or that there is none.
 // Called by `making`, which shows what its functions require.
+
+#![tactic(auto)]
 mod turn;
 
 ghost use Rattle.std.specs.Prelude.{◌≡◌, ◌*◌, ◌≤◌, length};
@@ -20,7 +22,7 @@ use cubes::tables::FACTS;
 use turn::{Turned, turn};
 
 // No survivor is left; there is one, told from the specification by a sequence of this length; or, with an empty store, neither is known.
-#[derive(Drop)]
+#[derive(Clone, Copy)]
 pub enum Outcome {
     Nothing,
     Survivor(usize),

@@ -34,7 +34,7 @@ fn prefix(p: &[u16; 32], n: usize) -> [u16; 32]
 }
 
 // By the choices at which slots p is cleared, and the next choice of the highest, if `ok`; else nothing is said.
-#[derive(Drop)]
+#[derive(Clone, Copy)]
 pub(crate) struct Asked {
     pub ok: bool,
     pub by: u32,
@@ -152,7 +152,7 @@ fn conformed(
 }
 
 // A turn clears p and others like it, finds that p survives, told from the specification by a sequence of this length, or gives up.
-#[derive(Drop)]
+#[derive(Clone, Copy)]
 pub(crate) enum Turned {
     Refuted(u32, u16),
     Survives(usize),

@@ -1,6 +1,8 @@
 // A tray of mutants (02: boards, their choice bytes end to end): the first failed test of each.
 // Promises the answer and every lent number by the definition of `model`, and that the outcome equals the mutants taken singly.
 // Called by users, and by `ranthelo`.
+
+#![tactic(auto)]
 ghost use Rattle.std.specs.Prelude.{◌≡◌, length};
 ghost use Rattle.lists.specs.Lists.{overlay};
 ghost use Rattle.model.specs.Tray.{trying};
@@ -13,7 +15,7 @@ use block::{fresh, load};
 use sheet::{Reading, refusal_of};
 
 // What a tray answers: each mutant was tried.
-#[derive(Drop)]
+#[derive(Clone, Copy)]
 pub enum Tried {
     Done,
     Refused(u8, usize),

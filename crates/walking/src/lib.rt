@@ -1,6 +1,8 @@
 // Walks over the mutants that pass a sheet's test suite (02's Point 8).
 // Promises of a take the next passing mutant after a place, with compare's answer, or the end; and of whole walks, with tests added, what 02
 // says of them (specs/laws/WalkedLaw.antt). Called by users, and by `ranthelo`.
+
+#![tactic(auto)]
 ghost use Rattle.std.specs.Prelude.{◌≡◌, length};
 ghost use Rattle.lists.specs.Lists.{overlay};
 ghost use Rattle.sheet.specs.Sheet.{Sheet};
@@ -20,7 +22,7 @@ use search::{Beginning, Searched, first};
 use sheet::{Reading, refusal_of};
 
 // A walk's place: its start, the last mutant taken, which stands beside it, or its end.
-#[derive(Drop)]
+#[derive(Clone, Copy)]
 pub enum Place {
     Start,
     Last,
@@ -28,7 +30,7 @@ pub enum Place {
 }
 
 // What Take answers: a mutant that conforms, or the length of its shortest distinguishing sequence; or the walk's end.
-#[derive(Drop)]
+#[derive(Clone, Copy)]
 pub enum Taken {
     Conforms,
     Departs(usize),

@@ -1,6 +1,8 @@
 // The quick first attempt: the log is walked with the settled suspects, and split at the first unsettled one that the walk meets.
 // Promises, where it says so, that no mutant with the choices of a prefix is sought; it fills no tables and may give up.
 // Called by `search`, `clearing` and `pool`, which show what it requires.
+
+#![tactic(auto)]
 mod blame;
 mod effort;
 mod reach;

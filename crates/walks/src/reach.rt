@@ -20,7 +20,7 @@ pub(crate) const WRONG: u8 = 254;
 const LOST: u8 = 253;
 
 // By which suspects, how many pairs were met, and what stops them: CLOSED, WRONG, or the first unsettled suspect.
-#[derive(Drop)]
+#[derive(Clone, Copy)]
 pub(crate) struct Reach {
     pub used: u32,
     pub count: u16,

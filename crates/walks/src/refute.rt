@@ -14,7 +14,7 @@ use cubes::goal::Goal;
 use leaves::*;
 
 // Whether no mutant is sought that has the choices settled at some suspects, and which these are.
-#[derive(Drop)]
+#[derive(Clone, Copy)]
 pub struct Told {
     pub ok: bool,
     pub used: u32,

@@ -8,7 +8,7 @@ use crate::steps::{settled_choice, used_with};
 use block::*;
 
 // Where a walk stands: before which observation, in which state, and by which suspects since the reset.
-#[derive(Drop)]
+#[derive(Clone, Copy)]
 pub(crate) struct Place {
     pub at: usize,
     pub state: u8,
@@ -16,7 +16,7 @@ pub(crate) struct Place {
 }
 
 // Where it halts: at a wrong output, by the suspects used; at an unsettled suspect; at the end; or at what it can't take.
-#[derive(Drop)]
+#[derive(Clone, Copy)]
 pub(crate) enum Halt {
     Fails(u32),
     Waits(u8, Place),

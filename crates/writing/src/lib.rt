@@ -1,6 +1,8 @@
 // Sheets written from tables (02's Point 1).
 // Promises the sheet's bytes and length, or the refusal, and that a written sheet reads as the very tables it was made from.
 // Called by users, by `generator` and by `ranthelo`; `making` and `report` spell with it, and show what that requires.
+
+#![tactic(auto)]
 ghost use Rattle.std.specs.Prelude.{◌≡◌, ℕ, ◌+◌, ◌≤◌, Bool, List, eqb, ltb, length};
 ghost use Rattle.sheet.specs.declared.Size.{Size as Sizes};
 ghost use Rattle.lists.specs.Lists.{overlay};
@@ -16,7 +18,7 @@ use sheet::{Reading, Size, refusal_of};
 use spell::wide;
 
 // What writing a sheet answers: its length, or a refusal's number and place.
-#[derive(Drop)]
+#[derive(Clone, Copy)]
 pub enum Written {
     Done(usize),
     Refused(u8, usize),

@@ -63,7 +63,7 @@ module _ {p : Progress} (o : Ordered p) where
   ordered-press x h =
       record { quiet = λ k. absurd (omega arith); rules = λ k. absurd (omega arith); faults = λ k. absurd (omega arith); starts = λ k. absurd (omega arith); tests = λ k. absurd (omega arith); begun = λ k. rw press-length (o.begun h) }
 
-pub ordered-on : {p q : Progress} {s : List ℕ} {at e : ℕ} → Ordered p → Moves p s at q e → Ordered q
+pub ordered-on : {p : Progress} {s : List ℕ} {at : ℕ} {q : Progress} {e : ℕ} → Ordered p → Moves p s at q e → Ordered q
 ordered-on o (by_size h) = ordered-size o _ h.late
 ordered-on o (by-quiet h) = ordered-quiet o h.late
 ordered-on o (by-rule h) = ordered-rule o _ h.late

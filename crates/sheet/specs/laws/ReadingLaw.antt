@@ -167,7 +167,7 @@ module _ (p : Progress) (s : List ℕ) (at : ℕ) where
       here false e = let k = leb-false (length s) at e in follows (omega arith) (allowed p.phase b) refl
 
 -- a command takes a byte at least, and bytes of the sheet
-pub moves-on : {p q : Progress} {s : List ℕ} {at e : ℕ} → Moves p s at q e → (at < e) × (e ≤ length s)
+pub moves-on : {p : Progress} {s : List ℕ} {at : ℕ} {q : Progress} {e : ℕ} → Moves p s at q e → (at < e) × (e ≤ length s)
 moves-on (by_size h) = let k = h.room in (omega arith, omega arith)
 moves-on (by-quiet h) = let k = h.room in (omega arith, omega arith)
 moves-on (by-rule h) = let k = h.room in (omega arith, omega arith)
