@@ -1,0 +1,10 @@
+use Rattle.lists.specs.Proving.{rules, ◌+◌, ◌-◌, ◌≤◌, refl, length}
+use Rattle.block.proofs.PackingLaw.{fill_none, fill_more, fill-all}
+use Rattle.block.specs.Packing.{Copied}
+use Rattle.block.proofs.packing.copy.Given as goal
+
+abbrev pub invariant-loop-k : goal.invariant-loop-k
+invariant-loop-k l = Copied l.initial.block l.block l.base l.from l.k × (l.base + length l.from ≤ 1620)
+
+abbrev pub decreases-loop-k : goal.decreases-loop-k
+decreases-loop-k l = l.end - l.k

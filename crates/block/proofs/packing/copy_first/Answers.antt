@@ -1,0 +1,13 @@
+use Rattle.lists.specs.Proving.{rules, arith, ◌-◌}
+use Rattle.block.proofs.PackingLaw.{fill_none, fill_more, fill-all}
+use Rattle.block.specs.Packing.{FirstCopied}
+use Rattle.block.proofs.packing.copy_first.Goals as goal
+
+pub loop-k-init : goal.loop-k-init
+loop-k-init c = fill_none 512 256 _ c.requires
+
+pub loop-k-preserved : goal.loop-k-preserved
+loop-k-preserved c = fill_more _ (omega arith) c.loop-k.invariant c.loop-k-test.true c.narrow-x.ensures
+
+pub returns : goal.returns
+returns c = fill-all c.loop-k.invariant c.loop-k-test.false

@@ -1,0 +1,61 @@
+-- `number`: what holds after the pairs before an index.
+use Rattle.lists.specs.Proving.{arith, ◌-◌, ◌*◌, ◌<◌, sym, ◌∙◌, ⊎_elim}
+use Rattle.block.specs.Sites.{waking_first}
+use Rattle.block.proofs.SitesLaw.{Numbering, number-start, number-open, number-shut, number-end, few-before, room}
+use Rattle.block.proofs.sites.number.Goals as goal
+
+space : (c : own.Tie.Then1 Inv-loop μ-loop) → c.before.before.before.loop.count < 32
+space c =
+    let at-loop = c.before.before.before in
+    let entry = at-loop.before.before.before.before in
+    let a = entry.args in
+    let p = entry.pre in
+    let l = at-loop.loop in
+    omega (arith, l.inv.counts, room (waking_first a.waking) a.n a.k a.choices.now l.i (omega arith) p.1 (sym (c.before.is_open.ensures a.n (omega arith)) ∙ c.if1.taken))
+
+pub waking_slot-first-requires : goal.waking_slot-first-requires
+waking_slot-first-requires c = tt
+
+pub no_sites-site-requires : goal.no_sites-site-requires
+no_sites-site-requires c = tt
+
+pub loop-i-init : goal.loop-i-init
+loop-i-init c = 
+    let a = c.args in
+    let first = c.waking_slot-first in
+    number-start (waking_first a.waking) a.n a.k a.choices.now c.no_sites-site.result first.result.sizes first.result.count c.no_sites-site.ensures first.ensures.0 first.ensures.1
+
+pub overflow_cast-site : goal.overflow_cast-site
+overflow_cast-site c = omega (arith, space c)
+
+pub offset_bounds-slots-count : goal.offset_bounds-slots-count
+offset_bounds-slots-count c = omega (arith, space c)
+
+pub bounds-slots-count : goal.bounds-slots-count
+bounds-slots-count c = omega (arith, space c)
+
+pub bounds-pairs-count : goal.bounds-pairs-count
+bounds-pairs-count c = omega (arith, space c)
+
+pub overflow_add-count : goal.overflow_add-count
+overflow_add-count c = omega (arith, space c)
+
+pub loop-i-preserved : goal.loop-i-preserved
+loop-i-preserved c = 
+    let a = c.args in
+    let p = c.requires in
+    let l = c.loop-i in
+    let e = sym (c.is_open.ensures a.n (omega arith)) in
+    ⊎_elim
+    (λ w. rw (w.2, w.3, w.5) (number-open (waking_first a.waking) a.n a.k a.choices.now l.site l.slots l.count l.i l.inv (omega arith) p.1 (e ∙ w.0.taken)))
+    (λ w. rw (w.1, w.2, w.4) (number-shut (waking_first a.waking) a.n a.k a.choices.now l.site l.slots l.count l.i l.inv (omega arith) (e ∙ w.0.left)))
+    c.if-is_open.came
+
+pub overflow_cast-result : goal.overflow_cast-result
+overflow_cast-result c = 
+    let a = c.args in
+    let l = c.loop-i in
+    omega (arith, l.inv.counts, few-before (waking_first a.waking) a.n a.k a.choices.now l.i l.inv.most c.requires.1)
+
+pub returns : goal.returns
+returns c = let a = c.args in let l = c.loop-i in number-end (waking_first a.waking) a.n a.k a.choices.now l.site l.slots l.pairs l.count l.i l.inv c.loop-i-test.false

@@ -1,0 +1,26 @@
+-- `pass`: the choices after c and before d are meant.
+use borrow.Author.Rules.{rules}
+use borrow.Author.Tests.{not-false}
+use native.Mathlib.Omega.{arith}
+use mathlib.Core.Path.{sym, ◌∙◌}
+use Prim.Native.Nat.{◌-◌, ◌≤◌}
+use Rattle.clearing.proofs.AskLaw.{PassingTo, passing-none, passed_none, passing-more, passing-all}
+use Rattle.clearing.proofs.ask.pass.Goals as goal
+
+pub returns-then-site-j : goal.returns-then-site-j
+returns-then-site-j c = passed_none
+
+pub loop-d-init : goal.loop-d-init
+loop-d-init c =     (passing-none (omega arith), omega (arith, c.choices-end.ensures, c.requires.0.choices c.args.j c.requires.1))
+
+pub meant-requires : goal.meant-requires
+meant-requires c =     (c.requires.0, c.pair_of-k.ensures)
+
+pub returns-then-not-meant : goal.returns-then-not-meant
+returns-then-not-meant c =     passing-all c.requires.0 c.pair_of-k.ensures c.requires.1 (sym c.site.ensures ∙ c.if-site-j.false) c.loop-d.invariant.0
+
+pub loop-d-preserved : goal.loop-d-preserved
+loop-d-preserved c =     (passing-more c.loop-d.invariant.0 (sym c.site.ensures ∙ c.if-site-j.false) c.requires.1 (c.meant.ensures (not-false _ c.if-not-meant.false)), c.loop-d.invariant.1)
+
+pub returns : goal.returns
+returns c =     passing-all c.requires.0 c.pair_of-k.ensures c.requires.1 (sym c.site.ensures ∙ c.if-site-j.false) c.loop-d.invariant.0

@@ -1,0 +1,17 @@
+-- `spoken`: the set has the slots before j.
+use borrow.Author.Rules.{rules}
+use native.Mathlib.Omega.{arith}
+use mathlib.Core.Path.{refl}
+use Prim.Native.Nat.{◌-◌, ◌≤◌}
+use Rattle.clearing.proofs.AskLaw.{speaks-none, speaks_more, speaks-all}
+use Rattle.clearing.specs.Asking.{Speaks}
+use Rattle.clearing.proofs.ask.spoken.Goals as goal
+
+pub loop-j-init : goal.loop-j-init
+loop-j-init c = (speaks-none, omega arith)
+
+pub loop-j-preserved : goal.loop-j-preserved
+loop-j-preserved c =     (speaks_more c.wide.ensures.0 refl c.loop-j.invariant.0 c.with_spoken-set.ensures, omega (arith, c.loop-j-test.true))
+
+pub returns : goal.returns
+returns c = speaks-all c.loop-j.invariant.0 c.loop-j-test.false

@@ -1,0 +1,14 @@
+-- `spoken`: the set has the slots before j.
+use borrow.Author.Rules.{rules}
+use native.Mathlib.Omega.{arith}
+use mathlib.Core.Path.{refl}
+use Prim.Native.Nat.{◌-◌, ◌≤◌}
+use Rattle.clearing.proofs.AskLaw.{speaks-none, speaks_more, speaks-all}
+use Rattle.clearing.specs.Asking.{Speaks}
+use Rattle.clearing.proofs.ask.spoken.Given as goal
+
+abbrev pub invariant-loop-j : goal.invariant-loop-j
+invariant-loop-j l = Speaks l.cube l.set l.j × (l.j ≤ 32)
+
+abbrev pub decreases-loop-j : goal.decreases-loop-j
+decreases-loop-j l = 32 - l.j

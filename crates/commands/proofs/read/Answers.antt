@@ -1,0 +1,5 @@
+use borrow.Author.Rules.{rules}
+use Rattle.commands.proofs.read.Goals as goal
+
+pub returns : goal.returns
+returns c = c.read_rules.ensures.answer

@@ -1,0 +1,9 @@
+use Rattle.lists.specs.Proving.{rules, ◌-◌}
+use Rattle.cubes.specs.laws.JoinLaw.{MeetsTo, meets-none, meets-more, meets-all}
+use Rattle.cubes.proofs.gather.meet_in.Given as goal
+
+abbrev pub invariant-loop-j : goal.invariant-loop-j
+invariant-loop-j l = MeetsTo l.initial.all l.cube l.all l.j
+
+abbrev pub decreases-loop-j : goal.decreases-loop-j
+decreases-loop-j l = 32 - l.j

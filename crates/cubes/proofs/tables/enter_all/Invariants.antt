@@ -1,0 +1,9 @@
+use Rattle.lists.specs.Proving.{rules, ◌-◌, not-false}
+use Rattle.cubes.specs.laws.FreeLaw.{AllTo, all_none, all_more, all-not, all-all}
+use Rattle.cubes.proofs.tables.enter_all.Given as goal
+
+abbrev pub invariant-loop-k : goal.invariant-loop-k
+invariant-loop-k l = AllTo l.block l.facts l.k
+
+abbrev pub decreases-loop-k : goal.decreases-loop-k
+decreases-loop-k l = 257 - l.k

@@ -1,0 +1,6 @@
+use Rattle.lists.specs.Proving.{rules}
+use Rattle.cubes.specs.laws.SetLaw.{one_shl}
+use Rattle.cubes.proofs.words.one.Goals as goal
+
+pub returns : goal.returns
+returns c = one_shl 16 c.args.s c.requires

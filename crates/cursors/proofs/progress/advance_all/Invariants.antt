@@ -1,0 +1,10 @@
+use Rattle.lists.specs.Proving.{rules, arith, ◌-◌, ◌≤◌}
+use Rattle.cursors.specs.Steering.{Advanced}
+use Rattle.cursors.proofs.MarkingLaw.{advanced-none, advanced-more}
+use Rattle.cursors.proofs.progress.advance_all.Given as goal
+
+abbrev pub invariant-loop-t : goal.invariant-loop-t
+invariant-loop-t l = (l.t ≤ 256) × Advanced l.last l.initial.cursors l.cursors
+
+abbrev pub decreases-loop-t : goal.decreases-loop-t
+decreases-loop-t l = 256 - l.t

@@ -1,0 +1,8 @@
+use Rattle.lists.specs.Proving.{rules, ◌-◌, ◌≤◌}
+use Rattle.cursors.proofs.proposal.backward.Given as goal
+
+abbrev pub invariant-loop-s : goal.invariant-loop-s
+invariant-loop-s l = l.s ≤ 255
+
+abbrev pub decreases-loop-s : goal.decreases-loop-s
+decreases-loop-s l = 255 - l.s

@@ -1,0 +1,10 @@
+use Rattle.lists.specs.Proving.{rules, arith, ◌-◌, ◌≤◌}
+use Rattle.cursors.specs.Steering.{Narrowed}
+use Rattle.cursors.proofs.NarrowingLaw.{narrowed_none, narrowed-more}
+use Rattle.cursors.proofs.proposal.narrow_states.Given as goal
+
+abbrev pub invariant-loop-n : goal.invariant-loop-n
+invariant-loop-n l = (l.n ≤ 16) × Narrowed l.base l.initial.cube l.cube
+
+abbrev pub decreases-loop-n : goal.decreases-loop-n
+decreases-loop-n l = 16 - l.n

@@ -1,0 +1,5 @@
+use Rattle.std.proofs.Common.{mod-lt, arith, rules}
+use Rattle.generator.proofs.draw.remainder.Goals as goal
+
+pub overflow_cast-result-2 : goal.overflow_cast-result-2
+overflow_cast-result-2 c = omega (arith, mod-lt c.args.n c.requires)

@@ -1,0 +1,10 @@
+-- `first_wrong`: the mutant gives the observations before i.
+use Rattle.lists.specs.Proving.{rules, arith, ◌-◌, length}
+use Rattle.logs.proofs.WrongLaw.{Walking, walk_start, walk-reset, walk-nothing, walk-right, walk-wrong, walk_end}
+use Rattle.logs.proofs.walk.first_wrong.Given as goal
+
+abbrev pub invariant-loop-i : goal.invariant-loop-i
+invariant-loop-i l = Walking l.outputs l.targets l.start l.log l.s l.begun l.position l.i
+
+abbrev pub decreases-loop-i : goal.decreases-loop-i
+decreases-loop-i l = length l.log - l.i

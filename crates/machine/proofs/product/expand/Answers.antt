@@ -1,0 +1,48 @@
+-- `expand`: up to the input x the pairs that entry h leads to are entered.
+use Prim.Native.Nat.{ℕ, ◌*◌, ◌≤◌, ◌-◌}
+use mathlib.Core.Path.{◌≡◌}
+use native.Mathlib.Omega.{arith}
+use borrow.Author.Rules.{rules}
+use Rattle.block.specs.Layout.{inputs_of}
+use Rattle.machine.specs.declared.product.Led.TheVariants as led
+use Rattle.machine.specs.Product.{tables}
+use Rattle.machine.specs.Tree.{Tree}
+use Rattle.machine.proofs.ProductLaw.{closed, other}
+use Rattle.machine.proofs.TreeLaw.{Expanding, expanding-none, expanding-pair, expanding-more, expanding-apart, expanding-all}
+use Rattle.machine.proofs.product.expand.Goals as goal
+
+pub bounds-entries-h : goal.bounds-entries-h
+bounds-entries-h c = omega (arith, c.requires.valid.1, c.requires.by_index.1.sized.room)
+
+pub loop-x-init : goal.loop-x-init
+loop-x-init c = (c.inputs-k.ensures, omega arith, λ start t. expanding-none t c.requires.valid.1 c.pair_of-v.ensures)
+
+pub lead-led-requires : goal.lead-led-requires
+lead-led-requires c =     let t = c.requires.by_index in
+    let inside = expanding-pair (c.loop-x.invariant.2 t.0 t.1) in record { valid = c.requires.valid.0; v_bound = (inside.0, inside.1, omega (arith, c.loop-x.invariant.0, c.loop-x-test.true)) }
+
+pub returns-in-Apart : goal.returns-in-Apart
+returns-in-Apart c =     let valid = c.requires.valid.0 in
+    λ start t. expanding-apart (closed valid start _) valid.formed.few-states valid.formed.few-inputs (c.loop-x.invariant.2 start t)
+    (omega (arith, c.loop-x.invariant.0, c.loop-x-test.true)) (c.lead-led.ensures start) c.in-Apart.is
+
+pub enter-n-requires : goal.enter-n-requires
+enter-n-requires c =     let t = c.requires.by_index in
+    let g = c.loop-x.invariant.2 t.0 t.1 in
+    (g.tree.sized, omega (arith, c.wide.ensures.0, g.there, g.tree.sized.room, c.loop-x-test.true, c.loop-x.invariant.0, c.requires.valid.0.formed.few-inputs))
+
+pub loop-x-preserved : goal.loop-x-preserved
+loop-x-preserved c =     let valid = c.requires.valid.0 in
+    let inv = c.loop-x.invariant in (
+      inv.0,
+      omega (arith, c.loop-x-test.true),
+      λ start t. expanding-more (closed valid start _) valid.formed.few-states valid.formed.few-inputs (inv.2 start t)
+          (omega (arith, inv.0, c.loop-x-test.true)) (c.lead-led.ensures start)
+          (other _ led.Apart c.in_default.keys2 (λ z. omega arith) (λ z. omega arith)) (rw c.wide.ensures.0 at c.enter-n.ensures),
+    )
+
+pub returns : goal.returns
+returns c = λ start t.
+    let valid = c.requires.valid.0 in
+    expanding-all (closed valid start _) valid.formed.few-states valid.formed.few-inputs (c.loop-x.invariant.2 start t)
+    (omega (arith, c.loop-x.invariant.0, c.loop-x.invariant.1, c.loop-x-test.false))

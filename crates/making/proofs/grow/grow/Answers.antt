@@ -1,0 +1,98 @@
+-- `grow`: from survivor to survivor, each test leaves less room.
+use borrow.Author.Rules.{rules}
+use native.Mathlib.Omega.{arith}
+use Prim.Native.Nat.{◌≤◌}
+use mathlib.Core.Path.{◌≡◌, sym, ◌∙◌, ap}
+use lib.ListN.{length}
+use lib.Seq.{length-take-le}
+use Rattle.making.specs.declared.grow.Growth.{Growth}
+use Rattle.making.specs.declared.grow.Next.TheVariants.{Ends, Appends}
+use Rattle.making.specs.words.Growing.{next_of}
+use Rattle.making.proofs.GrowLaw.{Turning, turning-start, sweep-asks, log-inside, block-formed, follow-asks, reached-end, gives_up, few-inputs, append-asks, longer-asks, turning-more}
+use Rattle.making.proofs.grow.grow.Goals as goal
+
+abbrev appends : (c : tie.After-d invariant-loop decreases-loop) →
+    let s = sweep c.before.before in
+    next_of s.next-survivor.result (turn s).loop.g.room (turn s).loop.g.end ≡ Appends c.d.given.0.0
+appends c = sym c.before.before.follow.ensures ∙ c.d.given.1
+
+few : (c : tie.After-d invariant-loop decreases-loop) → c.d.given.0.0 ≤ length (sweep c.before.before).next-survivor.last.1.1.1.1.1.1.1.0
+few c =
+    let s = sweep c.before.before in
+    let most = few-inputs (turn s).loop.inv s.next-survivor.result _ _ _ s.next-survivor.ensures.0 (appends c) in
+    omega (arith, most, s.next-survivor.kept.1.1.1.1.1.1.1.0, (turn s).loop.inv.long)
+
+inside : (c : tie.After-append invariant-loop decreases-loop) → c.append.result ≤ length c.append.new.1.1.1.1.0
+inside c =
+    let d = before-append c in
+    let s = sweep d.before.before in
+    let asked = append-asks (turn s).loop.inv s.next-survivor.result _ _ _ s.next-survivor.ensures.0 (appends d) in
+    (c.append.ensures asked.0 asked.1 asked.2).inside
+
+pub loop-state-init : goal.loop-state-init
+loop-state-init c =     turning-start c.requires.facts_len c.requires.ready c.first_choices-p.ensures c.no_blame-blame.ensures c.no_inputs-sequence.ensures
+
+pub slice_bounds-next_survivor-end : goal.slice_bounds-next_survivor-end
+slice_bounds-next_survivor-end c = log-inside c.loop-state.invariant
+
+pub slice_bounds-next_survivor-end-in-loop-state : goal.slice_bounds-next_survivor-end-in-loop-state
+slice_bounds-next_survivor-end-in-loop-state c = sym (length-take-le _ _ (log-inside c.loop-state.invariant))
+
+pub slice_bounds-next_survivor-end-in-loop-state-2 : goal.slice_bounds-next_survivor-end-in-loop-state-2
+slice_bounds-next_survivor-end-in-loop-state-2 c = sym c.loop-state.invariant.long
+
+pub next_survivor-found-requires : goal.next_survivor-found-requires
+next_survivor-found-requires c = record { block_in_bounds = (sweep-asks c.loop-state.invariant).0; ready = (sweep-asks c.loop-state.invariant).1 }
+
+pub follow-requires : goal.follow-requires
+follow-requires c =     follow-asks c.loop-state.invariant c.next_survivor-found.result _ _ _ c.next_survivor-found.ensures.outcome_ok
+
+pub shape_of-store-in-Ends : goal.shape_of-store-in-Ends
+shape_of-store-in-Ends c =     c.next_survivor-found.kept.1.1.1.0 ∙ c.loop-state.invariant.same_store
+
+pub shape_of-notes-in-Ends : goal.shape_of-notes-in-Ends
+shape_of-notes-in-Ends c =     c.next_survivor-found.kept.1.1.1.1.0 ∙ c.loop-state.invariant.same-notes
+
+pub shape_of-bytes-in-Ends : goal.shape_of-bytes-in-Ends
+shape_of-bytes-in-Ends c = (turn c).loop.inv.same_bytes
+
+pub shape_of-log-in-Ends : goal.shape_of-log-in-Ends
+shape_of-log-in-Ends c = (turn c).loop.inv.same_log
+
+pub returns-in-Ends : goal.returns-in-Ends
+returns-in-Ends c =     let inv = c.loop-state.invariant in
+    let ends = sym c.follow.ensures ∙ c.in-Ends.is in
+    let is = c.ended.ensures in record { fact = λ result sh gr. rw is (reached-end {g = c.loop-state.g} _ _ _ c.next_survivor-found.result _ ends (inv.each result sh gr) c.next_survivor-found.ensures.outcome_ok); store_len = λ u. sym inv.same_store ∙ c.next_survivor-found.ensures.store_ok.1 (gives_up c.next_survivor-found.result _ _ (ends ∙ ap Ends (sym (ap (λ (g : Growth). g.state) is) ∙ u))) }
+
+pub slice_bounds-sequence-end : goal.slice_bounds-sequence-end
+slice_bounds-sequence-end c = few c
+
+pub slice_bounds-append-end : goal.slice_bounds-append-end
+slice_bounds-append-end c = sym (length-take-le _ _ (few c))
+
+pub append-observed-requires : goal.append-observed-requires
+append-observed-requires c =     append-asks c.loop-state.invariant c.next_survivor-found.result _ _ _ c.next_survivor-found.ensures.outcome_ok (appends c)
+
+pub note_test-requires : goal.note_test-requires
+note_test-requires c = (turn (sweep c)).loop.inv.facts-long
+
+pub slice_bounds-test_survivors-end : goal.slice_bounds-test_survivors-end
+slice_bounds-test_survivors-end c = inside c
+
+pub slice_bounds-test_survivors-end-in-loop-state : goal.slice_bounds-test_survivors-end-in-loop-state
+slice_bounds-test_survivors-end-in-loop-state c = sym (length-take-le _ _ (inside c))
+
+pub test_survivors-requires : goal.test_survivors-requires
+test_survivors-requires c = block-formed (turn (sweep c)).loop.inv
+
+pub longer-g-requires : goal.longer-g-requires
+longer-g-requires c =     longer-asks c.loop-state.invariant c.next_survivor-found.result _ _ _ c.next_survivor-found.ensures.outcome_ok (appends c)
+
+pub loop-state-smaller : goal.loop-state-smaller
+loop-state-smaller c = omega (arith, ap (λ (g : Growth). g.room) c.longer-g.ensures, (longer-requires c _).0)
+
+pub loop-state-preserved : goal.loop-state-preserved
+loop-state-preserved c =     let swept = c.next_survivor-found in
+    turning-more c.loop-state.invariant swept.result _ _ _ swept.ensures.0 (appends c) _ _ _ _ _ _ c.append-observed.ensures _ c.longer-g.ensures c.note_test.ensures
+    swept.ensures.1.0 swept.kept.1.1.1.0 (c.test_survivors.auto.1.1.0 ∙ swept.kept.1.1.1.1.0) c.append-observed.auto.1.1.0 c.append-observed.auto.1.1.1.1.0
+    swept.kept.1.1.1.1.1.1.1.0

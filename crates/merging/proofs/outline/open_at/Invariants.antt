@@ -1,0 +1,12 @@
+-- `open_at`: those before x are counted.
+use Rattle.lists.specs.Proving.{rules, arith, sym, ◌∙◌, ap, ◌≡◌, refl, ◌-◌, ◌≤◌, ⊎_elim}
+use Rattle.lists.specs.Lists.{count}
+use Rattle.merging.specs.words.Outlined.{either_open}
+use Rattle.merging.proofs.OpenLaw.{count_yes, count_no}
+use Rattle.merging.proofs.outline.open_at.Given as goal
+
+abbrev pub invariant-loop-x : goal.invariant-loop-x
+invariant-loop-x l = (l.x ≤ l.inputs) × (l.n ≤ l.x) × (l.n ≡ count (either_open l.choices l.others l.s) l.x)
+
+abbrev pub decreases-loop-x : goal.decreases-loop-x
+decreases-loop-x l = l.inputs - l.x

@@ -1,0 +1,9 @@
+use Rattle.lists.specs.Proving.{rules, ◌+◌, ◌-◌}
+use Rattle.mirror.proofs.ExchangeLaw.{SwapsTo, swaps-none, swaps-more, swaps-all}
+use Rattle.mirror.proofs.exchange.exchange_all.Given as goal
+
+abbrev pub invariant-loop-a : goal.invariant-loop-a
+invariant-loop-a l = SwapsTo l.block l.initial.facts l.facts l.a
+
+abbrev pub decreases-loop-a : goal.decreases-loop-a
+decreases-loop-a l = 16 - l.a

@@ -1,0 +1,11 @@
+use Rattle.lists.specs.Proving.{rules, ◌-◌}
+use Rattle.mirror.specs.Mirror.{Each, Exchangeable}
+use Rattle.mirror.proofs.OtherLaw.{each_none, each_more}
+use Rattle.mirror.proofs.ExchangeLaw.{movable}
+use Rattle.mirror.proofs.exchange.partners.Given as goal
+
+abbrev pub invariant-loop-b : goal.invariant-loop-b
+invariant-loop-b l = Each (λ t. Exchangeable l.block l.a t) l.set
+
+abbrev pub decreases-loop-b : goal.decreases-loop-b
+decreases-loop-b l = l.end - l.b

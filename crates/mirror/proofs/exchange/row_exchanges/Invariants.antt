@@ -1,0 +1,11 @@
+use Rattle.lists.specs.Proving.{rules, arith, ◌-◌, not-false, never}
+use Rattle.block.specs.Layout.{pair}
+use Rattle.mirror.specs.Mirror.{other, Below, Exchanges}
+use Rattle.mirror.proofs.OtherLaw.{other-low, none_below, more-below, all-below}
+use Rattle.mirror.proofs.exchange.row_exchanges.Given as goal
+
+abbrev pub invariant-loop-x : goal.invariant-loop-x
+invariant-loop-x l = Below (λ y. Exchanges l.block l.a l.b (pair l.s y) (pair (other l.a l.b l.s) y)) l.x
+
+abbrev pub decreases-loop-x : goal.decreases-loop-x
+decreases-loop-x l = l.end - l.x

@@ -1,0 +1,11 @@
+use Rattle.lists.specs.Proving.{rules, ◌-◌}
+use Rattle.mirror.specs.Mirror.{Each}
+use Rattle.mirror.specs.Reflect.{Mirrors}
+use Rattle.mirror.proofs.OtherLaw.{each_none, each_more}
+use Rattle.mirror.proofs.reflection.images.Given as goal
+
+abbrev pub invariant-loop-b : goal.invariant-loop-b
+invariant-loop-b l = Each (λ t. Mirrors l.block l.cube l.i l.a t) l.found
+
+abbrev pub decreases-loop-b : goal.decreases-loop-b
+decreases-loop-b l = 16 - l.b

@@ -1,0 +1,12 @@
+use Rattle.lists.specs.Proving.{rules, arith, ◌-◌, not-false, never}
+use Rattle.block.specs.Layout.{pair}
+use Rattle.mirror.specs.Mirror.{Below}
+use Rattle.mirror.specs.Reflect.{Quiet}
+use Rattle.mirror.proofs.OtherLaw.{none_below, more-below, all-below}
+use Rattle.mirror.proofs.reflection.silent.Given as goal
+
+abbrev pub invariant-loop-x : goal.invariant-loop-x
+invariant-loop-x l = Below (λ y. Quiet l.block l.cube (pair l.s y)) l.x
+
+abbrev pub decreases-loop-x : goal.decreases-loop-x
+decreases-loop-x l = l.end - l.x

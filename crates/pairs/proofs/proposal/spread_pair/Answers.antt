@@ -1,0 +1,15 @@
+use Rattle.lists.specs.Proving.{rules, arith, ◌-◌, ◌≤◌}
+use Rattle.leaves.specs.Members.{Literals}
+use Rattle.pairs.proofs.proposal.spread_pair.Goals as goal
+
+pub loop-x-init : goal.loop-x-init
+loop-x-init c = (omega arith, λ f. f)
+
+pub returns-then-w-eq0 : goal.returns-then-w-eq0
+returns-then-w-eq0 c = λ f. c.spread_cell-w.ensures (c.loop-x.invariant.1 f)
+
+pub loop-x-preserved : goal.loop-x-preserved
+loop-x-preserved c = (omega arith, λ f. c.spread_cell-w.ensures (c.loop-x.invariant.1 f))
+
+pub returns : goal.returns
+returns c = c.loop-x.invariant.1

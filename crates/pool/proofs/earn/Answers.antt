@@ -1,0 +1,7 @@
+use borrow.Author.Rules.{rules}
+use native.Mathlib.Omega.{arith}
+use Rattle.leaves.specs.laws.NotedLaw.{changed-set}
+use Rattle.pool.proofs.earn.Goals as goal
+
+pub returns : goal.returns
+returns c = changed-set _ _ (omega arith) (omega arith) c.set_note.ensures

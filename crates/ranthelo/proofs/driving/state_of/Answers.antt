@@ -1,0 +1,7 @@
+-- The state of the numbers, one by one.
+use borrow.Author.Rules.{rules}
+use mathlib.Core.Path.{refl}
+use Rattle.ranthelo.proofs.driving.state_of.Goals as goal
+
+pub returns : goal.returns
+returns c = rw c.phase_of.ensures refl

@@ -1,0 +1,8 @@
+-- The answer's numbers are those of the operation's answer, and the buffers hold what it writes.
+use Rattle.lists.specs.Proving.{rules, ap, ◌∙◌}
+use Rattle.ranthelo.specs.Numbers.{explained_numbers}
+use Rattle.ranthelo.proofs.ranthelo_record_board.Goals as goal
+
+pub returns : goal.returns
+returns c = 
+    let e = c.explain_record.ensures in record { answer_after = c.tell_explained.ensures ∙ ap explained_numbers e.0; board_after = e.1.0; sequence_after = e.1.1.0 }

@@ -1,0 +1,10 @@
+-- The answer's numbers, case by case.
+use Rattle.lists.specs.Proving.{rules, ap, sym}
+use Rattle.ranthelo.specs.Numbers.{explained_numbers}
+use Rattle.ranthelo.proofs.tell_explained.Goals as goal
+
+pub returns-in-Departs : goal.returns-in-Departs
+returns-in-Departs c = ap explained_numbers (sym c.in-Departs.is)
+
+pub returns-in-Refused : goal.returns-in-Refused
+returns-in-Refused c = ap explained_numbers (sym c.in-Refused.is)

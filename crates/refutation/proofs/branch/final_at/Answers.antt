@@ -1,0 +1,9 @@
+use Rattle.lists.specs.Proving.{rules, sym, not-false}
+use Rattle.store.specs.laws.ToldLaw.{void}
+use Rattle.refutation.proofs.branch.final_at.Goals as goal
+
+pub returns-then-not-ok : goal.returns-then-not-ok
+returns-then-not-ok c = λ e. void (sym e)
+
+pub returns : goal.returns
+returns c = λ e. not-false _ c.if-not-ok.false

@@ -1,0 +1,10 @@
+-- `settled_as`: the choices before j are settled.
+use Rattle.lists.specs.Proving.{rules, arith, ◌-◌, refl}
+use Rattle.search.proofs.AfterLaw.{FilledTo, filled_none, filled_more, filled-all}
+use Rattle.search.proofs.settle.settled_as.Given as goal
+
+abbrev pub invariant-loop-j : goal.invariant-loop-j
+invariant-loop-j l = FilledTo l.last l.p l.j
+
+abbrev pub decreases-loop-j : goal.decreases-loop-j
+decreases-loop-j l = l.end - l.j

@@ -1,0 +1,9 @@
+use Rattle.lists.specs.Proving.{rules, arith, ◌-◌}
+use Rattle.store.proofs.StoreLaw.{Copied, copied_none, copied_more, copied_all}
+use Rattle.store.proofs.entries.literals.Given as goal
+
+abbrev pub invariant-loop-j : goal.invariant-loop-j
+invariant-loop-j l = Copied l.store l.cube l.e l.j
+
+abbrev pub decreases-loop-j : goal.decreases-loop-j
+decreases-loop-j l = 32 - l.j

@@ -1,0 +1,14 @@
+-- `prefix`: the choices that are settled are p's.
+use borrow.Author.Rules.{rules}
+use Prim.Native.Nat.{◌-◌}
+use Rattle.sweep.proofs.TurnLaw.{Prefixed, prefixed-none, prefixed-more}
+use Rattle.sweep.proofs.turn.prefix.Goals as goal
+
+pub loop-j-init : goal.loop-j-init
+loop-j-init c = prefixed-none c.requires
+
+pub loop-j-preserved : goal.loop-j-preserved
+loop-j-preserved c = prefixed-more c.loop-j.invariant c.loop-j-test.true
+
+pub returns : goal.returns
+returns c = c.loop-j.invariant.has

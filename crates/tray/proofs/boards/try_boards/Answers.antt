@@ -1,0 +1,57 @@
+-- `try_boards`: the results of the first i stand at the front.
+use Rattle.lists.specs.Proving.{rules, arith, ◌-◌, ◌≤◌, ◌≡◌, ◌∙◌, length}
+use Rattle.sheet.specs.Sheet.{Sheet}
+use Rattle.model.specs.Mutant.{slots}
+use Rattle.search.specs.Search.{ForSheet}
+use Rattle.tray.specs.words.Trays.{TrayOf}
+use Rattle.tray.proofs.TryLaw.{TriedTo, tried-none, tried-end, tried-room, tried-mutant, tried-more, tried-all}
+use Rattle.tray.proofs.boards.try_boards.Goals as goal
+
+slots-count : (c : tie.After-wide invariant-loop decreases-loop) (sh : Sheet) → ForSheet sh (entry c).args.block.now (entry c).args.log.now → c.wide.result ≡ length (slots sh)
+slots-count c sh su = c.wide.ensures.0 ∙ c.before.slots.ensures ∙ su.tabled.count
+
+pub loop-i-init : goal.loop-i-init
+loop-i-init c = (omega arith, λ sh su tr. tried-none)
+
+pub overflow_add-end : goal.overflow_add-end
+overflow_add-end c =     let pre = c.requires in
+    omega (arith, c.well_formed, tried-end pre.2 c.loop-i-test.true (slots-count c pre.0 pre.1) (c.loop-i.invariant.1 pre.0 pre.1 pre.2))
+
+pub slice_bounds-try_board-end : goal.slice_bounds-try_board-end
+slice_bounds-try_board-end c =     let pre = c.requires in
+    omega (arith, tried-end pre.2 c.loop-i-test.true (slots-count c pre.0 pre.1) (c.loop-i.invariant.1 pre.0 pre.1 pre.2))
+
+pub try_board-requires : goal.try_board-requires
+try_board-requires c =     let pre = c.requires in
+    (pre.0, pre.1, tried-mutant pre.2 c.loop-i-test.true (slots-count c pre.0 pre.1) (c.loop-i.invariant.1 pre.0 pre.1 pre.2))
+
+pub offset_bounds-results-i : goal.offset_bounds-results-i
+offset_bounds-results-i c =     let pre = c.requires in
+    let inv = c.loop-i.invariant.1 pre.0 pre.1 pre.2 in
+    omega (arith, c.well_formed, c.fits, inv.long, tried-room pre.2 c.loop-i-test.true (slots-count c pre.0 pre.1) inv)
+
+pub bounds-results-i : goal.bounds-results-i
+bounds-results-i c =     let pre = c.requires in
+    tried-room pre.2 c.loop-i-test.true (slots-count c pre.0 pre.1) (c.loop-i.invariant.1 pre.0 pre.1 pre.2)
+
+pub overflow_add-i : goal.overflow_add-i
+overflow_add-i c = omega (arith, c.loop-i-test.true, c.well_formed)
+
+pub loop-i-smaller : goal.loop-i-smaller
+loop-i-smaller c = omega (arith, c.loop-i-test.true)
+
+pub loop-i-preserved : goal.loop-i-preserved
+loop-i-preserved c =     let taken = c.loop-i-test.true in (
+      omega (arith, taken),
+      λ sh su tr.
+          let inv = c.loop-i.invariant.1 sh su tr in
+          let count = slots-count c sh su in
+          tried-more tr taken count inv (c.try_board.ensures sh su (tried-mutant tr taken count inv)),
+    )
+
+pub shape_of-results : goal.shape_of-results
+shape_of-results c =     let pre = c.requires in
+    (c.loop-i.invariant.1 pre.0 pre.1 pre.2).long
+
+pub returns : goal.returns
+returns c = λ sh su tr. tried-all c.loop-i.invariant.0 c.loop-i-test.false (c.loop-i.invariant.1 sh su tr)

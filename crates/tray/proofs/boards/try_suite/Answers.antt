@@ -1,0 +1,54 @@
+-- `try_suite`: the suite's log, in a short array or a long one, and the results by it.
+use Rattle.lists.specs.Proving.{rules, arith, sym, ℕ, List, take}
+use lib.Seq.{length-take-le}
+use Rattle.sheet.specs.Sheet.{Sheet}
+use Rattle.block.specs.Tabled.{ReadFrom}
+use Rattle.logs.specs.Suites.{Logged}
+use Rattle.logs.specs.laws.SuitesLaw.{suite-short, suite-long}
+use Rattle.search.specs.Search.{ForSheet}
+use Rattle.tray.proofs.boards.try_suite.Goals as goal
+
+by-log : {sh : Sheet} {s starts lengths m log : List ℕ} {tests n : ℕ} → ReadFrom sh s starts lengths tests m → Logged sh log n → ForSheet sh m (take n log)
+by-log rd lg = record { tabled = rd.loads.tabled; suite = lg.is }
+
+abbrev Read : tie.After-slice-known → Sheet → Type 0
+Read c sh = let a = (entry c).args in ReadFrom sh a.sheet.now a.starts.now a.lengths.now a.tests a.block.now
+-- the suite's log, in either array
+
+abbrev short-log : (c : tie.After-log-suite) (sh : Sheet) → Read c.before.before.before sh → (log : List ℕ) × Logged sh log c.log-suite.result
+short-log c sh rd = (_, c.log-suite.ensures sh (suite-short rd (omega (arith, c.before.before.if1.true))))
+
+abbrev long-log : (c : tie.After-log-suite2) (sh : Sheet) → Read c.before.before.before sh → (log : List ℕ) × Logged sh log c.log-suite2.result
+long-log c sh rd = (_, c.log-suite2.ensures sh (suite-long rd (omega arith)))
+
+pub log_suite-n-requires : goal.log_suite-n-requires
+log_suite-n-requires c = let pre = c.requires in (pre.0, suite-short pre.1 (omega (arith, c.if-sheet-le1024.true)))
+
+pub slice_bounds-short-end : goal.slice_bounds-short-end
+slice_bounds-short-end c = let pre = c.requires in (short-log c pre.0 pre.1).1.inside
+
+pub slice_bounds-try_boards-end : goal.slice_bounds-try_boards-end
+slice_bounds-try_boards-end c = sym (length-take-le _ _ (array-share-prefix-short c))
+
+pub try_boards-requires : goal.try_boards-requires
+try_boards-requires c =     let pre = c.requires in
+    (pre.0, by-log pre.1 (short-log c pre.0 pre.1).1, pre.2)
+
+pub returns-then-sheet-le1024 : goal.returns-then-sheet-le1024
+returns-then-sheet-le1024 c =     λ sh rd tr. c.try_boards.ensures sh (by-log rd (short-log c sh rd).1) tr
+
+pub log_suite-n-requires-2 : goal.log_suite-n-requires-2
+log_suite-n-requires-2 c = let pre = c.requires in (pre.0, suite-long pre.1 (omega arith))
+
+pub slice_bounds-long-end : goal.slice_bounds-long-end
+slice_bounds-long-end c = let pre = c.requires in (long-log c pre.0 pre.1).1.inside
+
+pub slice_bounds-try_boards-end-2 : goal.slice_bounds-try_boards-end-2
+slice_bounds-try_boards-end-2 c = sym (length-take-le _ _ (array-share-prefix-long c))
+
+pub try_boards-requires-2 : goal.try_boards-requires-2
+try_boards-requires-2 c =     let pre = c.requires in
+    (pre.0, by-log pre.1 (long-log c pre.0 pre.1).1, pre.2)
+
+pub returns : goal.returns
+returns c =     λ sh rd tr. c.try_boards-2.ensures sh (by-log rd (long-log c sh rd).1) tr

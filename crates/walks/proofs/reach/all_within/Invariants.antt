@@ -1,0 +1,9 @@
+use Rattle.lists.specs.Proving.{rules, arith, ◌-◌, not-false, never}
+use Rattle.walks.proofs.ReachLaw.{WithinTo, within_none, within_more, within_all}
+use Rattle.walks.proofs.reach.all_within.Given as goal
+
+abbrev pub invariant-loop-s : goal.invariant-loop-s
+invariant-loop-s l = WithinTo l.rows l.done l.s
+
+abbrev pub decreases-loop-s : goal.decreases-loop-s
+decreases-loop-s l = l.end - l.s

@@ -1,0 +1,10 @@
+use Rattle.lists.specs.Proving.{rules, ◌-◌, ◌∙◌}
+use Rattle.walks.specs.Reaching.{RowReached}
+use Rattle.walks.proofs.ReachLaw.{row-none, row_more, row-stopped, row-all}
+use Rattle.walks.proofs.reach.row.Given as goal
+
+abbrev pub invariant-loop-x : goal.invariant-loop-x
+invariant-loop-x l = RowReached l.block l.p l.initial.rows l.rows l.initial.reach l.reach l.k l.x
+
+abbrev pub decreases-loop-x : goal.decreases-loop-x
+decreases-loop-x l = l.end - l.x

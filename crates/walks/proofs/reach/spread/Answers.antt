@@ -1,0 +1,30 @@
+use Rattle.lists.specs.Proving.{rules, arith, ◌-◌, not-false}
+use Rattle.walks.proofs.ReachLaw.{Spreading, spreading-none, spreading-more, spreading-all}
+use Rattle.walks.proofs.reach.spread.Goals as goal
+
+pub loop-n-init : goal.loop-n-init
+loop-n-init c = spreading-none c.start-reach.ensures
+
+pub bounds-queue-n : goal.bounds-queue-n
+bounds-queue-n c = omega (arith, c.loop-n-test.true, c.wide16.ensures, c.loop-n.invariant.few)
+
+pub row-reach-requires : goal.row-reach-requires
+row-reach-requires c = (c.requires, c.loop-n.invariant.long)
+
+pub returns-then-reach : goal.returns-then-reach
+returns-then-reach c = λ e. absurd (omega (arith, e, c.if-reach.true))
+
+pub overflow_add-n : goal.overflow_add-n
+overflow_add-n c = omega (arith, c.loop-n-test.true, c.wide16.ensures, c.loop-n.invariant.few)
+
+pub loop-n-smaller : goal.loop-n-smaller
+loop-n-smaller c = omega (arith, c.loop-n-test.true, c.wide16.ensures, c.loop-n.invariant.few)
+
+pub loop-n-preserved : goal.loop-n-preserved
+loop-n-preserved c = spreading-more c.row_of-s.ensures.0 c.row_of-s.ensures.1 c.loop-n.invariant c.row-reach.ensures c.one.ensures c.union.ensures
+
+pub returns-then-not-all_within : goal.returns-then-not-all_within
+returns-then-not-all_within c = λ e. absurd (omega (arith, e))
+
+pub returns : goal.returns
+returns c = λ e. spreading-all c.requires c.loop-n.invariant (c.all_within.ensures (not-false _ c.if-not-all_within.false)) e

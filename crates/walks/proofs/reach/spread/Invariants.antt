@@ -1,0 +1,9 @@
+use Rattle.lists.specs.Proving.{rules, arith, ◌-◌, not-false}
+use Rattle.walks.proofs.ReachLaw.{Spreading, spreading-none, spreading-more, spreading-all}
+use Rattle.walks.proofs.reach.spread.Given as goal
+
+abbrev pub invariant-loop-n : goal.invariant-loop-n
+invariant-loop-n l = Spreading l.block l.p l.rows l.done l.reach
+
+abbrev pub decreases-loop-n : goal.decreases-loop-n
+decreases-loop-n l = 256 - l.n

@@ -1,0 +1,11 @@
+-- `walk`: it stands where it is.
+use Rattle.lists.specs.Proving.{rules, arith, ◌-◌, ◌<◌, length, sym, ◌∙◌}
+use Rattle.walks.specs.Walks.{Stands}
+use Rattle.walks.proofs.StandLaw.{suspect-low, settled-step, step-on, step-not}
+use Rattle.walks.proofs.walk.walk.Given as goal
+
+abbrev pub invariant-loop-at : goal.invariant-loop-at
+invariant-loop-at l = Stands l.block l.log l.p (record { l.at = l.at; l.state = l.state; l.used = l.used })
+
+abbrev pub decreases-loop-at : goal.decreases-loop-at
+decreases-loop-at l = length l.log - l.at
