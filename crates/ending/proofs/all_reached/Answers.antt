@@ -23,7 +23,7 @@ pub overflow_add-j : goal.overflow_add-j
 overflow_add-j c = omega (arith, c.requires)
 
 pub loop-j-preserved : goal.loop-j-preserved
-loop-j-preserved c =     (
+loop-j-preserved c = (
       omega arith,
       λ sh e h.
           let r = c.loop-j.invariant.1 sh e h in

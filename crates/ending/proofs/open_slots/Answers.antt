@@ -12,16 +12,16 @@ pub loop-s-init : goal.loop-s-init
 loop-s-init c = (omega arith, omega arith, λ sh e h k. laws.slots-none sh _ k)
 
 pub open_at-n-requires : goal.open_at-n-requires
-open_at-n-requires c =     (c.requires, omega (arith, c.requires))
+open_at-n-requires c = (c.requires, omega (arith, c.requires))
 
 pub overflow_add-n : goal.overflow_add-n
-overflow_add-n c =     omega (arith, c.requires)
+overflow_add-n c = omega (arith, c.requires)
 
 pub loop-s-preserved : goal.loop-s-preserved
-loop-s-preserved c =     (omega arith, omega arith, λ sh e h k. laws.slots-more sh _ _ _ (c.loop-s.invariant.2 sh e h k) (c.open_at-n.ensures.counted sh e h))
+loop-s-preserved c = (omega arith, omega arith, λ sh e h k. laws.slots-more sh _ _ _ (c.loop-s.invariant.2 sh e h k) (c.open_at-n.ensures.counted sh e h))
 
 pub returns : goal.returns
-returns c =     let a = c.args in
+returns c = let a = c.args in
     λ sh h.
     let e : c.loop-s.s ≡ a.size.states = omega arith in
     laws.slots-all sh _

@@ -28,7 +28,7 @@ pub overflow_add-s : goal.overflow_add-s
 overflow_add-s c = omega (arith, c.requires)
 
 pub loop-s-preserved : goal.loop-s-preserved
-loop-s-preserved c =     elim c.if-done-s.branch [
+loop-s-preserved c = elim c.if-done-s.branch [
     then-done-s w ↦ (omega arith, λ rules f g h d m q. rw w.next-is (laws.round-new c.args.size rules g d m _ (omega (arith, c.requires)) w.if-done-s.true (w.spread-more.ensures rules _ h (c.loop-s.invariant.1 rules f g h d m q))))
     | else-done-s w ↦ (omega arith, λ rules f g h d m q. rw w.next-is (laws.round-known c.args.size rules g d m _ (omega (arith, c.requires)) q (omega arith) w.if-done-s.false (c.loop-s.invariant.1 rules f g h d m q)))
     ]

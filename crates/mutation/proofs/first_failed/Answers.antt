@@ -9,18 +9,18 @@ use borrow.Author.Rules.{rules}
 use Rattle.mutation.proofs.first_failed.Goals as goal
 
 pub returns-in_default : goal.returns-in_default
-returns-in_default c =     let a = c.args in
+returns-in_default c = let a = c.args in
     let g = c.in_default.given in
     let z = refusal-told _ _ _ _ c.refusal_of-why.ensures g.1 in
     let e = failing-refused a.sheet.now g.0.0 g.0.1.0 (closed-by a.sheet.now c.load-reading.ensures.value g.0.0 g.0.1.0 g.1) a.mutant.now in
     let answer = ap₂ Refused z.0 z.1 ∙ sym (ap failed_answer e) in record { answer = answer; told = told-failed a.sheet.now a.mutant.now _ answer }
 
 pub first_failed_accepted-requires : goal.first_failed_accepted-requires
-first_failed_accepted-requires c =     let a = c.args in
+first_failed_accepted-requires c = let a = c.args in
     let o = opened a.sheet.now c.load-reading.ensures.value c.in-Accepted.is c.load-reading.ensures.block_len.1 in (o.sheet, o.holds)
 
 pub returns : goal.returns
-returns c =     let a = c.args in
+returns c = let a = c.args in
     let o = opened a.sheet.now c.load-reading.ensures.value c.in-Accepted.is c.load-reading.ensures.block_len.1 in
     let e = failing-on a.sheet.now o.sheet o.is a.mutant.now in
     let answer = c.first_failed_accepted.ensures o.sheet o.holds ∙ sym (ap failed_answer e) in record { answer = answer; told = told-failed a.sheet.now a.mutant.now _ answer }

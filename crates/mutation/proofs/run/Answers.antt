@@ -11,7 +11,7 @@ use borrow.Author.Rules.{rules}
 use Rattle.mutation.proofs.run.Goals as goal
 
 pub returns-in_default : goal.returns-in_default
-returns-in_default c =     let a = c.args in
+returns-in_default c = let a = c.args in
     let g = c.in_default.given in
     let z = refusal-told _ _ _ _ c.refusal_of-why.ensures g.1 in
     let e = running-refused a.sheet.now g.0.0 g.0.1.0 (closed-by a.sheet.now c.load-reading.ensures.value g.0.0 g.0.1.0 g.1) a.mutant.now a.inputs.now (length a.buffer.now) in
@@ -19,10 +19,10 @@ returns-in_default c =     let a = c.args in
     let bytes = sym (ap (λ q. overlay (ran_writes q) a.buffer.now) e) in record { answer = answer; bytes = bytes; told = told-ran a.sheet.now a.mutant.now a.inputs.now (length a.buffer.now) _ a.buffer.now a.buffer.now answer bytes }
 
 pub run_accepted-requires : goal.run_accepted-requires
-run_accepted-requires c =     let a = c.args in
+run_accepted-requires c = let a = c.args in
     let o = opened a.sheet.now c.load-reading.ensures.value c.in-Accepted.is c.load-reading.ensures.block_len.1 in (o.sheet, o.holds.loads.tabled)
 
 pub returns : goal.returns
-returns c =     let a = c.args in
+returns c = let a = c.args in
     let o = opened a.sheet.now c.load-reading.ensures.value c.in-Accepted.is c.load-reading.ensures.block_len.1 in
     let is = ran_on a.sheet.now o.sheet o.is a.mutant.now a.inputs.now (length a.buffer.now) (c.run_accepted.ensures o.sheet o.holds.loads.tabled) in record { answer = is.answer; bytes = is.bytes; told = told-ran a.sheet.now a.mutant.now a.inputs.now (length a.buffer.now) _ a.buffer.now _ is.answer is.bytes }

@@ -7,29 +7,29 @@ use borrow.Author.Rules.{rules}
 use Rattle.reading.proofs.test_span.Goals as goal
 
 pub returns-in_default : goal.returns-in_default
-returns-in_default c =     let a = c.args in
+returns-in_default c = let a = c.args in
     let g = c.in_default.given in
     let z = refusal-told _ _ _ _ c.refusal_of-why.ensures g.1 in
     ap₂ Refused z.0 z.1
     ∙ laws.span-refused a.sheet.now a.i c.read-reading.result _ _ c.read-reading.ensures g.1
 
 pub layout_of-layout-requires : goal.layout_of-layout-requires
-layout_of-layout-requires c =     let s = c.args.sheet.now in
+layout_of-layout-requires c = let s = c.args.sheet.now in
     laws.told s c.read-reading.result _ c.read-reading.ensures c.in-Accepted.is
 
 pub test_from-span-requires : goal.test_from-span-requires
-test_from-span-requires c =     let s = c.args.sheet.now in
+test_from-span-requires c = let s = c.args.sheet.now in
     let (sh, t) = laws.told s c.read-reading.result _ c.read-reading.ensures c.in-Accepted.is in
     tests-room s _ sh.tests (c.layout_of-layout.ensures sh t).tests
 
 pub returns-then-i-summary : goal.returns-then-i-summary
-returns-then-i-summary c =     let a = c.args in
+returns-then-i-summary c = let a = c.args in
     let s = a.sheet.now in
     let (sh, t) = laws.told s c.read-reading.result _ c.read-reading.ensures c.in-Accepted.is in
     laws.span-is s a.i _ sh t c.if-i-summary.true _ (c.layout_of-layout.ensures sh t) c.test_from-span.result c.test_from-span.ensures
 
 pub returns-else-i-summary : goal.returns-else-i-summary
-returns-else-i-summary c =     let a = c.args in
+returns-else-i-summary c = let a = c.args in
     let s = a.sheet.now in
     let (sh, t) = laws.told s c.read-reading.result _ c.read-reading.ensures c.in-Accepted.is in
     laws.span_none s a.i _ sh t c.if-i-summary.false

@@ -12,4 +12,4 @@ returns-then-not-has_prefix c =
 
 pub returns : goal.returns
 returns c = 
-    (c.explore-told.ensures, λ e. c.has_prefix.ensures (not-false _ c.if-not-has_prefix.false))
+    (c.explore-told.ensures, λ e. c.has_prefix.ensures c.if-not-has_prefix.false)

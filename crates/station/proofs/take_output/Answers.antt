@@ -9,18 +9,18 @@ use Rattle.station.proofs.AnswerLaw.{take-refused, take_none, due-is, take-high,
 use Rattle.station.proofs.take_output.Goals as goal
 
 pub returns-in_default : goal.returns-in_default
-returns-in_default c =     let a = c.args in
+returns-in_default c = let a = c.args in
     let s = a.sheet.now in
     let g = c.in_default.given in
     let z = refusal-told _ _ _ _ c.refusal_of-why.ensures g.1 in
     let answer = ap₂ Refused z.0 z.1 ∙ take-refused s a.state a.output (is-refused s c.rules_of-reading.ensures.value g.1) in record { answer = answer; told = taken-told s a.state a.output _ answer }
 
 pub due_output-due-requires : goal.due_output-due-requires
-due_output-due-requires c =     let (sh, e, m) = is-accepted c.args.sheet.now c.rules_of-reading.ensures.value c.in-Accepted.is in
+due_output-due-requires c = let (sh, e, m) = is-accepted c.args.sheet.now c.rules_of-reading.ensures.value c.in-Accepted.is in
     (sh, c.rules_of-reading.ensures.ruled sh e)
 
 pub returns-in_default-due : goal.returns-in_default-due
-returns-in_default-due c =     let a = c.args in
+returns-in_default-due c = let a = c.args in
     let s = a.sheet.now in
     let (sh, e, m) = is-accepted s c.rules_of-reading.ensures.value c.in-Accepted.is in
     let r = c.rules_of-reading.ensures.ruled sh e in
@@ -28,7 +28,7 @@ returns-in_default-due c =     let a = c.args in
     let answer = take_none s a.state a.output sh e due c.in_default-due.is in record { answer = answer; told = taken-told s a.state a.output _ answer }
 
 pub returns-then-summary-output : goal.returns-then-summary-output
-returns-then-summary-output c =     let a = c.args in
+returns-then-summary-output c = let a = c.args in
     let s = a.sheet.now in
     let (sh, e, m) = is-accepted s c.rules_of-reading.ensures.value c.in-Accepted.is in
     let r = c.rules_of-reading.ensures.ruled sh e in
@@ -36,7 +36,7 @@ returns-then-summary-output c =     let a = c.args in
     let answer = take-high s a.state a.output sh e due c.in-At.is (outputs-are sh m) c.if-summary-output.true in record { answer = answer; told = taken-told s a.state a.output _ answer }
 
 pub heard-requires : goal.heard-requires
-heard-requires c =     let a = c.args in
+heard-requires c = let a = c.args in
     let s = a.sheet.now in
     let (sh, e, m) = is-accepted s c.rules_of-reading.ensures.value c.in-Accepted.is in
     let r = c.rules_of-reading.ensures.ruled sh e in
@@ -44,7 +44,7 @@ heard-requires c =     let a = c.args in
     due-low r a.state a.state.phase (due-is s a.state a.output sh e due c.in-At.is)
 
 pub returns : goal.returns
-returns c =     let a = c.args in
+returns c = let a = c.args in
     let s = a.sheet.now in
     let (sh, e, m) = is-accepted s c.rules_of-reading.ensures.value c.in-Accepted.is in
     let r = c.rules_of-reading.ensures.ruled sh e in

@@ -8,7 +8,7 @@ use Rattle.walking.proofs.TakingLaw.{take-refused, take-accepted}
 use Rattle.walking.proofs.take.Goals as goal
 
 pub returns-in_default : goal.returns-in_default
-returns-in_default c =     let a = c.args in
+returns-in_default c = let a = c.args in
     let g = c.in_default.given in
     let z = refusal-told _ _ _ _ c.refusal_of-why.ensures g.1 in
     let x = take-refused a.sheet.now _ a.board.now a.sequence.now c.load-reading.result g.0.0 g.0.1.0 _ c.load-reading.ensures.value g.1 (ap₂ Refused z.0 z.1) in record { answer = x.0.answer; board = x.0.board; sequence = x.0.sequence; told = x.1 }
@@ -19,6 +19,6 @@ take_read-requires c =
     (x.sheet, x.holds)
 
 pub returns : goal.returns
-returns c =     let a = c.args in
+returns c = let a = c.args in
     let x = opened a.sheet.now c.load-reading.ensures.value c.in-Accepted.is c.load-reading.ensures.block_len.1 in
     let y = take-accepted a.sheet.now _ a.board.now a.sequence.now x.sheet x.is _ _ _ (c.take_read.ensures x.sheet x.holds) in record { answer = y.0.answer; board = y.0.board; sequence = y.0.sequence; told = y.1 }

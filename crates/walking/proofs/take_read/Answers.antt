@@ -21,9 +21,6 @@ abbrev place_of : own.Tie.Start → Standing
 place_of c = standing c.args.place c.args.last.now
 -- where there is room for the mutant
 
-squared : (c : own.Tie.After-bound) (sh : Sheet) → Tabled sh (entry c.before.before.before).args.block.now → c.bound.result ≡ sh.size.states * sh.size.states
-squared c sh tb = let e = c.before.wide2.ensures.0 ∙ c.before.before.states.ensures ∙ tb.states in c.bound.ensures ∙ rw e refl
-
 pub last_fits-fit-requires : goal.last_fits-fit-requires
 last_fits-fit-requires c = let given = c.requires in (given.0, given.1.loads.tabled)
 
@@ -37,38 +34,43 @@ pub bound-requires : goal.bound-requires
 bound-requires c = let w = well-formed c.requires.1.loads.tabled in (omega (arith, c.wide-2.ensures, c.states.ensures, w.some-states), omega (arith, c.wide-2.ensures, c.states.ensures, w.few-states))
 
 pub returns-then-sequence-bound : goal.returns-then-sequence-bound
-returns-then-sequence-bound c = λ sh rd.
+returns-then-sequence-bound c = let squared : (sh : Sheet) → Tabled sh (entry c).args.block.now → c.bound.result ≡ sh.size.states * sh.size.states = λ sh tb. let e = c.wide-2.ensures.0 ∙ c.states.ensures ∙ tb.states in c.bound.ensures ∙ rw e refl in
+    λ sh rd.
     let tb = rd.loads.tabled in
-    takes-no-sequence sh _ _ _ (last-is sh (place_of c) (sym (c.last_fits-fit.ensures sh tb) ∙ c.in_default.is)) tb (board-fits c) (rw (squared c sh tb) at c.if-sequence-bound.true)
+    takes-no-sequence sh _ _ _ (last-is sh (place_of c) (sym (c.last_fits-fit.ensures sh tb) ∙ c.in_default.is)) tb (board-fits c) (rw (squared sh tb) at c.if-sequence-bound.true)
 
 pub next_of_suite-requires : goal.next_of_suite-requires
-next_of_suite-requires c = let given = c.requires in let tb = given.1.loads.tabled in ((given.0, given.1, tt), room tb _ _ (board-fits c) (rw (squared c given.0 tb) at c.if-sequence-bound.false))
+next_of_suite-requires c = let squared : (sh : Sheet) → Tabled sh (entry c).args.block.now → c.bound.result ≡ sh.size.states * sh.size.states = λ sh tb. let e = c.wide-2.ensures.0 ∙ c.states.ensures ∙ tb.states in c.bound.ensures ∙ rw e refl in
+    let given = c.requires in let tb = given.1.loads.tabled in ((given.0, given.1, tt), room tb _ _ (board-fits c) (rw (squared given.0 tb) at c.if-sequence-bound.false))
 
 pub next_of_suite-requires-in-Last : goal.next_of_suite-requires-in-Last
-next_of_suite-requires-in-Last c = 
+next_of_suite-requires-in-Last c = let squared : (sh : Sheet) → Tabled sh (entry c).args.block.now → c.bound.result ≡ sh.size.states * sh.size.states = λ sh tb. let e = c.wide-2.ensures.0 ∙ c.states.ensures ∙ tb.states in c.bound.ensures ∙ rw e refl in
     let given = c.requires in
     let tb = given.1.loads.tabled in
     let last = rw c.in-Last.is at (last-is given.0 (place_of c) (sym (c.last_fits-fit.ensures given.0 tb) ∙ c.in_default.is)) in
-    ((given.0, given.1, last), room tb _ _ (board-fits c) (rw (squared c given.0 tb) at c.if-sequence-bound.false))
+    ((given.0, given.1, last), room tb _ _ (board-fits c) (rw (squared given.0 tb) at c.if-sequence-bound.false))
 
 pub returns-in-Start : goal.returns-in-Start
-returns-in-Start c = λ sh rd.
+returns-in-Start c = let squared : (sh : Sheet) → Tabled sh (entry c).args.block.now → c.bound.result ≡ sh.size.states * sh.size.states = λ sh tb. let e = c.wide-2.ensures.0 ∙ c.states.ensures ∙ tb.states in c.bound.ensures ∙ rw e refl in
+    λ sh rd.
     let tb = rd.loads.tabled in
     let last = last-is sh (place_of c) (sym (c.last_fits-fit.ensures sh tb) ∙ c.in_default.is) in
-    takes-room sh _ _ _ last tb (board-fits c) (rw (squared c sh tb) at c.if-sequence-bound.false)
+    takes-room sh _ _ _ last tb (board-fits c) (rw (squared sh tb) at c.if-sequence-bound.false)
     (at_place sh (ap (λ (p : Place). standing p c.args.last.now) c.in-Start.is) (c.next_of_suite.ensures sh rd tt))
 
 pub returns-in-Last : goal.returns-in-Last
-returns-in-Last c = λ sh rd.
+returns-in-Last c = let squared : (sh : Sheet) → Tabled sh (entry c).args.block.now → c.bound.result ≡ sh.size.states * sh.size.states = λ sh tb. let e = c.wide-2.ensures.0 ∙ c.states.ensures ∙ tb.states in c.bound.ensures ∙ rw e refl in
+    λ sh rd.
     let tb = rd.loads.tabled in
     let e = c.in-Last.is in
     let last = last-is sh (place_of c) (sym (c.last_fits-fit.ensures sh tb) ∙ c.in_default.is) in
-    takes-room sh _ _ _ last tb (board-fits c) (rw (squared c sh tb) at c.if-sequence-bound.false)
+    takes-room sh _ _ _ last tb (board-fits c) (rw (squared sh tb) at c.if-sequence-bound.false)
     (at_place sh (ap (λ (p : Place). standing p c.args.last.now) e) (c.next_of_suite-in-Last.ensures sh rd (rw e at last)))
 
 pub returns-in-End : goal.returns-in-End
-returns-in-End c = λ sh rd.
+returns-in-End c = let squared : (sh : Sheet) → Tabled sh (entry c).args.block.now → c.bound.result ≡ sh.size.states * sh.size.states = λ sh tb. let e = c.wide-2.ensures.0 ∙ c.states.ensures ∙ tb.states in c.bound.ensures ∙ rw e refl in
+    λ sh rd.
     let tb = rd.loads.tabled in
     let last = last-is sh (place_of c) (sym (c.last_fits-fit.ensures sh tb) ∙ c.in_default.is) in
-    takes-room sh _ _ _ last tb (board-fits c) (rw (squared c sh tb) at c.if-sequence-bound.false)
+    takes-room sh _ _ _ last tb (board-fits c) (rw (squared sh tb) at c.if-sequence-bound.false)
     (at_place sh (ap (λ (p : Place). standing p c.args.last.now) c.in-End.is) (takes-stop sh))

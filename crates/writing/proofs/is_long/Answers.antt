@@ -13,15 +13,15 @@ pub returns-then-faults-gt16384 : goal.returns-then-faults-gt16384
 returns-then-faults-gt16384 c = sym (lt-ltb 16384 (length_of c.args.quiet c.args.rules c.args.faults c.args.starts c.args.tests c.args.presses) (omega arith))
 
 pub returns-then-starts-gt16384 : goal.returns-then-starts-gt16384
-returns-then-starts-gt16384 c =     let a = c.args in
+returns-then-starts-gt16384 c = let a = c.args in
     sym (lt-ltb 16384 (length_of a.quiet a.rules a.faults a.starts a.tests a.presses) (omega arith))
 
 pub returns-then-tests-gt16384 : goal.returns-then-tests-gt16384
-returns-then-tests-gt16384 c =     let a = c.args in
+returns-then-tests-gt16384 c = let a = c.args in
     sym (lt-ltb 16384 (length_of a.quiet a.rules a.faults a.starts a.tests a.presses) (omega arith))
 
 pub returns-then-presses-gt16384 : goal.returns-then-presses-gt16384
-returns-then-presses-gt16384 c =     let a = c.args in
+returns-then-presses-gt16384 c = let a = c.args in
     sym (lt-ltb 16384 (length_of a.quiet a.rules a.faults a.starts a.tests a.presses) (omega arith))
 
 pub returns : goal.returns

@@ -4,15 +4,6 @@ use Rattle.block.specs.Sites.{waking_first}
 use Rattle.block.proofs.SitesLaw.{Numbering, number-start, number-open, number-shut, number-end, few-before, room}
 use Rattle.block.proofs.sites.number.Goals as goal
 
-space : (c : own.Tie.Then1 Inv-loop μ-loop) → c.before.before.before.loop.count < 32
-space c =
-    let at-loop = c.before.before.before in
-    let entry = at-loop.before.before.before.before in
-    let a = entry.args in
-    let p = entry.pre in
-    let l = at-loop.loop in
-    omega (arith, l.inv.counts, room (waking_first a.waking) a.n a.k a.choices.now l.i (omega arith) p.1 (sym (c.before.is_open.ensures a.n (omega arith)) ∙ c.if1.taken))
-
 pub waking_slot-first-requires : goal.waking_slot-first-requires
 waking_slot-first-requires c = tt
 
@@ -20,29 +11,47 @@ pub no_sites-site-requires : goal.no_sites-site-requires
 no_sites-site-requires c = tt
 
 pub loop-i-init : goal.loop-i-init
-loop-i-init c = 
-    let a = c.args in
+loop-i-init c = let a = c.args in
     let first = c.waking_slot-first in
     number-start (waking_first a.waking) a.n a.k a.choices.now c.no_sites-site.result first.result.sizes first.result.count c.no_sites-site.ensures first.ensures.0 first.ensures.1
 
 pub overflow_cast-site : goal.overflow_cast-site
-overflow_cast-site c = omega (arith, space c)
+overflow_cast-site c = let space : c.loop-i.count < 32 = let a = c.args in
+    let p = c.requires in
+    let l = c.loop-i in
+    omega (arith, l.inv.counts, room (waking_first a.waking) a.n a.k a.choices.now l.i (omega arith) p.1 (sym (c.is_open.ensures a.n (omega arith)) ∙ c.if-is_open.true)) in
+    omega (arith, space)
 
 pub offset_bounds-slots-count : goal.offset_bounds-slots-count
-offset_bounds-slots-count c = omega (arith, space c)
+offset_bounds-slots-count c = let space : c.loop-i.count < 32 = let a = c.args in
+    let p = c.requires in
+    let l = c.loop-i in
+    omega (arith, l.inv.counts, room (waking_first a.waking) a.n a.k a.choices.now l.i (omega arith) p.1 (sym (c.is_open.ensures a.n (omega arith)) ∙ c.if-is_open.true)) in
+    omega (arith, space)
 
 pub bounds-slots-count : goal.bounds-slots-count
-bounds-slots-count c = omega (arith, space c)
+bounds-slots-count c = let space : c.loop-i.count < 32 = let a = c.args in
+    let p = c.requires in
+    let l = c.loop-i in
+    omega (arith, l.inv.counts, room (waking_first a.waking) a.n a.k a.choices.now l.i (omega arith) p.1 (sym (c.is_open.ensures a.n (omega arith)) ∙ c.if-is_open.true)) in
+    omega (arith, space)
 
 pub bounds-pairs-count : goal.bounds-pairs-count
-bounds-pairs-count c = omega (arith, space c)
+bounds-pairs-count c = let space : c.loop-i.count < 32 = let a = c.args in
+    let p = c.requires in
+    let l = c.loop-i in
+    omega (arith, l.inv.counts, room (waking_first a.waking) a.n a.k a.choices.now l.i (omega arith) p.1 (sym (c.is_open.ensures a.n (omega arith)) ∙ c.if-is_open.true)) in
+    omega (arith, space)
 
 pub overflow_add-count : goal.overflow_add-count
-overflow_add-count c = omega (arith, space c)
+overflow_add-count c = let space : c.loop-i.count < 32 = let a = c.args in
+    let p = c.requires in
+    let l = c.loop-i in
+    omega (arith, l.inv.counts, room (waking_first a.waking) a.n a.k a.choices.now l.i (omega arith) p.1 (sym (c.is_open.ensures a.n (omega arith)) ∙ c.if-is_open.true)) in
+    omega (arith, space)
 
 pub loop-i-preserved : goal.loop-i-preserved
-loop-i-preserved c = 
-    let a = c.args in
+loop-i-preserved c = let a = c.args in
     let p = c.requires in
     let l = c.loop-i in
     let e = sym (c.is_open.ensures a.n (omega arith)) in
@@ -52,8 +61,7 @@ loop-i-preserved c =
     c.if-is_open.came
 
 pub overflow_cast-result : goal.overflow_cast-result
-overflow_cast-result c = 
-    let a = c.args in
+overflow_cast-result c = let a = c.args in
     let l = c.loop-i in
     omega (arith, l.inv.counts, few-before (waking_first a.waking) a.n a.k a.choices.now l.i l.inv.most c.requires.1)
 

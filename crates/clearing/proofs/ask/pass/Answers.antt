@@ -11,16 +11,16 @@ pub returns-then-site-j : goal.returns-then-site-j
 returns-then-site-j c = passed_none
 
 pub loop-d-init : goal.loop-d-init
-loop-d-init c =     (passing-none (omega arith), omega (arith, c.choices-end.ensures, c.requires.0.choices c.args.j c.requires.1))
+loop-d-init c = (passing-none (omega arith), omega (arith, c.choices-end.ensures, c.requires.0.choices c.args.j c.requires.1))
 
 pub meant-requires : goal.meant-requires
-meant-requires c =     (c.requires.0, c.pair_of-k.ensures)
+meant-requires c = (c.requires.0, c.pair_of-k.ensures)
 
 pub returns-then-not-meant : goal.returns-then-not-meant
-returns-then-not-meant c =     passing-all c.requires.0 c.pair_of-k.ensures c.requires.1 (sym c.site.ensures ∙ c.if-site-j.false) c.loop-d.invariant.0
+returns-then-not-meant c = passing-all c.requires.0 c.pair_of-k.ensures c.requires.1 (sym c.site.ensures ∙ c.if-site-j.false) c.loop-d.invariant.0
 
 pub loop-d-preserved : goal.loop-d-preserved
-loop-d-preserved c =     (passing-more c.loop-d.invariant.0 (sym c.site.ensures ∙ c.if-site-j.false) c.requires.1 (c.meant.ensures (not-false _ c.if-not-meant.false)), c.loop-d.invariant.1)
+loop-d-preserved c = (passing-more c.loop-d.invariant.0 (sym c.site.ensures ∙ c.if-site-j.false) c.requires.1 (c.meant.ensures c.if-not-meant.false), c.loop-d.invariant.1)
 
 pub returns : goal.returns
-returns c =     passing-all c.requires.0 c.pair_of-k.ensures c.requires.1 (sym c.site.ensures ∙ c.if-site-j.false) c.loop-d.invariant.0
+returns c = passing-all c.requires.0 c.pair_of-k.ensures c.requires.1 (sym c.site.ensures ∙ c.if-site-j.false) c.loop-d.invariant.0

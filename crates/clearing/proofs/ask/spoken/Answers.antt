@@ -11,7 +11,7 @@ pub loop-j-init : goal.loop-j-init
 loop-j-init c = (speaks-none, omega arith)
 
 pub loop-j-preserved : goal.loop-j-preserved
-loop-j-preserved c =     (speaks_more c.wide.ensures.0 refl c.loop-j.invariant.0 c.with_spoken-set.ensures, omega (arith, c.loop-j-test.true))
+loop-j-preserved c = (speaks_more c.wide.ensures.0 refl c.loop-j.invariant.0 c.with_spoken-set.ensures, omega (arith, c.loop-j-test.true))
 
 pub returns : goal.returns
 returns c = speaks-all c.loop-j.invariant.0 c.loop-j-test.false

@@ -10,19 +10,19 @@ pub lay-requires : goal.lay-requires
 lay-requires c = record { wf = lay-asks c.requires.full.0.1 c.requires.full.1; outputs_len = (rw c.blank-outputs.ensures (length-replicate {A = ℕ} 256 0), rw c.blank-targets.ensures (length-replicate {A = ℕ} 256 0)) }
 
 pub initial-start-requires : goal.initial-start-requires
-initial-start-requires c =     (lay-asks c.requires.full.0.1 c.requires.full.1).0
+initial-start-requires c = (lay-asks c.requires.full.0.1 c.requires.full.1).0
 
 pub by_test-requires : goal.by_test-requires
-by_test-requires c =     (lay-asks c.requires.full.0.1 c.requires.full.1).0
+by_test-requires c = (lay-asks c.requires.full.0.1 c.requires.full.1).0
 
 pub distinguish-requires : goal.distinguish-requires
-distinguish-requires c =     let a = compare-asks c.requires.full.0.1 c.requires.full.1 c.lay.ensures c.initial-start.ensures in record { valid = a.0; start_bound = a.1; block_in_bounds = c.requires.block_in_bounds }
+distinguish-requires c = let a = compare-asks c.requires.full.0.1 c.requires.full.1 c.lay.ensures c.initial-start.ensures in record { valid = a.0; start_bound = a.1; block_in_bounds = c.requires.block_in_bounds }
 
 pub returns-in-At : goal.returns-in-At
-returns-in-At c =     λ sh f. blames f c.requires.full.1 c.by_test.ensures (fails f c.requires.full.1 c.lay.ensures c.initial-start.ensures c.first_wrong.ensures c.in-At.is)
+returns-in-At c = λ sh f. blames f c.requires.full.1 c.by_test.ensures (fails f c.requires.full.1 c.lay.ensures c.initial-start.ensures c.first_wrong.ensures c.in-At.is)
 
 pub returns-in-Nothing-distinguish : goal.returns-in-Nothing-distinguish
-returns-in-Nothing-distinguish c =     λ sh f. conforms f c.requires.full.1 c.lay.ensures c.initial-start.ensures c.distinguish.ensures.value c.in-Nothing-distinguish.is
+returns-in-Nothing-distinguish c = λ sh f. conforms f c.requires.full.1 c.lay.ensures c.initial-start.ensures c.distinguish.ensures.value c.in-Nothing-distinguish.is
 
 pub returns-in-Shown : goal.returns-in-Shown
-returns-in-Shown c =     λ sh f. shown f c.requires.full.1 c.lay.ensures c.initial-start.ensures c.distinguish.ensures.value c.first_wrong.ensures c.in-Nothing.is c.in-Shown.is _ c.distinguish.ensures.buf_after
+returns-in-Shown c = λ sh f. shown f c.requires.full.1 c.lay.ensures c.initial-start.ensures c.distinguish.ensures.value c.first_wrong.ensures c.in-Nothing.is c.in-Shown.is _ c.distinguish.ensures.buf_after

@@ -23,11 +23,11 @@ pub choices-requires : goal.choices-requires
 choices-requires c = c.highest-j.ensures.low
 
 pub settle-requires : goal.settle-requires
-settle-requires c =     let inv = c.loop-set.invariant in
+settle-requires c = let inv = c.loop-set.invariant in
     (c.highest-j.ensures.low, (few-choices inv).0, blame-long inv)
 
 pub returns-then-c-choices : goal.returns-then-c-choices
-returns-then-c-choices c =     let inv = c.loop-set.invariant in
+returns-then-c-choices c = let inv = c.loop-set.invariant in
     advancing-ends inv c.highest-j.ensures c.wide.ensures.0 (rw c.before-in-loop-set.ensures at c.united-others.ensures) (search rules)
     (rw c.choices.ensures at c.if-c-choices.true) c.settle.ensures.0 c.settle.ensures.1
 
@@ -41,12 +41,12 @@ pub following-c-requires : goal.following-c-requires
 following-c-requires c = few-choices c.loop-set.invariant
 
 pub loop-set-smaller : goal.loop-set-smaller
-loop-set-smaller c =     let inv = c.loop-set.invariant in
+loop-set-smaller c = let inv = c.loop-set.invariant in
     advancing-falls inv c.highest-j.ensures c.wide.ensures.0 (rw c.before-in-loop-set.ensures at c.united-others.ensures) (search rules)
     (rw c.choices.ensures at c.if-c-choices.false)
 
 pub loop-set-preserved : goal.loop-set-preserved
-loop-set-preserved c =     let inv = c.loop-set.invariant in
+loop-set-preserved c = let inv = c.loop-set.invariant in
     advancing-more inv c.highest-j.ensures c.wide.ensures.0 (rw c.before-in-loop-set.ensures at c.united-others.ensures) (search rules)
     (rw c.choices.ensures at c.if-c-choices.false) c.wide-in-loop-set.ensures.0 c.following-c.ensures
 

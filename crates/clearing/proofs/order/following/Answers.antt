@@ -11,7 +11,7 @@ pub returns-then-set-eq0 : goal.returns-then-set-eq0
 returns-then-set-eq0 c = λ j t. absurd (omega (arith, t.least, pow_pos j, c.if-set-eq0.true))
 
 pub overflow_add-result : goal.overflow_add-result
-overflow_add-result c =     let top = c.highest.ensures in
+overflow_add-result c = let top = c.highest.ensures in
     record { fits = omega (arith, c.wide.ensures.0, c.requires.1 c.wide.result (omega (arith, c.wide.ensures.0, top.low))) }
 
 pub returns : goal.returns

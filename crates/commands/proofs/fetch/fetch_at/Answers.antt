@@ -3,7 +3,7 @@ use borrow.Author.Rules.{rules}
 use Rattle.commands.proofs.fetch.fetch_at.Goals as goal
 
 pub returns-then-w-sheet : goal.returns-then-w-sheet
-returns-then-w-sheet c =     let a = c.args in let s = a.sheet.now in laws.whole s a.at _ _ _ _ _ c.if-at-sheet.true c.width_of-w.ensures c.if-w-sheet.true c.operand_of.ensures c.operand_of-then-w-sheet.ensures c.operand_of-then-w-sheet-2.ensures c.operand_of-then-w-sheet-3.ensures
+returns-then-w-sheet c = let a = c.args in let s = a.sheet.now in laws.whole s a.at _ _ _ _ _ c.if-at-sheet.true c.width_of-w.ensures c.if-w-sheet.true c.operand_of.ensures c.operand_of-then-w-sheet.ensures c.operand_of-then-w-sheet-2.ensures c.operand_of-then-w-sheet-3.ensures
 
 pub returns-else-w-sheet : goal.returns-else-w-sheet
 returns-else-w-sheet c = let a = c.args in let s = a.sheet.now in laws.short s a.at _ c.if-at-sheet.true c.width_of-w.ensures c.if-w-sheet.false

@@ -17,7 +17,7 @@ pub returns-then-byte-eq7 : goal.returns-then-byte-eq7
 returns-then-byte-eq7 c = rw c.if-byte-eq7.true
 
 pub returns : goal.returns
-returns c =     simp (
+returns c = simp (
       ne_eqb _ _ c.if-byte-eq7.false,
       ne_eqb _ _ c.if-byte-eq5.false,
       ne_eqb _ _ c.if-byte-eq3.false,

@@ -21,7 +21,7 @@ pub returns-then-item-eq7 : goal.returns-then-item-eq7
 returns-then-item-eq7 c = λ p al h. rw c.if-item-eq7.true (c.do_start.ensures _ _ _ p (laws.allowed-start _ _ c.if-item-eq7.true al) h)
 
 pub returns : goal.returns
-returns c =     λ p al h.
+returns c = λ p al h.
     let e =
     laws.quiet-left c.args.item.byte c.requires.0 c.if-item-eq1.false c.if-item-eq2.false c.if-item-eq3.false c.if-item-eq4.false c.if-item-eq5.false
     c.if-item-eq7.false in

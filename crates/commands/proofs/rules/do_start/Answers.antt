@@ -12,7 +12,7 @@ pub returns-then-t-eq0 : goal.returns-then-t-eq0
 returns-then-t-eq0 c = λ os ts ms p o h. laws.state-awake _ os ts ms p h _ c.if-size-t.false c.if-t-state.false c.if-t-eq0.true
 
 pub overflow_add-after : goal.overflow_add-after
-overflow_add-after c =     omega (arith, c.if-size-t.false, c.requires.4.bounds.states)
+overflow_add-after c = omega (arith, c.if-size-t.false, c.requires.4.bounds.states)
 
 pub returns : goal.returns
 returns c = λ os ts ms p o h. laws.state-start _ os ts ms p h _ o c.if-size-t.false c.if-t-state.false c.if-t-eq0.false

@@ -27,7 +27,7 @@ pub returns-then-byte-eq8 : goal.returns-then-byte-eq8
 returns-then-byte-eq8 c = rw c.if-byte-eq8.true c.is_during-then-byte-eq8.ensures
 
 pub returns : goal.returns
-returns c =     simp (
+returns c = simp (
       ne_eqb _ _ c.if-byte-eq8.false,
       ne_eqb _ _ c.if-byte-eq7.false,
       ne_eqb _ _ c.if-byte-eq6.false,

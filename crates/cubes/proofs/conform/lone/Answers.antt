@@ -3,7 +3,7 @@ use Rattle.cubes.specs.laws.ConformLaw.{lone-low, lone-ok}
 use Rattle.cubes.proofs.conform.lone.Goals as goal
 
 pub returns-then-step-o : goal.returns-then-step-o
-returns-then-step-o c = λ e. never (cc)
+returns-then-step-o c = λ e. never cc
 
 pub holds-requires : goal.holds-requires
 holds-requires c = lone-low c.requires.0 c.requires.1 c.requires.2 c.transition-step.ensures

@@ -7,7 +7,7 @@ pub holds-requires : goal.holds-requires
 holds-requires c = omega (arith, c.requires.2, c.requires.0.wf.few-states)
 
 pub returns-then-not-holds : goal.returns-then-not-holds
-returns-then-not-holds c = λ e. row-not (rw c.wide.ensures.0) (c.holds.ensures.1 (not-true _ c.if-not-holds.true))
+returns-then-not-holds c = λ e. row-not (rw c.wide.ensures.0) (c.holds.ensures.1 c.if-not-holds.true)
 
 pub loop-x-init : goal.loop-x-init
 loop-x-init c = row-none
@@ -17,10 +17,10 @@ cell_closed-requires c =
     (c.requires.0, c.requires.1, c.requires.2, rw c.inputs-end.ensures at c.loop-x-test.true)
 
 pub returns-then-not-cell_closed : goal.returns-then-not-cell_closed
-returns-then-not-cell_closed c = λ e. never (cc)
+returns-then-not-cell_closed c = λ e. never cc
 
 pub loop-x-preserved : goal.loop-x-preserved
-loop-x-preserved c = row_more c.loop-x.invariant (c.cell_closed.ensures (not-false _ c.if-not-cell_closed.false))
+loop-x-preserved c = row_more c.loop-x.invariant (c.cell_closed.ensures c.if-not-cell_closed.false)
 
 pub returns : goal.returns
 returns c = λ e. row-all c.loop-x.invariant (rw c.inputs-end.ensures at c.loop-x-test.false)

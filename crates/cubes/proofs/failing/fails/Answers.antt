@@ -3,19 +3,19 @@ use Rattle.cubes.specs.laws.WalkLaw.{Walking, walk_start, walk_more, walk_end}
 use Rattle.cubes.proofs.failing.fails.Goals as goal
 
 pub returns-then-from-log : goal.returns-then-from-log
-returns-then-from-log c = λ e. never (cc)
+returns-then-from-log c = λ e. never cc
 
 pub returns-then-log-from-ne-PULSE : goal.returns-then-log-from-ne-PULSE
-returns-then-log-from-ne-PULSE c = λ e. never (cc)
+returns-then-log-from-ne-PULSE c = λ e. never cc
 
 pub loop-at-init : goal.loop-at-init
 loop-at-init c = walk_start c.requires.wf (omega (arith, c.if-from-log.false)) c.if-log-from-ne-PULSE.false (c.starts-set.ensures c.requires)
 
 pub returns-then-v-ge256 : goal.returns-then-v-ge256
-returns-then-v-ge256 c = λ e. never (cc)
+returns-then-v-ge256 c = λ e. never cc
 
 pub returns-then-x-inputs : goal.returns-then-x-inputs
-returns-then-x-inputs c = λ e. never (cc)
+returns-then-x-inputs c = λ e. never cc
 
 pub onward-set-requires : goal.onward-set-requires
 onward-set-requires c = (c.requires, omega (arith, c.if-x-inputs.false, c.inputs.ensures), c.output_of.ensures.1)
@@ -34,4 +34,4 @@ loop-at-preserved c =
     walk_more c.requires.wf c.loop-at.invariant c.observe-seen.ensures (omega (arith, few)) (omega (arith, c.input_of-x.ensures, few)) c.output_of.ensures.0 (omega (arith, c.if-x-inputs.false, c.inputs.ensures)) c.onward-set.ensures
 
 pub returns : goal.returns
-returns c = λ e. never (cc)
+returns c = λ e. never cc

@@ -6,7 +6,7 @@ pub returns-then-l-eq4294967295 : goal.returns-then-l-eq4294967295
 returns-then-l-eq4294967295 c = λ e. any-means _ _ c.if-l-eq4294967295.true
 
 pub returns-then-lit_out-wide : goal.returns-then-lit_out-wide
-returns-then-lit_out-wide c = λ e. never (cc)
+returns-then-lit_out-wide c = λ e. never cc
 
 pub returns : goal.returns
 returns c = λ e. meaning _ _ (sym c.lit_out.ensures ∙ c.if-lit_out-wide.false ∙ c.wide.ensures.0) (rw c.lit_next.ensures at (c.holds.ensures.0 e))

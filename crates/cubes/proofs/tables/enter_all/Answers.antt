@@ -12,7 +12,7 @@ pub returns-then-not-enter_pair : goal.returns-then-not-enter_pair
 returns-then-not-enter_pair c = all-not _ c.loop-k.invariant c.enter_pair.ensures
 
 pub loop-k-preserved : goal.loop-k-preserved
-loop-k-preserved c = all_more _ c.loop-k.invariant c.enter_pair.ensures (not-false _ c.if-not-enter_pair.false)
+loop-k-preserved c = all_more _ c.loop-k.invariant c.enter_pair.ensures c.if-not-enter_pair.false
 
 pub returns : goal.returns
 returns c = all-all c.loop-k.invariant c.loop-k-test.false

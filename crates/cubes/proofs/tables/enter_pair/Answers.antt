@@ -20,7 +20,7 @@ pub returns-then-not-enter : goal.returns-then-not-enter
 returns-then-not-enter c = pair-not _ c.loop-c.invariant c.enter.ensures
 
 pub loop-c-preserved : goal.loop-c-preserved
-loop-c-preserved c = pair-more _ c.loop-c.invariant c.enter.ensures (not-false _ c.if-not-enter.false)
+loop-c-preserved c = pair-more _ c.loop-c.invariant c.enter.ensures c.if-not-enter.false
 
 pub returns : goal.returns
 returns c = pair-all c.loop-c.invariant c.site-i.ensures (rw c.choices-end.ensures at c.loop-c-test.false)

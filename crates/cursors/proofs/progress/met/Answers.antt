@@ -13,7 +13,7 @@ pub returns-then-not-among : goal.returns-then-not-among
 returns-then-not-among c = c.loop-n.invariant.1
 
 pub loop-n-preserved : goal.loop-n-preserved
-loop-n-preserved c = (omega arith, met-more c.args.settled (c.wait_of-i.result % 32) c.joined-used.ensures c.loop-n.invariant.1 (c.among.ensures.0 (not-false _ c.if-not-among.false)))
+loop-n-preserved c = (omega arith, met-more c.args.settled (c.wait_of-i.result % 32) c.joined-used.ensures c.loop-n.invariant.1 (c.among.ensures.0 c.if-not-among.false))
 
 pub returns : goal.returns
 returns c = c.loop-n.invariant.1

@@ -5,4 +5,4 @@ use Rattle.generator.proofs.pairs.draw_pair.Goals as goal
 
 pub returns : goal.returns
 unfolding rule_from
-returns c =     rw (c.target_of-target.ensures, c.draw-lot.ensures, c.draw-state.ensures, c.draw-output.ensures) refl
+returns c = rw (c.target_of-target.ensures, c.draw-lot.ensures, c.draw-state.ensures, c.draw-output.ensures) refl

@@ -7,4 +7,4 @@ pub returns-then-k-wide : goal.returns-then-k-wide
 returns-then-k-wide c = acts-outside _ _ _ (omega (arith, c.if-k-wide.true, c.wide.ensures, c.inputs.ensures))
 
 pub returns : goal.returns
-returns c =     acts-inside _ _ c.args.k c.choice_at-c.result _ c.requires.0 c.requires.1 c.requires.2 (omega (arith, c.if-k-wide.false, c.wide.ensures, c.inputs.ensures)) c.choice_at-c.ensures c.transition.ensures
+returns c = acts-inside _ _ c.args.k c.choice_at-c.result _ c.requires.0 c.requires.1 c.requires.2 (omega (arith, c.if-k-wide.false, c.wide.ensures, c.inputs.ensures)) c.choice_at-c.ensures c.transition.ensures

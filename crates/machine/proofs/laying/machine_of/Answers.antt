@@ -13,11 +13,11 @@ pub initial-start-requires : goal.initial-start-requires
 initial-start-requires c = well-formed c.requires.1
 
 pub returns-in-Refused : goal.returns-in-Refused
-returns-in-Refused c =     λ sh tb. machined tb c.widened-p.ensures (c.fits-fit.ensures sh tb) c.initial-start.ensures (λ is. absurd (not-mutant sh _ _ _ (sym (c.fits-fit.ensures sh tb) ∙ c.in-Refused.is) is))
+returns-in-Refused c = λ sh tb. machined tb c.widened-p.ensures (c.fits-fit.ensures sh tb) c.initial-start.ensures (λ is. absurd (not-mutant sh _ _ _ (sym (c.fits-fit.ensures sh tb) ∙ c.in-Refused.is) is))
 
 pub lay-requires : goal.lay-requires
-lay-requires c =     let tb = c.requires.1 in
+lay-requires c = let tb = c.requires.1 in
     let is = fit-mutant c.requires.0 _ (sym (c.fits-fit.ensures _ tb) ∙ c.in_default.is) in record { wf = (well-formed tb, settled-chosen tb is (settles tb c.widened-p.ensures)); outputs_len = (ap length c.blank-output.ensures ∙ length-replicate {A = ℕ} 256 0, ap length c.blank-target.ensures ∙ length-replicate {A = ℕ} 256 0) }
 
 pub returns : goal.returns
-returns c =     λ sh tb. machined tb c.widened-p.ensures (c.fits-fit.ensures sh tb) c.initial-start.ensures (λ is. c.lay.ensures)
+returns c = λ sh tb. machined tb c.widened-p.ensures (c.fits-fit.ensures sh tb) c.initial-start.ensures (λ is. c.lay.ensures)

@@ -13,10 +13,10 @@ pub loop-i-init : goal.loop-i-init
 loop-i-init c = (omega arith, λ path p. omega arith)
 
 pub loop-i-smaller : goal.loop-i-smaller
-loop-i-smaller c =     rw c.link_of-i.ensures (c.requires.1.1.back c.loop-i.i c.loop-i-test.true (omega (arith, c.loop-i.invariant.0)))
+loop-i-smaller c = rw c.link_of-i.ensures (c.requires.1.1.back c.loop-i.i c.loop-i-test.true (omega (arith, c.loop-i.invariant.0)))
 
 pub loop-i-preserved : goal.loop-i-preserved
-loop-i-preserved c =     let i = c.loop-i.i in
+loop-i-preserved c = let i = c.loop-i.i in
     let inv = c.loop-i.invariant in
     let less = loop-less c in
     let pos = c.loop-i-test.true in

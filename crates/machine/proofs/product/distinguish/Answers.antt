@@ -14,23 +14,23 @@ pub enter-count-requires : goal.enter-count-requires
 enter-count-requires c = (room-none c.no_entries-entries.ensures c.blank-seen.ensures, omega arith)
 
 pub loop-h-init : goal.loop-h-init
-loop-h-init c =     (refl, omega arith, tree-root _ c.requires.start_bound.0 c.requires.valid.formed.few-states c.no_entries-entries.ensures c.blank-seen.ensures c.enter-count.ensures)
+loop-h-init c = (refl, omega arith, tree-root _ c.requires.start_bound.0 c.requires.valid.formed.few-states c.no_entries-entries.ensures c.blank-seen.ensures c.enter-count.ensures)
 
 pub expand-requires : goal.expand-requires
 expand-requires c = record { valid = (c.requires.valid, c.loop-h-test.true); by_index = (c.args.start, c.loop-h.invariant.2) }
 
 pub write_path-requires : goal.write_path-requires
-write_path-requires c =     let v = c.requires.valid in
+write_path-requires c = let v = c.requires.valid in
     let ok = rw c.in-Apart.is at (c.expand.ensures c.args.start c.loop-h.invariant.2) in
     let cl = closed v c.args.start c.args.outputs.now in
     let short = way-short cl v.formed.few-states v.formed.few-inputs c.requires.start_bound.0 ok in
     (entry-low cl v.formed.few-states v.formed.few-inputs c.requires.start_bound.0 ok, (ok.3.path, way-there cl v.formed.few-states v.formed.few-inputs c.requires.start_bound.0 ok, omega (arith, short, c.requires.start_bound.1, ap length c.loop-h.invariant.0)))
 
 pub shape_of-buf-in-Apart : goal.shape_of-buf-in-Apart
-shape_of-buf-in-Apart c =     c.write_path.auto.1.1.1.0 ∙ ap length c.loop-h.invariant.0
+shape_of-buf-in-Apart c = c.write_path.auto.1.1.1.0 ∙ ap length c.loop-h.invariant.0
 
 pub returns-in-Apart : goal.returns-in-Apart
-returns-in-Apart c =     let v = c.requires.valid in
+returns-in-Apart c = let v = c.requires.valid in
     let ok = rw c.in-Apart.is at (c.expand.ensures c.args.start c.loop-h.invariant.2) in
     let cl = closed v c.args.start c.args.outputs.now in
     let w = c.write_path.ensures ok.3.path (way-there cl v.formed.few-states v.formed.few-inputs c.requires.start_bound.0 ok) in
@@ -43,13 +43,13 @@ pub loop-h-smaller : goal.loop-h-smaller
 loop-h-smaller c = omega (arith, c.loop-h.invariant.2.sized.room)
 
 pub loop-h-preserved : goal.loop-h-preserved
-loop-h-preserved c =     let ok = rw c.in-Grown.is at (c.expand.ensures c.args.start c.loop-h.invariant.2) in
+loop-h-preserved c = let ok = rw c.in-Grown.is at (c.expand.ensures c.args.start c.loop-h.invariant.2) in
     (c.loop-h.invariant.0, omega (arith, ok.0), ok.1)
 
 pub shape_of-buf : goal.shape_of-buf
 shape_of-buf c = ap length c.loop-h.invariant.0
 
 pub returns : goal.returns
-returns c =     let v = c.requires.valid in
+returns c = let v = c.requires.valid in
     let inv = c.loop-h.invariant in
 record { value = (told_none (closed v c.args.start c.args.outputs.now) v.formed.few-states v.formed.few-inputs c.requires.start_bound.0 inv.2 (omega (arith, inv.1, c.loop-h-test.false)) inv.0).0; buf_after = (told_none (closed v c.args.start c.args.outputs.now) v.formed.few-states v.formed.few-inputs c.requires.start_bound.0 inv.2 (omega (arith, inv.1, c.loop-h-test.false)) inv.0).1 }

@@ -10,10 +10,10 @@ pub returns-in_default : goal.returns-in_default
 returns-in_default c = entered-none (λ v. other _ (led.To v) c.in_default.keys2 (λ z. omega arith) (λ z. omega arith))
 
 pub returns-then-seen-i-ne0 : goal.returns-then-seen-i-ne0
-returns-then-seen-i-ne0 c =     entered-old c.in-To.is c.wide-i.ensures.0 c.if-seen-i-ne0.true
+returns-then-seen-i-ne0 c = entered-old c.in-To.is c.wide-i.ensures.0 c.if-seen-i-ne0.true
 
 pub bounds-entries-count : goal.bounds-entries-count
-bounds-entries-count c =     room-one c.requires.0 c.wide-i.ensures.1 c.if-seen-i-ne0.false
+bounds-entries-count c = room-one c.requires.0 c.wide-i.ensures.1 c.if-seen-i-ne0.false
 
 pub returns : goal.returns
-returns c =     entered-new c.in-To.is c.wide-i.ensures.0 c.if-seen-i-ne0.false
+returns c = entered-new c.in-To.is c.wide-i.ensures.0 c.if-seen-i-ne0.false

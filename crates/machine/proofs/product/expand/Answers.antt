@@ -18,21 +18,21 @@ pub loop-x-init : goal.loop-x-init
 loop-x-init c = (c.inputs-k.ensures, omega arith, λ start t. expanding-none t c.requires.valid.1 c.pair_of-v.ensures)
 
 pub lead-led-requires : goal.lead-led-requires
-lead-led-requires c =     let t = c.requires.by_index in
+lead-led-requires c = let t = c.requires.by_index in
     let inside = expanding-pair (c.loop-x.invariant.2 t.0 t.1) in record { valid = c.requires.valid.0; v_bound = (inside.0, inside.1, omega (arith, c.loop-x.invariant.0, c.loop-x-test.true)) }
 
 pub returns-in-Apart : goal.returns-in-Apart
-returns-in-Apart c =     let valid = c.requires.valid.0 in
+returns-in-Apart c = let valid = c.requires.valid.0 in
     λ start t. expanding-apart (closed valid start _) valid.formed.few-states valid.formed.few-inputs (c.loop-x.invariant.2 start t)
     (omega (arith, c.loop-x.invariant.0, c.loop-x-test.true)) (c.lead-led.ensures start) c.in-Apart.is
 
 pub enter-n-requires : goal.enter-n-requires
-enter-n-requires c =     let t = c.requires.by_index in
+enter-n-requires c = let t = c.requires.by_index in
     let g = c.loop-x.invariant.2 t.0 t.1 in
     (g.tree.sized, omega (arith, c.wide.ensures.0, g.there, g.tree.sized.room, c.loop-x-test.true, c.loop-x.invariant.0, c.requires.valid.0.formed.few-inputs))
 
 pub loop-x-preserved : goal.loop-x-preserved
-loop-x-preserved c =     let valid = c.requires.valid.0 in
+loop-x-preserved c = let valid = c.requires.valid.0 in
     let inv = c.loop-x.invariant in (
       inv.0,
       omega (arith, c.loop-x-test.true),

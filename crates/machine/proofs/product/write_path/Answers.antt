@@ -13,18 +13,18 @@ pub depth-d-requires : goal.depth-d-requires
 depth-d-requires c = (c.requires.0, (c.requires.1.0, c.requires.1.1))
 
 pub bounds-buf-d : goal.bounds-buf-d
-bounds-buf-d c =     let p = c.requires.1 in
+bounds-buf-d c = let p = c.requires.1 in
     omega (arith, c.depth-d.ensures p.0 p.1, p.2)
 
 pub loop-n-init : goal.loop-n-init
-loop-n-init c =     let low = slice-write-buf c in
+loop-n-init c = let low = slice-write-buf c in
     (omega arith, omega arith, simp length-set low, refl, λ path p. written_last path _ _ _ c.args.buf.now (c.depth-d.ensures path p) low)
 
 pub bounds-buf-n : goal.bounds-buf-n
 bounds-buf-n c = let inv = c.loop-n.invariant in omega (arith, inv.1, inv.2, inv.3)
 
 pub loop-n-preserved : goal.loop-n-preserved
-loop-n-preserved c =     let inv = c.loop-n.invariant in
+loop-n-preserved c = let inv = c.loop-n.invariant in
     let pos = c.loop-n-test.true in
     let q = c.requires.1 in
     let back = written_back q.1 (inv.4 q.0 q.1) pos inv.0 in

@@ -14,7 +14,7 @@ pub test-requires : goal.test-requires
 test-requires c = spell-asks c.requires.1 c.requires.2
 
 pub record_test-requires : goal.record_test-requires
-record_test-requires c = record { test_at = ((record-test-requires) c).0; inputs_in_bounds = ((record-test-requires) c).1 }
+record_test-requires c = record { test_at = (record-test-requires c).0; inputs_in_bounds = (record-test-requires c).1 }
 
 pub returns : goal.returns
-returns c =     λ sh he fi. appended he fi c.test.ensures c.record_test.ensures
+returns c = λ sh he fi. appended he fi c.test.ensures c.record_test.ensures

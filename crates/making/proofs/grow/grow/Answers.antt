@@ -11,26 +11,8 @@ use Rattle.making.specs.words.Growing.{next_of}
 use Rattle.making.proofs.GrowLaw.{Turning, turning-start, sweep-asks, log-inside, block-formed, follow-asks, reached-end, gives_up, few-inputs, append-asks, longer-asks, turning-more}
 use Rattle.making.proofs.grow.grow.Goals as goal
 
-abbrev appends : (c : tie.After-d invariant-loop decreases-loop) →
-    let s = sweep c.before.before in
-    next_of s.next-survivor.result (turn s).loop.g.room (turn s).loop.g.end ≡ Appends c.d.given.0.0
-appends c = sym c.before.before.follow.ensures ∙ c.d.given.1
-
-few : (c : tie.After-d invariant-loop decreases-loop) → c.d.given.0.0 ≤ length (sweep c.before.before).next-survivor.last.1.1.1.1.1.1.1.0
-few c =
-    let s = sweep c.before.before in
-    let most = few-inputs (turn s).loop.inv s.next-survivor.result _ _ _ s.next-survivor.ensures.0 (appends c) in
-    omega (arith, most, s.next-survivor.kept.1.1.1.1.1.1.1.0, (turn s).loop.inv.long)
-
-inside : (c : tie.After-append invariant-loop decreases-loop) → c.append.result ≤ length c.append.new.1.1.1.1.0
-inside c =
-    let d = before-append c in
-    let s = sweep d.before.before in
-    let asked = append-asks (turn s).loop.inv s.next-survivor.result _ _ _ s.next-survivor.ensures.0 (appends d) in
-    (c.append.ensures asked.0 asked.1 asked.2).inside
-
 pub loop-state-init : goal.loop-state-init
-loop-state-init c =     turning-start c.requires.facts_len c.requires.ready c.first_choices-p.ensures c.no_blame-blame.ensures c.no_inputs-sequence.ensures
+loop-state-init c = turning-start c.requires.facts_len c.requires.ready c.first_choices-p.ensures c.no_blame-blame.ensures c.no_inputs-sequence.ensures
 
 pub slice_bounds-next_survivor-end : goal.slice_bounds-next_survivor-end
 slice_bounds-next_survivor-end c = log-inside c.loop-state.invariant
@@ -45,13 +27,13 @@ pub next_survivor-found-requires : goal.next_survivor-found-requires
 next_survivor-found-requires c = record { block_in_bounds = (sweep-asks c.loop-state.invariant).0; ready = (sweep-asks c.loop-state.invariant).1 }
 
 pub follow-requires : goal.follow-requires
-follow-requires c =     follow-asks c.loop-state.invariant c.next_survivor-found.result _ _ _ c.next_survivor-found.ensures.outcome_ok
+follow-requires c = follow-asks c.loop-state.invariant c.next_survivor-found.result _ _ _ c.next_survivor-found.ensures.outcome_ok
 
 pub shape_of-store-in-Ends : goal.shape_of-store-in-Ends
-shape_of-store-in-Ends c =     c.next_survivor-found.kept.1.1.1.0 ∙ c.loop-state.invariant.same_store
+shape_of-store-in-Ends c = c.next_survivor-found.kept.1.1.1.0 ∙ c.loop-state.invariant.same_store
 
 pub shape_of-notes-in-Ends : goal.shape_of-notes-in-Ends
-shape_of-notes-in-Ends c =     c.next_survivor-found.kept.1.1.1.1.0 ∙ c.loop-state.invariant.same-notes
+shape_of-notes-in-Ends c = c.next_survivor-found.kept.1.1.1.1.0 ∙ c.loop-state.invariant.same-notes
 
 pub shape_of-bytes-in-Ends : goal.shape_of-bytes-in-Ends
 shape_of-bytes-in-Ends c = (turn c).loop.inv.same_bytes
@@ -60,39 +42,54 @@ pub shape_of-log-in-Ends : goal.shape_of-log-in-Ends
 shape_of-log-in-Ends c = (turn c).loop.inv.same_log
 
 pub returns-in-Ends : goal.returns-in-Ends
-returns-in-Ends c =     let inv = c.loop-state.invariant in
+returns-in-Ends c = let inv = c.loop-state.invariant in
     let ends = sym c.follow.ensures ∙ c.in-Ends.is in
     let is = c.ended.ensures in record { fact = λ result sh gr. rw is (reached-end {g = c.loop-state.g} _ _ _ c.next_survivor-found.result _ ends (inv.each result sh gr) c.next_survivor-found.ensures.outcome_ok); store_len = λ u. sym inv.same_store ∙ c.next_survivor-found.ensures.store_ok.1 (gives_up c.next_survivor-found.result _ _ (ends ∙ ap Ends (sym (ap (λ (g : Growth). g.state) is) ∙ u))) }
 
 pub slice_bounds-sequence-end : goal.slice_bounds-sequence-end
-slice_bounds-sequence-end c = few c
+slice_bounds-sequence-end c = let appends : next_of c.next_survivor-found.result c.loop-state.g.room c.loop-state.g.end ≡ Appends c.in-Appends.d = sym c.follow.ensures ∙ c.in-Appends.is in
+    let few : c.in-Appends.d ≤ length c.next_survivor-found.last.1.1.1.1.1.1.1.0 = let most = few-inputs c.loop-state.invariant c.next_survivor-found.result _ _ _ c.next_survivor-found.ensures.outcome_ok appends in
+    omega (arith, most, c.next_survivor-found.kept.1.1.1.1.1.1.1.0, c.loop-state.invariant.long) in
+    few
 
 pub slice_bounds-append-end : goal.slice_bounds-append-end
-slice_bounds-append-end c = sym (length-take-le _ _ (few c))
+slice_bounds-append-end c = let appends : next_of c.next_survivor-found.result c.loop-state.g.room c.loop-state.g.end ≡ Appends c.in-Appends.d = sym c.follow.ensures ∙ c.in-Appends.is in
+    let few : c.in-Appends.d ≤ length c.next_survivor-found.last.1.1.1.1.1.1.1.0 = let most = few-inputs c.loop-state.invariant c.next_survivor-found.result _ _ _ c.next_survivor-found.ensures.outcome_ok appends in
+    omega (arith, most, c.next_survivor-found.kept.1.1.1.1.1.1.1.0, c.loop-state.invariant.long) in
+    sym (length-take-le _ _ few)
 
 pub append-observed-requires : goal.append-observed-requires
-append-observed-requires c =     append-asks c.loop-state.invariant c.next_survivor-found.result _ _ _ c.next_survivor-found.ensures.outcome_ok (appends c)
+append-observed-requires c = let appends : next_of c.next_survivor-found.result c.loop-state.g.room c.loop-state.g.end ≡ Appends c.in-Appends.d = sym c.follow.ensures ∙ c.in-Appends.is in
+    append-asks c.loop-state.invariant c.next_survivor-found.result _ _ _ c.next_survivor-found.ensures.outcome_ok appends
 
 pub note_test-requires : goal.note_test-requires
 note_test-requires c = (turn (sweep c)).loop.inv.facts-long
 
 pub slice_bounds-test_survivors-end : goal.slice_bounds-test_survivors-end
-slice_bounds-test_survivors-end c = inside c
+slice_bounds-test_survivors-end c = let appends : next_of c.next_survivor-found.result c.loop-state.g.room c.loop-state.g.end ≡ Appends c.in-Appends.d = sym c.follow.ensures ∙ c.in-Appends.is in
+    let inside : c.append-observed.result ≤ length c.append-observed.new.1.1.1.1.0 = let asked = append-asks c.loop-state.invariant c.next_survivor-found.result _ _ _ c.next_survivor-found.ensures.outcome_ok appends in
+    (c.append-observed.ensures asked.0 asked.1 asked.2).inside in
+    inside
 
 pub slice_bounds-test_survivors-end-in-loop-state : goal.slice_bounds-test_survivors-end-in-loop-state
-slice_bounds-test_survivors-end-in-loop-state c = sym (length-take-le _ _ (inside c))
+slice_bounds-test_survivors-end-in-loop-state c = let appends : next_of c.next_survivor-found.result c.loop-state.g.room c.loop-state.g.end ≡ Appends c.in-Appends.d = sym c.follow.ensures ∙ c.in-Appends.is in
+    let inside : c.append-observed.result ≤ length c.append-observed.new.1.1.1.1.0 = let asked = append-asks c.loop-state.invariant c.next_survivor-found.result _ _ _ c.next_survivor-found.ensures.outcome_ok appends in
+    (c.append-observed.ensures asked.0 asked.1 asked.2).inside in
+    sym (length-take-le _ _ inside)
 
 pub test_survivors-requires : goal.test_survivors-requires
 test_survivors-requires c = block-formed (turn (sweep c)).loop.inv
 
 pub longer-g-requires : goal.longer-g-requires
-longer-g-requires c =     longer-asks c.loop-state.invariant c.next_survivor-found.result _ _ _ c.next_survivor-found.ensures.outcome_ok (appends c)
+longer-g-requires c = let appends : next_of c.next_survivor-found.result c.loop-state.g.room c.loop-state.g.end ≡ Appends c.in-Appends.d = sym c.follow.ensures ∙ c.in-Appends.is in
+    longer-asks c.loop-state.invariant c.next_survivor-found.result _ _ _ c.next_survivor-found.ensures.outcome_ok appends
 
 pub loop-state-smaller : goal.loop-state-smaller
 loop-state-smaller c = omega (arith, ap (λ (g : Growth). g.room) c.longer-g.ensures, (longer-requires c _).0)
 
 pub loop-state-preserved : goal.loop-state-preserved
-loop-state-preserved c =     let swept = c.next_survivor-found in
-    turning-more c.loop-state.invariant swept.result _ _ _ swept.ensures.0 (appends c) _ _ _ _ _ _ c.append-observed.ensures _ c.longer-g.ensures c.note_test.ensures
+loop-state-preserved c = let appends : next_of c.next_survivor-found.result c.loop-state.g.room c.loop-state.g.end ≡ Appends c.in-Appends.d = sym c.follow.ensures ∙ c.in-Appends.is in
+    let swept = c.next_survivor-found in
+    turning-more c.loop-state.invariant swept.result _ _ _ swept.ensures.0 appends _ _ _ _ _ _ c.append-observed.ensures _ c.longer-g.ensures c.note_test.ensures
     swept.ensures.1.0 swept.kept.1.1.1.0 (c.test_survivors.auto.1.1.0 ∙ swept.kept.1.1.1.1.0) c.append-observed.auto.1.1.0 c.append-observed.auto.1.1.1.1.0
     swept.kept.1.1.1.1.1.1.1.0

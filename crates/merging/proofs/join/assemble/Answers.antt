@@ -4,5 +4,5 @@ use Rattle.writing.specs.laws.SpelledLaw.{spelled-both}
 use Rattle.merging.proofs.join.assemble.Goals as goal
 
 pub returns : goal.returns
-returns c =     spelled-both c.bytes-ruled.ensures
+returns c = spelled-both c.bytes-ruled.ensures
     (spelled-both c.bytes-faulted.ensures (spelled-both c.bytes-started.ensures (spelled-both c.bytes-tested.ensures (spelled-both c.bytes-ended.ensures c.byte.ensures))))

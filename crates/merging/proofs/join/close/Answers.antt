@@ -7,7 +7,7 @@ pub returns-then-why-ne0 : goal.returns-then-why-ne0
 returns-then-why-ne0 c = λ m p. close-refused p (c.slots_of-slots.ensures m p.open-are p.many-starts) c.limit-why.ensures c.if-why-ne0.true
 
 pub assemble-requires : goal.assemble-requires
-assemble-requires c =     let a = c.args in
+assemble-requires c = let a = c.args in
     let long = length a.head.now + length a.faults.now + length a.starts.now + length a.tests.now + length a.more.now + 1 in
     omega (arith, c.requires.0, limit-room (length a.faults.now / 5) a.count c.slots_of-slots.result long _ c.limit-why.ensures c.if-why-ne0.false)
 

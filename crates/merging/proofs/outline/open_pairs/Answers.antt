@@ -18,4 +18,4 @@ pub loop-s-preserved : goal.loop-s-preserved
 loop-s-preserved c = (omega arith, omega (arith, c.open_at-n.ensures.few), open_more _ _ _ _ _ _ c.loop-s.invariant.2 c.open_at-n.ensures.counted)
 
 pub returns : goal.returns
-returns c =     let e : c.loop-s.s ≡ c.args.states = omega (arith, c.wide-m.ensures) in record { few = omega (arith, c.wide-m.ensures, c.requires); counted = c.loop-s.invariant.2 ∙ ap₂ (open_both c.args.choices.now c.args.others.now) c.wide-k.ensures e }
+returns c = let e : c.loop-s.s ≡ c.args.states = omega (arith, c.wide-m.ensures) in record { few = omega (arith, c.wide-m.ensures, c.requires); counted = c.loop-s.invariant.2 ∙ ap₂ (open_both c.args.choices.now c.args.others.now) c.wide-k.ensures e }

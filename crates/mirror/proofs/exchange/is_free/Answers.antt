@@ -2,7 +2,7 @@ use Rattle.lists.specs.Proving.{rules, sym, ◌∙◌, eqb-true, never}
 use Rattle.mirror.proofs.exchange.is_free.Goals as goal
 
 pub returns-then-site : goal.returns-then-site
-returns-then-site c = λ e. never (cc)
+returns-then-site c = λ e. never cc
 
 pub returns : goal.returns
 returns c = 

@@ -17,4 +17,4 @@ pub loop-left-preserved : goal.loop-left-preserved
 loop-left-preserved c = (omega (arith, c.loop-left.invariant.0), c.clipped-d-in-loop-left.ensures)
 
 pub returns : goal.returns
-returns c = λ e. never (cc)
+returns c = λ e. never cc

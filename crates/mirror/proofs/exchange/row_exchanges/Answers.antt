@@ -18,11 +18,11 @@ pair_exchanges-requires c =
     (c.requires.0, c.place.ensures.1, c.place-in-loop-x.ensures.1, c.requires.2, c.requires.3)
 
 pub returns-then-not-pair_exchanges : goal.returns-then-not-pair_exchanges
-returns-then-not-pair_exchanges c = λ e. never (cc)
+returns-then-not-pair_exchanges c = λ e. never cc
 
 pub loop-x-preserved : goal.loop-x-preserved
 loop-x-preserved c = 
-    more-below c.loop-x.invariant (rw (c.place.ensures.0, c.place-in-loop-x.ensures.0, c.other-q.ensures) at (c.pair_exchanges.ensures (not-false _ c.if-not-pair_exchanges.false)))
+    more-below c.loop-x.invariant (rw (c.place.ensures.0, c.place-in-loop-x.ensures.0, c.other-q.ensures) at (c.pair_exchanges.ensures c.if-not-pair_exchanges.false))
 
 pub returns : goal.returns
 returns c = λ e. all-below c.loop-x.invariant (rw c.inputs-end.ensures at c.loop-x-test.false)

@@ -2,7 +2,7 @@ use Rattle.lists.specs.Proving.{rules, ◌%◌, sym, ◌∙◌, eqb-true, never}
 use Rattle.mirror.proofs.exchange.unruled_alike.Goals as goal
 
 pub returns-then-c-choices_at : goal.returns-then-c-choices_at
-returns-then-c-choices_at c = λ e. never (cc)
+returns-then-c-choices_at c = λ e. never cc
 
 pub returns : goal.returns
 returns c = λ e. (sym c.choices_at-c.ensures ∙ c.if-c-choices_at.false ∙ c.choices_at.ensures, rw (c.choices_at-c.ensures, c.states.ensures) at (eqb-true (c.choices_at-c.result % c.states.result) 0 e))

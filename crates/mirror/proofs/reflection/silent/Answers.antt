@@ -15,10 +15,10 @@ pub quiet-requires : goal.quiet-requires
 quiet-requires c = (c.requires.0, omega (arith, c.place.ensures.1))
 
 pub returns-then-not-quiet : goal.returns-then-not-quiet
-returns-then-not-quiet c = λ e. never (cc)
+returns-then-not-quiet c = λ e. never cc
 
 pub loop-x-preserved : goal.loop-x-preserved
-loop-x-preserved c = more-below c.loop-x.invariant (rw c.place.ensures.0 at (c.quiet.ensures (not-false _ c.if-not-quiet.false)))
+loop-x-preserved c = more-below c.loop-x.invariant (rw c.place.ensures.0 at (c.quiet.ensures c.if-not-quiet.false))
 
 pub returns : goal.returns
 returns c = λ e. all-below c.loop-x.invariant (rw c.inputs-end.ensures at c.loop-x-test.false)

@@ -10,16 +10,16 @@ pub loop-i-init : goal.loop-i-init
 loop-i-init c = respond-start c.requires.runnable _ c.start_set-used.ensures
 
 pub place-at-requires : goal.place-at-requires
-place-at-requires c =     place-low c.requires.runnable _ c.loop-i.invariant c.loop-i-test.true
+place-at-requires c = place-low c.requires.runnable _ c.loop-i.invariant c.loop-i-test.true
 
 pub bounds-buffer-i : goal.bounds-buffer-i
-bounds-buffer-i c =     omega (arith, c.loop-i.invariant.long, c.loop-i-test.true, c.requires.inputs_in_bounds)
+bounds-buffer-i c = omega (arith, c.loop-i.invariant.long, c.loop-i-test.true, c.requires.inputs_in_bounds)
 
 pub overflow_add-i : goal.overflow_add-i
-overflow_add-i c =     omega (arith, c.loop-i-test.true, c.well_formed)
+overflow_add-i c = omega (arith, c.loop-i-test.true, c.well_formed)
 
 pub loop-i-preserved : goal.loop-i-preserved
-loop-i-preserved c =     let inv = c.loop-i.invariant in
+loop-i-preserved c = let inv = c.loop-i.invariant in
     let taken = c.loop-i-test.true in
     respond-more c.requires.runnable _ inv taken (omega (arith, inv.long, taken, c.requires.inputs_in_bounds)) c.place-at.ensures.0 c.marked-used.ensures
 

@@ -8,7 +8,7 @@ pub first_failed_logged-requires : goal.first_failed_logged-requires
 first_failed_logged-requires c = let (sh, rd) = c.requires in (sh, suite-short rd (omega (arith, c.if-sheet-le1024.true)))
 
 pub returns-then-sheet-le1024 : goal.returns-then-sheet-le1024
-returns-then-sheet-le1024 c =     λ sh rd. c.first_failed_logged.ensures sh (suite-short rd (omega (arith, c.if-sheet-le1024.true)))
+returns-then-sheet-le1024 c = λ sh rd. c.first_failed_logged.ensures sh (suite-short rd (omega (arith, c.if-sheet-le1024.true)))
 
 pub first_failed_logged-requires-2 : goal.first_failed_logged-requires-2
 first_failed_logged-requires-2 c = let (sh, rd) = c.requires in (sh, suite-long rd (omega arith))

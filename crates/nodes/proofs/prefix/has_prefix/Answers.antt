@@ -10,7 +10,7 @@ pub returns-then-not-slot_has : goal.returns-then-not-slot_has
 returns-then-not-slot_has c = λ e. void e
 
 pub loop-i-preserved : goal.loop-i-preserved
-loop-i-preserved c = prefix-more c.loop-i.invariant (c.slot_has.ensures (not-false _ c.if-not-slot_has.false))
+loop-i-preserved c = prefix-more c.loop-i.invariant (c.slot_has.ensures c.if-not-slot_has.false)
 
 pub returns : goal.returns
 returns c = λ e. prefix-all c.requires c.loop-i.invariant c.loop-i-test.false

@@ -16,19 +16,19 @@ pub bounds-target-place : goal.bounds-target-place
 bounds-target-place c = c.place.ensures.1
 
 pub meet-met-requires : goal.meet-met-requires
-meet-met-requires c =     let p = c.requires in
+meet-met-requires c = let p = c.requires in
     let is = read-there p.2 _ _ _ p.3 c.loop-x-test.true c.place.ensures.0 in
     (_, c.loop-x.invariant.1 p.0 p.1 p.2 p.3 p.4 p.5, from-room p.2 _ p.3 p.1 _ c.loop-x-test.true _ is p.4)
 
 pub overflow_add-x : goal.overflow_add-x
-overflow_add-x c =     let h = c.requires.2 in
+overflow_add-x c = let h = c.requires.2 in
     omega (arith, c.loop-x-test.true, h.width, h.formed.size.inputs.few)
 
 pub loop-x-smaller : goal.loop-x-smaller
-loop-x-smaller c =     omega (arith, c.loop-x-test.true)
+loop-x-smaller c = omega (arith, c.loop-x-test.true)
 
 pub loop-x-preserved : goal.loop-x-preserved
-loop-x-preserved c =     (
+loop-x-preserved c = (
       omega (arith, c.loop-x-test.true),
       λ sh met h l hm m.
           let is = read-there h _ _ _ l c.loop-x-test.true c.place.ensures.0 in

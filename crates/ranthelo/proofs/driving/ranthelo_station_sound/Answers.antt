@@ -9,21 +9,21 @@ use Rattle.ranthelo.specs.Driving.{taken_numbers, taken_state}
 use Rattle.ranthelo.proofs.driving.ranthelo_station_sound.Goals as goal
 
 pub returns-in-Right : goal.returns-in-Right
-returns-in-Right c =     let a = c.args in
+returns-in-Right c = let a = c.args in
     let e =
     sym c.in-Right.is ∙ c.take_output.ensures.answer
     ∙ ap (λ (st : State). taken_answer (taking a.sheet.now st a.sound)) c.state_of-before.ensures
     in record { answer_after = ap taken_numbers e; state_after = c.keep.ensures ∙ ap (λ (r : Taken). taken_state r a.state.now) e }
 
 pub returns-in-Wrong : goal.returns-in-Wrong
-returns-in-Wrong c =     let a = c.args in
+returns-in-Wrong c = let a = c.args in
     let e =
     sym c.in-Wrong.is ∙ c.take_output.ensures.answer
     ∙ ap (λ (st : State). taken_answer (taking a.sheet.now st a.sound)) c.state_of-before.ensures
     in record { answer_after = ap taken_numbers e; state_after = c.keep-in-Wrong.ensures ∙ ap (λ (r : Taken). taken_state r a.state.now) e }
 
 pub returns-in-Refused : goal.returns-in-Refused
-returns-in-Refused c =     let a = c.args in
+returns-in-Refused c = let a = c.args in
     let e =
     sym c.in-Refused.is ∙ c.take_output.ensures.answer
     ∙ ap (λ (st : State). taken_answer (taking a.sheet.now st a.sound)) c.state_of-before.ensures

@@ -10,56 +10,57 @@ use Rattle.reading.proofs.LoadLaw as laws
 use borrow.Author.Rules.{rules}
 use Rattle.reading.proofs.filling.fill.Goals as goal
 
-abbrev laid : (c : tie.After-layout-of) (sh : Sheet) → Fillable (entry c).args.sheet.now (entry c).args.summary (entry c).args.output.now (entry c).args.target.now sh → LaidOut (entry c).args.sheet.now sh c.layout_of.result
-laid c sh h = c.layout_of.ensures sh h.told
-
-few : (c : tie.After-count-choices) → (at-layout (at-faults c)).layout_of.result.waking ≤ 15
-few c =
-    let at-layout-of = at-layout (at-faults c) in
-    let (sh, h) = (entry at-layout-of).pre.0 in
-    let l = laid at-layout-of sh h in
-    omega (arith, l.starts.few, l.waking)
-
 pub layout_of-layout-requires : goal.layout_of-layout-requires
 layout_of-layout-requires c = let (sh, h) = c.requires.fillable in (sh, h.told)
 
 pub fill_faults-requires : goal.fill_faults-requires
-fill_faults-requires c =     let (sh, h) = c.requires.fillable in
-    ((sh.faults, (laid c sh h).faults, faults-are h.told), faults-none c.requires.cleared)
+fill_faults-requires c = let laid : (sh : Sheet) → Fillable c.args.sheet.now c.args.summary c.args.output.now c.args.target.now sh → LaidOut c.args.sheet.now sh c.layout_of-layout.result = λ sh h. c.layout_of-layout.ensures sh h.told in
+    let (sh, h) = c.requires.fillable in
+    ((sh.faults, (laid sh h).faults, faults-are h.told), faults-none c.requires.cleared)
 
 pub unruled_choices-unruled-requires : goal.unruled_choices-unruled-requires
-unruled_choices-unruled-requires c =     let start = entry c in
+unruled_choices-unruled-requires c = let start = entry c in
     rw c.size_of.ensures (laws.size_fits start.args.sheet.now start.args.summary _ _ start.pre.0.0 start.pre.0.1)
 
 pub count_choices-requires : goal.count_choices-requires
-count_choices-requires c =     let (sh, h) = c.requires.fillable in
-    let l = laid c sh h in
+count_choices-requires c = let laid : (sh : Sheet) → Fillable c.args.sheet.now c.args.summary c.args.output.now c.args.target.now sh → LaidOut c.args.sheet.now sh c.layout_of-layout.result = λ sh h. c.layout_of-layout.ensures sh h.told in
+    let (sh, h) = c.requires.fillable in
+    let l = laid sh h in
     let f = c.fill_faults.ensures sh.faults l.faults (faults-are h.told) in
     let u = rw c.size_of.ensures at c.unruled_choices-unruled.ensures in
     (sh, laws.countable c.args.sheet.now c.args.summary _ _ sh h _ l _ u _ _ _ _ f)
 
 pub wakings_from-wakings-requires : goal.wakings_from-wakings-requires
-wakings_from-wakings-requires c =     let at-layout-of = at-layout c in
+wakings_from-wakings-requires c = let at-layout-of = at-layout c in
     let (sh, h) = at-layout-of.§entry.pre.0 in
     let l = laid at-layout-of sh h in
     (sh.starts, l.starts, l.waking)
 
 pub overflow_add-waking : goal.overflow_add-waking
-overflow_add-waking c = omega (arith, few c)
+overflow_add-waking c = let few : (at-layout c).layout_of.result.waking ≤ 15 = let at-layout-of = at-layout c in
+    let (sh, h) = at-layout-of.§entry.pre.0 in
+    let l = laid at-layout-of sh h in
+    omega (arith, l.starts.few, l.waking) in
+    omega (arith, few)
 
 pub overflow_cast-waking : goal.overflow_cast-waking
-overflow_cast-waking c = omega (arith, few c)
+overflow_cast-waking c = let few : (at-layout c).layout_of.result.waking ≤ 15 = let at-layout-of = at-layout c in
+    let (sh, h) = at-layout-of.§entry.pre.0 in
+    let l = laid at-layout-of sh h in
+    omega (arith, l.starts.few, l.waking) in
+    omega (arith, few)
 
 pub fill_tests-requires : goal.fill_tests-requires
-fill_tests-requires c =     let at-layout-of = at-layout c in
+fill_tests-requires c = let at-layout-of = at-layout c in
     let start = at-layout-of.§entry in
     let (sh, h) = start.pre.0 in
     (sh.tests, (laid at-layout-of sh h).tests, tests-are h.told, tests-none start.pre.1 _ _)
 
 pub returns : goal.returns
-returns c =     let a = c.args in record { reading_value = refl; lengths_after = λ sh h.
+returns c = let laid : (sh : Sheet) → Fillable c.args.sheet.now c.args.summary c.args.output.now c.args.target.now sh → LaidOut c.args.sheet.now sh c.layout_of-layout.result = λ sh h. c.layout_of-layout.ensures sh h.told in
+    let a = c.args in record { reading_value = refl; lengths_after = λ sh h.
           let s = a.sheet.now in
-          let l = laid c sh h in
+          let l = laid sh h in
           let f = c.fill_faults.ensures sh.faults l.faults (faults-are h.told) in
           let u = rw c.size_of.ensures at c.unruled_choices-unruled.ensures in
           let n = c.count_choices.ensures sh (laws.countable s a.summary _ _ sh h _ l _ u _ _ _ _ f) in

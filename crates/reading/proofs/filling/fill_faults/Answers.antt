@@ -13,7 +13,7 @@ pub loop-i-init : goal.loop-i-init
 loop-i-init c = (omega arith, λ l h e t. laws.filling-start _ _ l _ _ _ _ h t)
 
 pub note_fault-requires : goal.note_fault-requires
-note_fault-requires c =     let a = c.args in
+note_fault-requires c = let a = c.args in
     let s = a.sheet.now in
     let l = c.loop-i in
     let f = c.fetch_from-f in
@@ -25,7 +25,7 @@ note_fault-requires c =     let a = c.args in
     (laws.row-digits s a.place rows from l.at l.i h _ _ _ _ g _ same, omega (arith, from.few), (_, laws.taken-length s a.place rows from l.at l.i h _ _ _ _ g, g.tables))
 
 pub loop-i-preserved : goal.loop-i-preserved
-loop-i-preserved c =     let a = c.args in
+loop-i-preserved c = let a = c.args in
     let s = a.sheet.now in
     let l = c.loop-i in
     let f = c.fetch_from-f in (

@@ -14,22 +14,22 @@ pub overflow_cast-starts : goal.overflow_cast-starts
 overflow_cast-starts c = omega (arith, c.test_at-span.ensures.within, c.requires.1.short)
 
 pub offset_bounds-starts-i : goal.offset_bounds-starts-i
-offset_bounds-starts-i c =     omega (arith, c.requires.1.few, c.requires.2)
+offset_bounds-starts-i c = omega (arith, c.requires.1.few, c.requires.2)
 
 pub bounds-starts-i : goal.bounds-starts-i
-bounds-starts-i c =     let a = c.args in
+bounds-starts-i c = let a = c.args in
     let l = c.loop-i in
     let g = l.invariant.2 c.requires.0 c.requires.1 c.requires.2 c.requires.3 in
     omega (arith, g.tables.starts-are.size, c.requires.1.few, c.requires.2)
 
 pub overflow_cast-lengths : goal.overflow_cast-lengths
-overflow_cast-lengths c =     omega (arith, c.test_at-span.ensures.within, c.requires.1.short)
+overflow_cast-lengths c = omega (arith, c.test_at-span.ensures.within, c.requires.1.short)
 
 pub offset_bounds-lengths-i : goal.offset_bounds-lengths-i
-offset_bounds-lengths-i c =     omega (arith, c.requires.1.few, c.requires.2)
+offset_bounds-lengths-i c = omega (arith, c.requires.1.few, c.requires.2)
 
 pub bounds-lengths-i : goal.bounds-lengths-i
-bounds-lengths-i c =     let a = c.args in
+bounds-lengths-i c = let a = c.args in
     let l = c.loop-i in
     let g = l.invariant.2 c.requires.0 c.requires.1 c.requires.2 c.requires.3 in
     omega (arith, g.tables.lengths-are.size, c.requires.1.few, c.requires.2)
@@ -38,7 +38,7 @@ pub overflow_add-at : goal.overflow_add-at
 overflow_add-at c = omega (arith, c.test_at-span.ensures.within)
 
 pub loop-i-preserved : goal.loop-i-preserved
-loop-i-preserved c =     let a = c.args in
+loop-i-preserved c = let a = c.args in
     let l = c.loop-i in
     (omega arith, c.test_at-span.ensures.within, λ tests h e t. laws.testing-next _ a.place tests _ _ l.at l.i h (omega arith) c.test_at-span.result c.test_at-span.ensures (l.invariant.2 tests h e t))
 

@@ -4,6 +4,6 @@ use borrow.Author.Rules.{rules}
 use Rattle.reading.proofs.part.is_quiet.Goals as goal
 
 pub returns : goal.returns
-returns c =     let s = c.args.sheet.now in
+returns c = let s = c.args.sheet.now in
     λ sh e.
     quiet-fetched sh s (encoded s sh e) c.fetch_from-f.result c.item_in-item.result c.fetch_from-f.ensures c.item_in-item.ensures

@@ -13,16 +13,16 @@ pub loop-at-init : goal.loop-at-init
 loop-at-init c = (omega arith, omega arith, λ xs rest e calm. laws.left-start _ e)
 
 pub loop-at-smaller : goal.loop-at-smaller
-loop-at-smaller c =     let m = laws.operand-taken c.args.sheet.now c.loop-at.at c.fetch_from-f.ensures c.item_in-item.ensures c.if-item-byte.true c.requires.1 c.requires.2 in
+loop-at-smaller c = let m = laws.operand-taken c.args.sheet.now c.loop-at.at c.fetch_from-f.ensures c.item_in-item.ensures c.if-item-byte.true c.requires.1 c.requires.2 in
     omega (arith, m.next, m.all)
 
 pub loop-at-preserved : goal.loop-at-preserved
-loop-at-preserved c =     let l = c.loop-at in
+loop-at-preserved c = let l = c.loop-at in
     let m = laws.operand-taken c.args.sheet.now l.at c.fetch_from-f.ensures c.item_in-item.ensures c.if-item-byte.true c.requires.1 c.requires.2 in
     (omega (arith, m.next, l.invariant.0), omega (arith, m.next, m.all), λ xs rest d calm. laws.left-more c.args.sheet.now c.args.byte xs rest calm l.n l.at _ _ m.whole c.if-item-byte.true c.requires.2 (l.invariant.2 xs rest d calm))
 
 pub returns-else-item-byte : goal.returns-else-item-byte
-returns-else-item-byte c =     let a = c.args in
+returns-else-item-byte c = let a = c.args in
     let s = a.sheet.now in
     let l = c.loop-at in
     let f = c.fetch_from-f in

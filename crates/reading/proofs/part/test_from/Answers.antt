@@ -15,13 +15,13 @@ pub overflow_add-at : goal.overflow_add-at
 overflow_add-at c = omega (arith, c.test_at-span.ensures.within)
 
 pub loop-j-preserved : goal.loop-j-preserved
-loop-j-preserved c =     let a = c.args in
+loop-j-preserved c = let a = c.args in
     let s = a.sheet.now in
     let l = c.loop-j in
     (omega arith, c.test_at-span.ensures.within, λ tests e h. laws.place-next s a.place tests l.j l.at (omega arith) (l.invariant.2 tests e h) c.test_at-span.result c.test_at-span.ensures)
 
 pub returns : goal.returns
-returns c =     let a = c.args in
+returns c = let a = c.args in
     let s = a.sheet.now in
     let l = c.loop-j in
     let q : l.j ≡ a.i = omega arith in

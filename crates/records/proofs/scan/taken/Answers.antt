@@ -10,10 +10,10 @@ pub returns-then-v-ne-SEEN : goal.returns-then-v-ne-SEEN
 returns-then-v-ne-SEEN c = takes-unknown c.args.inputs c.args.outputs c.args.log.now c.args.at c.requires c.args.pulsed c.if-v-eq-PULSE.false c.if-v-ne-SEEN.true
 
 pub returns-then-not-pulsed : goal.returns-then-not-pulsed
-returns-then-not-pulsed c = takes-early c.args.inputs c.args.outputs c.args.log.now c.args.at c.requires c.args.pulsed c.if-v-eq-PULSE.false (not-true _ c.if-not-pulsed.true)
+returns-then-not-pulsed c = takes-early c.args.inputs c.args.outputs c.args.log.now c.args.at c.requires c.args.pulsed c.if-v-eq-PULSE.false c.if-not-pulsed.true
 
 pub returns-then-in_range : goal.returns-then-in_range
-returns-then-in_range c = takes-seen c.args.inputs c.args.outputs c.args.log.now c.args.at c.requires c.args.pulsed c.if-v-ne-SEEN.false (not-false _ c.if-not-pulsed.false) (sym c.in_range.ensures ∙ c.if-in_range.true)
+returns-then-in_range c = takes-seen c.args.inputs c.args.outputs c.args.log.now c.args.at c.requires c.args.pulsed c.if-v-ne-SEEN.false c.if-not-pulsed.false (sym c.in_range.ensures ∙ c.if-in_range.true)
 
 pub returns : goal.returns
 returns c = takes-over c.args.inputs c.args.outputs c.args.log.now c.args.at c.requires c.args.pulsed c.if-v-eq-PULSE.false (sym c.in_range.ensures ∙ c.if-in_range.false)

@@ -6,4 +6,4 @@ pub returns-then-not-ok : goal.returns-then-not-ok
 returns-then-not-ok c = λ e. void (sym e)
 
 pub returns : goal.returns
-returns c = λ e. not-false _ c.if-not-ok.false
+returns c = λ e. c.if-not-ok.false

@@ -14,13 +14,13 @@ pub byte-blank-requires : goal.byte-blank-requires
 byte-blank-requires c = omega (arith, c.loop-i.invariant.2.long)
 
 pub overflow_cast-numbers : goal.overflow_cast-numbers
-overflow_cast-numbers c =     omega (arith, c.shared_slice_known-in-loop-i-1.given c.loop-i.i)
+overflow_cast-numbers c = omega (arith, c.shared_slice_known-in-loop-i-1.given c.loop-i.i)
 
 pub put_number-end-requires : goal.put_number-end-requires
-put_number-end-requires c =     omega (arith, c.loop-i.invariant.2.long, c.byte-blank.ensures.many, c.byte-blank.ensures.long, byte-digits _ (c.shared_slice_known-in-loop-i-1.given c.loop-i.i))
+put_number-end-requires c = omega (arith, c.loop-i.invariant.2.long, c.byte-blank.ensures.many, c.byte-blank.ensures.long, byte-digits _ (c.shared_slice_known-in-loop-i-1.given c.loop-i.i))
 
 pub loop-i-preserved : goal.loop-i-preserved
-loop-i-preserved c =     (
+loop-i-preserved c = (
       omega arith,
       omega (arith, c.byte-blank.ensures.many, c.put_number-end.ensures.many, byte-digits _ (c.shared_slice_known-in-loop-i-1.given c.loop-i.i)),
       field-more c.args.numbers.now c.loop-i.i c.loop-i.invariant.2 c.byte-blank.ensures c.put_number-end.ensures (omega arith),

@@ -9,7 +9,7 @@ returns-then-store-eq0 c =
     (c.none_from.ensures, c.requires.2)
 
 pub returns-then-facts-eq0 : goal.returns-then-facts-eq0
-returns-then-facts-eq0 c = (λ e. never (cc), c.requires.2)
+returns-then-facts-eq0 c = (λ e. never cc, c.requires.2)
 
 pub bounds-facts-0 : goal.bounds-facts-0
 bounds-facts-0 c = omega (arith, c.if-facts-eq0.false)

@@ -79,4 +79,4 @@ pub shape_of-notes : goal.shape_of-notes
 shape_of-notes c = c.loop-i.invariant.same-notes
 
 pub returns : goal.returns
-returns c = record { answers = λ sh le. left-all (c.loop-i.invariant.left sh le) c.loop-i-test.false; store_ok = c.loop-i.invariant.ok; store_len = λ e. never (cc) }
+returns c = record { answers = λ sh le. left-all (c.loop-i.invariant.left sh le) c.loop-i-test.false; store_ok = c.loop-i.invariant.ok; store_len = λ e. never cc }

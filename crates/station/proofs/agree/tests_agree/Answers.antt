@@ -18,7 +18,7 @@ pub slice_bounds-same-end-2 : goal.slice_bounds-same-end-2
 slice_bounds-same-end-2 c = let (sh, h) = c.requires.tests_of_2 in (c.tests_of-q.ensures sh h).inside
 
 pub returns : goal.returns
-returns c =     let p = c.tests_of-p in
+returns c = let p = c.tests_of-p in
     let q = c.tests_of-q in
     λ a b h k.
     c.same.ensures

@@ -31,7 +31,7 @@ pub bounds-part-j : goal.bounds-part-j
 bounds-part-j c = omega (arith, c.if-part-position.false, c.loop-j-test.true)
 
 pub place-at-requires : goal.place-at-requires
-place-at-requires c =     let (sh, t, w) = c.requires in
+place-at-requires c = let (sh, t, w) = c.requires in
     let at = c.loop-j.invariant.3 sh t w in
     (state-low w {j = c.loop-j.j} at (omega (arith, c.if-part-position.false, c.loop-j-test.true)), press-low w {j = c.loop-j.j} at (omega (arith, c.if-part-position.false, c.loop-j-test.true)))
 
@@ -58,7 +58,7 @@ pub bounds-part-position : goal.bounds-part-position
 bounds-part-position c = omega (arith, c.if-part-position.false)
 
 pub place-at-requires-2 : goal.place-at-requires-2
-place-at-requires-2 c =     let (sh, t, w) = c.requires in
+place-at-requires-2 c = let (sh, t, w) = c.requires in
     let at = reached sh t c.loop-j.j c.args.position c.loop-j.s (omega (arith, c.loop-j-test.false, c.loop-j.invariant.0)) (c.loop-j.invariant.3 sh t w) in
     (state-low w {j = c.args.position} at c.if-part-position.false, press-low w {j = c.args.position} at c.if-part-position.false)
 

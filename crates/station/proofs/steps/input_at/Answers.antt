@@ -13,7 +13,7 @@ pub returns-then-begun-eq0 : goal.returns-then-begun-eq0
 returns-then-begun-eq0 c = λ sh e. none-begun sh.tests c.args.begun c.args.position c.if-begun-eq0.true
 
 pub returns : goal.returns
-returns c =     λ sh e.
+returns c = λ sh e.
     let a = c.args in
     let i = a.begun - 1 in
     c.input_in.ensures (get_or sh.tests i []) (c.test_part-part.ensures.bytes ∙ part-is a.sheet.now sh i e)

@@ -10,4 +10,4 @@ returns-then-e-n c = learns_none c.place-e.ensures
 
 pub returns : goal.returns
 returns c = 
-    learns-more c.place-e.ensures (not-false _ c.if-not-ok.false) c.write.ensures
+    learns-more c.place-e.ensures c.if-not-ok.false c.write.ensures

@@ -4,7 +4,7 @@ use Rattle.sweep.proofs.TurnLaw.{asked-none}
 use Rattle.sweep.proofs.turn.ask_on.Goals as goal
 
 pub returns-then-known-n : goal.returns-then-known-n
-returns-then-known-n c =     (c.requires.1, asked-none c.nothing.ensures)
+returns-then-known-n c = (c.requires.1, asked-none c.nothing.ensures)
 
 pub returns : goal.returns
-returns c =     (c.ask-asked.ensures.0, asked-none c.nothing-2.ensures)
+returns c = (c.ask-asked.ensures.0, asked-none c.nothing-2.ensures)

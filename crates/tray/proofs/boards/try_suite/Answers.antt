@@ -15,40 +15,40 @@ abbrev Read : tie.After-slice-known → Sheet → Type 0
 Read c sh = let a = (entry c).args in ReadFrom sh a.sheet.now a.starts.now a.lengths.now a.tests a.block.now
 -- the suite's log, in either array
 
-abbrev short-log : (c : tie.After-log-suite) (sh : Sheet) → Read c.before.before.before sh → (log : List ℕ) × Logged sh log c.log-suite.result
-short-log c sh rd = (_, c.log-suite.ensures sh (suite-short rd (omega (arith, c.before.before.if1.true))))
-
-abbrev long-log : (c : tie.After-log-suite2) (sh : Sheet) → Read c.before.before.before sh → (log : List ℕ) × Logged sh log c.log-suite2.result
-long-log c sh rd = (_, c.log-suite2.ensures sh (suite-long rd (omega arith)))
-
 pub log_suite-n-requires : goal.log_suite-n-requires
 log_suite-n-requires c = let pre = c.requires in (pre.0, suite-short pre.1 (omega (arith, c.if-sheet-le1024.true)))
 
 pub slice_bounds-short-end : goal.slice_bounds-short-end
-slice_bounds-short-end c = let pre = c.requires in (short-log c pre.0 pre.1).1.inside
+slice_bounds-short-end c = let short-log : (sh : Sheet) → Read c sh → (log : List ℕ) × Logged sh log c.log_suite-n.result = λ sh rd. (_, c.log_suite-n.ensures sh (suite-short rd (omega (arith, c.if-sheet-le1024.true)))) in
+    let pre = c.requires in (short-log pre.0 pre.1).1.inside
 
 pub slice_bounds-try_boards-end : goal.slice_bounds-try_boards-end
 slice_bounds-try_boards-end c = sym (length-take-le _ _ (array-share-prefix-short c))
 
 pub try_boards-requires : goal.try_boards-requires
-try_boards-requires c =     let pre = c.requires in
-    (pre.0, by-log pre.1 (short-log c pre.0 pre.1).1, pre.2)
+try_boards-requires c = let short-log : (sh : Sheet) → Read c sh → (log : List ℕ) × Logged sh log c.log_suite-n.result = λ sh rd. (_, c.log_suite-n.ensures sh (suite-short rd (omega (arith, c.if-sheet-le1024.true)))) in
+    let pre = c.requires in
+    (pre.0, by-log pre.1 (short-log pre.0 pre.1).1, pre.2)
 
 pub returns-then-sheet-le1024 : goal.returns-then-sheet-le1024
-returns-then-sheet-le1024 c =     λ sh rd tr. c.try_boards.ensures sh (by-log rd (short-log c sh rd).1) tr
+returns-then-sheet-le1024 c = let short-log : (sh : Sheet) → Read c sh → (log : List ℕ) × Logged sh log c.log_suite-n.result = λ sh rd. (_, c.log_suite-n.ensures sh (suite-short rd (omega (arith, c.if-sheet-le1024.true)))) in
+    λ sh rd tr. c.try_boards.ensures sh (by-log rd (short-log sh rd).1) tr
 
 pub log_suite-n-requires-2 : goal.log_suite-n-requires-2
 log_suite-n-requires-2 c = let pre = c.requires in (pre.0, suite-long pre.1 (omega arith))
 
 pub slice_bounds-long-end : goal.slice_bounds-long-end
-slice_bounds-long-end c = let pre = c.requires in (long-log c pre.0 pre.1).1.inside
+slice_bounds-long-end c = let long-log : (sh : Sheet) → Read c sh → (log : List ℕ) × Logged sh log c.log_suite-n-2.result = λ sh rd. (_, c.log_suite-n-2.ensures sh (suite-long rd (omega arith))) in
+    let pre = c.requires in (long-log pre.0 pre.1).1.inside
 
 pub slice_bounds-try_boards-end-2 : goal.slice_bounds-try_boards-end-2
 slice_bounds-try_boards-end-2 c = sym (length-take-le _ _ (array-share-prefix-long c))
 
 pub try_boards-requires-2 : goal.try_boards-requires-2
-try_boards-requires-2 c =     let pre = c.requires in
-    (pre.0, by-log pre.1 (long-log c pre.0 pre.1).1, pre.2)
+try_boards-requires-2 c = let long-log : (sh : Sheet) → Read c sh → (log : List ℕ) × Logged sh log c.log_suite-n-2.result = λ sh rd. (_, c.log_suite-n-2.ensures sh (suite-long rd (omega arith))) in
+    let pre = c.requires in
+    (pre.0, by-log pre.1 (long-log pre.0 pre.1).1, pre.2)
 
 pub returns : goal.returns
-returns c =     λ sh rd tr. c.try_boards-2.ensures sh (by-log rd (long-log c sh rd).1) tr
+returns c = let long-log : (sh : Sheet) → Read c sh → (log : List ℕ) × Logged sh log c.log_suite-n-2.result = λ sh rd. (_, c.log_suite-n-2.ensures sh (suite-long rd (omega arith))) in
+    λ sh rd tr. c.try_boards-2.ensures sh (by-log rd (long-log sh rd).1) tr

@@ -6,38 +6,41 @@ use Rattle.block.specs.Tabled.{Tabled}
 use Rattle.tray.proofs.HighLaw.{LowTo, low-none, low-all, turn_end, turn_more, turn-high, turn_below}
 use Rattle.tray.proofs.fitting.first_high.Goals as goal
 
-slots-count : (c : tie.After-wide invariant-loop decreases-loop) (sh : Sheet) → Tabled sh (entry c.before).args.block.now → c.wide.result ≡ length (slots sh)
-slots-count c sh tb = c.wide.ensures.0 ∙ c.before.slots.ensures ∙ tb.count
-
 pub loop-at-init : goal.loop-at-init
 loop-at-init c = λ sh tb boards long. low-none long
 
 pub overflow_add-end : goal.overflow_add-end
-overflow_add-end c =     let pre = c.requires in
-    omega (arith, c.well_formed, (turn_end pre.0 (c.loop-at.invariant pre.0 pre.1 pre.2.0 pre.2.1) c.loop-at-test.true (slots-count c pre.0 pre.1)).0)
+overflow_add-end c = let slots-count : (sh : Sheet) → Tabled sh c.args.block.now → c.wide-count.result ≡ length (slots sh) = λ sh tb. c.wide-count.ensures.0 ∙ c.slots.ensures ∙ tb.count in
+    let pre = c.requires in
+    omega (arith, c.well_formed, (turn_end pre.0 (c.loop-at.invariant pre.0 pre.1 pre.2.0 pre.2.1) c.loop-at-test.true (slots-count pre.0 pre.1)).0)
 
 pub slice_bounds-fits-end : goal.slice_bounds-fits-end
-slice_bounds-fits-end c =     let pre = c.requires in
-    omega (arith, (turn_end pre.0 (c.loop-at.invariant pre.0 pre.1 pre.2.0 pre.2.1) c.loop-at-test.true (slots-count c pre.0 pre.1)).0)
+slice_bounds-fits-end c = let slots-count : (sh : Sheet) → Tabled sh c.args.block.now → c.wide-count.result ≡ length (slots sh) = λ sh tb. c.wide-count.ensures.0 ∙ c.slots.ensures ∙ tb.count in
+    let pre = c.requires in
+    omega (arith, (turn_end pre.0 (c.loop-at.invariant pre.0 pre.1 pre.2.0 pre.2.1) c.loop-at-test.true (slots-count pre.0 pre.1)).0)
 
 pub fits-fit-requires : goal.fits-fit-requires
 fits-fit-requires c = let pre = c.requires in (pre.0, pre.1)
 
 pub overflow_add-result : goal.overflow_add-result
-overflow_add-result c =     let pre = c.requires in
-    omega (arith, c.well_formed, turn_below pre.0 (c.loop-at.invariant pre.0 pre.1 pre.2.0 pre.2.1) c.loop-at-test.true (slots-count c pre.0 pre.1) (c.fits-fit.ensures pre.0 pre.1) c.in-Refused.is)
+overflow_add-result c = let slots-count : (sh : Sheet) → Tabled sh c.args.block.now → c.wide-count.result ≡ length (slots sh) = λ sh tb. c.wide-count.ensures.0 ∙ c.slots.ensures ∙ tb.count in
+    let pre = c.requires in
+    omega (arith, c.well_formed, turn_below pre.0 (c.loop-at.invariant pre.0 pre.1 pre.2.0 pre.2.1) c.loop-at-test.true (slots-count pre.0 pre.1) (c.fits-fit.ensures pre.0 pre.1) c.in-Refused.is)
 
 pub returns-in-Refused : goal.returns-in-Refused
-returns-in-Refused c =     λ sh tb boards long.
-    turn-high sh (c.loop-at.invariant sh tb boards long) c.loop-at-test.true (slots-count c sh tb) (c.fits-fit.ensures sh tb) c.in-Refused.is
+returns-in-Refused c = let slots-count : (sh : Sheet) → Tabled sh c.args.block.now → c.wide-count.result ≡ length (slots sh) = λ sh tb. c.wide-count.ensures.0 ∙ c.slots.ensures ∙ tb.count in
+    λ sh tb boards long.
+    turn-high sh (c.loop-at.invariant sh tb boards long) c.loop-at-test.true (slots-count sh tb) (c.fits-fit.ensures sh tb) c.in-Refused.is
 
 pub loop-at-smaller : goal.loop-at-smaller
-loop-at-smaller c =     let pre = c.requires in
-    omega (arith, c.loop-at-test.true, turn_end pre.0 (c.loop-at.invariant pre.0 pre.1 pre.2.0 pre.2.1) c.loop-at-test.true (slots-count c pre.0 pre.1))
+loop-at-smaller c = let slots-count : (sh : Sheet) → Tabled sh c.args.block.now → c.wide-count.result ≡ length (slots sh) = λ sh tb. c.wide-count.ensures.0 ∙ c.slots.ensures ∙ tb.count in
+    let pre = c.requires in
+    omega (arith, c.loop-at-test.true, turn_end pre.0 (c.loop-at.invariant pre.0 pre.1 pre.2.0 pre.2.1) c.loop-at-test.true (slots-count pre.0 pre.1))
 
 pub loop-at-preserved : goal.loop-at-preserved
-loop-at-preserved c =     λ sh tb boards long.
-    turn_more sh (c.loop-at.invariant sh tb boards long) c.loop-at-test.true (slots-count c sh tb) (c.fits-fit.ensures sh tb) c.in_default.is
+loop-at-preserved c = let slots-count : (sh : Sheet) → Tabled sh c.args.block.now → c.wide-count.result ≡ length (slots sh) = λ sh tb. c.wide-count.ensures.0 ∙ c.slots.ensures ∙ tb.count in
+    λ sh tb boards long.
+    turn_more sh (c.loop-at.invariant sh tb boards long) c.loop-at-test.true (slots-count sh tb) (c.fits-fit.ensures sh tb) c.in_default.is
 
 pub returns : goal.returns
 returns c = λ sh tb boards long. low-all (c.loop-at.invariant sh tb boards long) c.loop-at-test.false

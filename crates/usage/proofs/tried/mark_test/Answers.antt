@@ -11,7 +11,7 @@ pub loop-left-init : goal.loop-left-init
 loop-left-init c = record { inside = c.requires; is = refl }
 
 pub loop-left-preserved : goal.loop-left-preserved
-loop-left-preserved c =     marking-more c.loop-left.invariant c.loop-left-test.true c.some_place-k.ensures.0 c.marked-used.ensures
+loop-left-preserved c = marking-more c.loop-left.invariant c.loop-left-test.true c.some_place-k.ensures.0 c.marked-used.ensures
 
 pub returns : goal.returns
 returns c = marking-end c.loop-left.invariant c.loop-left-test.false

@@ -12,10 +12,10 @@ pub bounds-done-wide : goal.bounds-done-wide
 bounds-done-wide c = omega (arith, c.wide-in-loop-s.ensures, c.states-end.ensures, c.requires.few-states)
 
 pub returns-then-not-within : goal.returns-then-not-within
-returns-then-not-within c = λ e. never (cc)
+returns-then-not-within c = λ e. never cc
 
 pub loop-s-preserved : goal.loop-s-preserved
-loop-s-preserved c = within_more c.loop-s.invariant (rw (c.wide.ensures.0, c.wide-in-loop-s.ensures.0) at (c.within.ensures (not-false _ c.if-not-within.false)))
+loop-s-preserved c = within_more c.loop-s.invariant (rw (c.wide.ensures.0, c.wide-in-loop-s.ensures.0) at (c.within.ensures c.if-not-within.false))
 
 pub returns : goal.returns
 returns c = λ e. within_all c.loop-s.invariant (rw c.states-end.ensures at c.loop-s-test.false)

@@ -27,4 +27,4 @@ pub returns-then-not-all_within : goal.returns-then-not-all_within
 returns-then-not-all_within c = λ e. absurd (omega (arith, e))
 
 pub returns : goal.returns
-returns c = λ e. spreading-all c.requires c.loop-n.invariant (c.all_within.ensures (not-false _ c.if-not-all_within.false)) e
+returns c = λ e. spreading-all c.requires c.loop-n.invariant (c.all_within.ensures c.if-not-all_within.false) e

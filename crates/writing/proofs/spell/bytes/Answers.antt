@@ -13,10 +13,10 @@ pub bounds-part-i : goal.bounds-part-i
 bounds-part-i c = c.loop-i-test.true
 
 pub byte-to-requires : goal.byte-to-requires
-byte-to-requires c =     omega (arith, spelling-room c.loop-i.invariant (bytes_next c.args.part.now c.loop-i.i c.loop-i-test.true))
+byte-to-requires c = omega (arith, spelling-room c.loop-i.invariant (bytes_next c.args.part.now c.loop-i.i c.loop-i-test.true))
 
 pub loop-i-preserved : goal.loop-i-preserved
-loop-i-preserved c =     spelling-more c.loop-i.invariant (bytes_next c.args.part.now c.loop-i.i c.loop-i-test.true) c.byte-to.ensures
+loop-i-preserved c = spelling-more c.loop-i.invariant (bytes_next c.args.part.now c.loop-i.i c.loop-i-test.true) c.byte-to.ensures
 
 pub shape_of-sheet : goal.shape_of-sheet
 shape_of-sheet c = c.loop-i.invariant.wrote.long

@@ -6,7 +6,7 @@ use Rattle.writing.proofs.spell.quieted.Goals as goal
 
 pub byte-requires : goal.byte-requires
 unfolding quiet_bytes
-byte-requires c =     let room = rw c.if-quiet.true at c.requires in
+byte-requires c = let room = rw c.if-quiet.true at c.requires in
     omega arith
 
 pub shape_of-sheet-then-quiet : goal.shape_of-sheet-then-quiet

@@ -12,16 +12,16 @@ pub loop-i-init : goal.loop-i-init
 loop-i-init c = (omega arith, spelling-start c.requires)
 
 pub command-to-requires : goal.command-to-requires
-command-to-requires c =     let a = c.args in
+command-to-requires c = let a = c.args in
     spelling-room c.loop-i.invariant.1 (rows_next a.b a.table.now c.loop-i.i c.loop-i-test.true)
 
 pub loop-i-preserved : goal.loop-i-preserved
-loop-i-preserved c =     let a = c.args in
+loop-i-preserved c = let a = c.args in
     (omega arith, spelling-more c.loop-i.invariant.1 (rows_next a.b a.table.now c.loop-i.i c.loop-i-test.true) c.command-to.ensures)
 
 pub shape_of-sheet : goal.shape_of-sheet
 shape_of-sheet c = c.loop-i.invariant.1.wrote.long
 
 pub returns : goal.returns
-returns c =     let a = c.args in
+returns c = let a = c.args in
     spelling-end c.loop-i.invariant.1 (rows_none a.b a.table.now c.loop-i.i c.loop-i-test.false)

@@ -23,10 +23,6 @@ quiet_on sh = quiet_bytes sh.quiet ++ rules_on sh
 abbrev Until : tie.Start → ℕ → (Sheet → List ℕ) → Type 0
 Until c to rest = (new : List ℕ) × Spelling c.args.sheet.now new 0 to (encode (drawn c)) (rest (drawn c))
 
-begun : (c : tie.Start) → Spelling c.args.sheet.now c.args.sheet.now 0 0 (encode (drawn c)) (encode (drawn c))
-unfolding sheet_of
-begun c = spelling-start (omega (arith, c.requires.1))
-
 first : (sh : Sheet) → Next (encode sh) (1 ∷ sh.size.states ∷ sh.size.inputs ∷ sh.size.outputs ∷ []) (quiet_on sh)
 unfolding size_bytes
 first sh = record { is = encode-parts sh }
@@ -34,45 +30,69 @@ first sh = record { is = encode-parts sh }
 next : (part later : List ℕ) → Next (part ++ later) part later
 next part later = record { is = refl }
 
-abbrev sized : (c : tie.After-command) → Until (entry c.before) c.command.result quiet_on
-sized c = (_, spelling-more (begun (entry c.before)) (first (drawn (entry c.before))) c.command.ensures)
-
-abbrev silenced : (c : tie.After-quieted) → Until (entry-1 c.before) c.quieted.result rules_on
-silenced c = (_, spelling-more (sized (at-command c.before)).1 (next _ _) c.quieted.ensures)
-
-abbrev ruled : (c : tie.After-rows) → Until (entry-2 c.before) c.rows.result faults_on
-ruled c = (_, spelling-more (silenced (at-quieted c.before)).1 (next _ _) c.rows.ensures)
-
-abbrev faulted : (c : tie.After-rows2) → Until (entry-3 c.before) c.rows2.result starts_on
-faulted c = (_, spelling-more (ruled (at-rules c.before)).1 (next _ _) c.rows2.ensures)
-
-abbrev started : (c : tie.After-operands) → Until (entry-4 c.before) c.operands.result tests_on
-started c = (_, spelling-more (faulted (at-faults c.before)).1 (next _ _) c.operands.ensures)
-
-abbrev tested : (c : tie.After-tests) → Until (entry-5 c.before) c.tests.result (λ sh. 6 ∷ [])
-tested c = (_, spelling-more (started (at-starts c.before)).1 (next _ _) c.tests.ensures)
-
 pub command-sized-requires : goal.command-sized-requires
-command-sized-requires c = spelling-room (begun c) (first (drawn c))
+unfolding sheet_of
+command-sized-requires c = let begun : Spelling c.args.sheet.now c.args.sheet.now 0 0 (encode (drawn c)) (encode (drawn c)) = spelling-start (omega (arith, c.requires.inputs_in_bounds)) in
+    spelling-room begun (first (drawn c))
 
 pub quieted-ruled-requires : goal.quieted-ruled-requires
-quieted-ruled-requires c = let sh = drawn c in spelling-room (sized c).1 (next (quiet_bytes sh.quiet) (rules_on sh))
+unfolding sheet_of
+quieted-ruled-requires c = let begun : Spelling c.args.sheet.now c.args.sheet.now 0 0 (encode (drawn c)) (encode (drawn c)) = spelling-start (omega (arith, c.requires.inputs_in_bounds)) in
+    let sized : Until c c.command-sized.result quiet_on = (_, spelling-more begun (first (drawn c)) c.command-sized.ensures) in
+    let sh = drawn c in spelling-room sized.1 (next (quiet_bytes sh.quiet) (rules_on sh))
 
 pub rows-faulted-requires : goal.rows-faulted-requires
-rows-faulted-requires c = let sh = drawn c in spelling-room (silenced c).1 (next (row_bytes 2 sh.rules) (faults_on sh))
+unfolding sheet_of
+rows-faulted-requires c = let begun : Spelling c.args.sheet.now c.args.sheet.now 0 0 (encode (drawn c)) (encode (drawn c)) = spelling-start (omega (arith, c.requires.inputs_in_bounds)) in
+    let sized : Until c c.command-sized.result quiet_on = (_, spelling-more begun (first (drawn c)) c.command-sized.ensures) in
+    let silenced : Until c c.quieted-ruled.result rules_on = (_, spelling-more sized.1 (next _ _) c.quieted-ruled.ensures) in
+    let sh = drawn c in spelling-room silenced.1 (next (row_bytes 2 sh.rules) (faults_on sh))
 
 pub rows-started-requires : goal.rows-started-requires
-rows-started-requires c = let sh = drawn c in spelling-room (ruled c).1 (next (row_bytes 3 sh.faults) (starts_on sh))
+unfolding sheet_of
+rows-started-requires c = let begun : Spelling c.args.sheet.now c.args.sheet.now 0 0 (encode (drawn c)) (encode (drawn c)) = spelling-start (omega (arith, c.requires.inputs_in_bounds)) in
+    let sized : Until c c.command-sized.result quiet_on = (_, spelling-more begun (first (drawn c)) c.command-sized.ensures) in
+    let silenced : Until c c.quieted-ruled.result rules_on = (_, spelling-more sized.1 (next _ _) c.quieted-ruled.ensures) in
+    let ruled : Until c c.rows-faulted.result faults_on = (_, spelling-more silenced.1 (next _ _) c.rows-faulted.ensures) in
+    let sh = drawn c in spelling-room ruled.1 (next (row_bytes 3 sh.faults) (starts_on sh))
 
 pub operands-tested-requires : goal.operands-tested-requires
-operands-tested-requires c = let sh = drawn c in spelling-room (faulted c).1 (next (start_bytes sh.starts) (tests_on sh))
+unfolding sheet_of
+operands-tested-requires c = let begun : Spelling c.args.sheet.now c.args.sheet.now 0 0 (encode (drawn c)) (encode (drawn c)) = spelling-start (omega (arith, c.requires.inputs_in_bounds)) in
+    let sized : Until c c.command-sized.result quiet_on = (_, spelling-more begun (first (drawn c)) c.command-sized.ensures) in
+    let silenced : Until c c.quieted-ruled.result rules_on = (_, spelling-more sized.1 (next _ _) c.quieted-ruled.ensures) in
+    let ruled : Until c c.rows-faulted.result faults_on = (_, spelling-more silenced.1 (next _ _) c.rows-faulted.ensures) in
+    let faulted : Until c c.rows-started.result starts_on = (_, spelling-more ruled.1 (next _ _) c.rows-started.ensures) in
+    let sh = drawn c in spelling-room faulted.1 (next (start_bytes sh.starts) (tests_on sh))
 
 pub tests-ended-requires : goal.tests-ended-requires
-tests-ended-requires c = let sh = drawn c in record { lengths_in_bounds = c.requires.lengths_in_bounds; inputs_in_bounds = spelling-room (started c).1 (next (test_bytes sh.tests) (6 ∷ [])) }
+unfolding sheet_of
+tests-ended-requires c = let begun : Spelling c.args.sheet.now c.args.sheet.now 0 0 (encode (drawn c)) (encode (drawn c)) = spelling-start (omega (arith, c.requires.inputs_in_bounds)) in
+    let sized : Until c c.command-sized.result quiet_on = (_, spelling-more begun (first (drawn c)) c.command-sized.ensures) in
+    let silenced : Until c c.quieted-ruled.result rules_on = (_, spelling-more sized.1 (next _ _) c.quieted-ruled.ensures) in
+    let ruled : Until c c.rows-faulted.result faults_on = (_, spelling-more silenced.1 (next _ _) c.rows-faulted.ensures) in
+    let faulted : Until c c.rows-started.result starts_on = (_, spelling-more ruled.1 (next _ _) c.rows-started.ensures) in
+    let started : Until c c.operands-tested.result tests_on = (_, spelling-more faulted.1 (next _ _) c.operands-tested.ensures) in
+    let sh = drawn c in record { lengths_in_bounds = c.requires.lengths_in_bounds; inputs_in_bounds = spelling-room started.1 (next (test_bytes sh.tests) (6 ∷ [])) }
 
 pub byte-requires : goal.byte-requires
-byte-requires c = omega (arith, spelling-room (tested c).1 (next (6 ∷ []) []))
+unfolding sheet_of
+byte-requires c = let begun : Spelling c.args.sheet.now c.args.sheet.now 0 0 (encode (drawn c)) (encode (drawn c)) = spelling-start (omega (arith, c.requires.inputs_in_bounds)) in
+    let sized : Until c c.command-sized.result quiet_on = (_, spelling-more begun (first (drawn c)) c.command-sized.ensures) in
+    let silenced : Until c c.quieted-ruled.result rules_on = (_, spelling-more sized.1 (next _ _) c.quieted-ruled.ensures) in
+    let ruled : Until c c.rows-faulted.result faults_on = (_, spelling-more silenced.1 (next _ _) c.rows-faulted.ensures) in
+    let faulted : Until c c.rows-started.result starts_on = (_, spelling-more ruled.1 (next _ _) c.rows-started.ensures) in
+    let started : Until c c.operands-tested.result tests_on = (_, spelling-more faulted.1 (next _ _) c.operands-tested.ensures) in
+    let tested : Until c c.tests-ended.result (λ sh. 6 ∷ []) = (_, spelling-more started.1 (next _ _) c.tests-ended.ensures) in
+    omega (arith, spelling-room tested.1 (next (6 ∷ []) []))
 
 pub returns : goal.returns
 unfolding sheet_of
-returns c =     spelling-end (spelling-more (tested c).1 (next _ []) c.byte.ensures) refl
+returns c = let begun : Spelling c.args.sheet.now c.args.sheet.now 0 0 (encode (drawn c)) (encode (drawn c)) = spelling-start (omega (arith, c.requires.inputs_in_bounds)) in
+    let sized : Until c c.command-sized.result quiet_on = (_, spelling-more begun (first (drawn c)) c.command-sized.ensures) in
+    let silenced : Until c c.quieted-ruled.result rules_on = (_, spelling-more sized.1 (next _ _) c.quieted-ruled.ensures) in
+    let ruled : Until c c.rows-faulted.result faults_on = (_, spelling-more silenced.1 (next _ _) c.rows-faulted.ensures) in
+    let faulted : Until c c.rows-started.result starts_on = (_, spelling-more ruled.1 (next _ _) c.rows-started.ensures) in
+    let started : Until c c.operands-tested.result tests_on = (_, spelling-more faulted.1 (next _ _) c.operands-tested.ensures) in
+    let tested : Until c c.tests-ended.result (λ sh. 6 ∷ []) = (_, spelling-more started.1 (next _ _) c.tests-ended.ensures) in
+    spelling-end (spelling-more tested.1 (next _ []) c.byte.ensures) refl
