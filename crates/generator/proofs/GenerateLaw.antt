@@ -6,7 +6,7 @@ use Rattle.lists.specs.laws.TestLaw.{not-true-false}
 use Rattle.sheet.specs.Reading.{accepted, refused, size_in_range}
 use Rattle.sheet.specs.Encode.{encode}
 use Rattle.sheet.specs.WellFormed.{SizeIn}
-use Rattle.sheet.specs.laws.CommandLaw.{size_in, in_size}
+use Rattle.sheet.specs.laws.CommandLaw.{size_in_lem, in_size}
 use Rattle.writing.specs.declared.Written.{Written}
 use Rattle.writing.specs.declared.Written.TheVariants as written
 use Rattle.writing.specs.Drawing.{drawing, drawing_of}
@@ -55,7 +55,7 @@ module _ (seed : ℕ) (z : Size) (old : List ℕ) where
         (
           b,
           record {
-            range = λ n. refuses x r old new a b 4 (out-range seed z (length old) (not-true-false _ (λ e. n (size_in z e))));
+            range = λ n. refuses x r old new a b 4 (out-range seed z (length old) (not-true-false _ (λ e. n (size_in_lem z e))));
             short = λ w h. refuses x r old new a b 16 (short-room seed z (length old) w h);
             sheet = λ w h. (encode (sheet_from seed z), writes x r old new a b (generating-sheet seed z (length old) w h), generated seed z w);
           },
@@ -66,4 +66,4 @@ module _ (seed : ℕ) (z : Size) (old : List ℕ) where
   out_of_range e = let k = out-range seed z (length old) e in promised _ old (rw k refl) (rw k refl)
 
   pub no_room : size_in_range z ≡ true → length old < 16384 → Promised (written.Refused 16 0) old
-  no_room w h = let k = short-room seed z (length old) (size_in z w) h in promised _ old (rw k refl) (rw k refl)
+  no_room w h = let k = short-room seed z (length old) (size_in_lem z w) h in promised _ old (rw k refl) (rw k refl)

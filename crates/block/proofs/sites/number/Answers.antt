@@ -19,35 +19,35 @@ pub overflow_cast-site : goal.overflow_cast-site
 overflow_cast-site c = let space : c.loop-i.count < 32 = let a = c.args in
     let p = c.requires in
     let l = c.loop-i in
-    omega (arith, l.inv.counts, room (waking_first a.waking) a.n a.k a.choices.now l.i (omega arith) p.1 (sym (c.is_open.ensures a.n (omega arith)) ∙ c.if-is_open.true)) in
+    omega (arith, l.invariant.counts, room (waking_first a.waking) a.n a.k a.choices.now l.i (omega arith) p.1 (sym (c.is_open.ensures a.n (omega arith)) ∙ c.if-is_open.true)) in
     omega (arith, space)
 
 pub offset_bounds-slots-count : goal.offset_bounds-slots-count
 offset_bounds-slots-count c = let space : c.loop-i.count < 32 = let a = c.args in
     let p = c.requires in
     let l = c.loop-i in
-    omega (arith, l.inv.counts, room (waking_first a.waking) a.n a.k a.choices.now l.i (omega arith) p.1 (sym (c.is_open.ensures a.n (omega arith)) ∙ c.if-is_open.true)) in
+    omega (arith, l.invariant.counts, room (waking_first a.waking) a.n a.k a.choices.now l.i (omega arith) p.1 (sym (c.is_open.ensures a.n (omega arith)) ∙ c.if-is_open.true)) in
     omega (arith, space)
 
 pub bounds-slots-count : goal.bounds-slots-count
 bounds-slots-count c = let space : c.loop-i.count < 32 = let a = c.args in
     let p = c.requires in
     let l = c.loop-i in
-    omega (arith, l.inv.counts, room (waking_first a.waking) a.n a.k a.choices.now l.i (omega arith) p.1 (sym (c.is_open.ensures a.n (omega arith)) ∙ c.if-is_open.true)) in
+    omega (arith, l.invariant.counts, room (waking_first a.waking) a.n a.k a.choices.now l.i (omega arith) p.1 (sym (c.is_open.ensures a.n (omega arith)) ∙ c.if-is_open.true)) in
     omega (arith, space)
 
 pub bounds-pairs-count : goal.bounds-pairs-count
 bounds-pairs-count c = let space : c.loop-i.count < 32 = let a = c.args in
     let p = c.requires in
     let l = c.loop-i in
-    omega (arith, l.inv.counts, room (waking_first a.waking) a.n a.k a.choices.now l.i (omega arith) p.1 (sym (c.is_open.ensures a.n (omega arith)) ∙ c.if-is_open.true)) in
+    omega (arith, l.invariant.counts, room (waking_first a.waking) a.n a.k a.choices.now l.i (omega arith) p.1 (sym (c.is_open.ensures a.n (omega arith)) ∙ c.if-is_open.true)) in
     omega (arith, space)
 
 pub overflow_add-count : goal.overflow_add-count
 overflow_add-count c = let space : c.loop-i.count < 32 = let a = c.args in
     let p = c.requires in
     let l = c.loop-i in
-    omega (arith, l.inv.counts, room (waking_first a.waking) a.n a.k a.choices.now l.i (omega arith) p.1 (sym (c.is_open.ensures a.n (omega arith)) ∙ c.if-is_open.true)) in
+    omega (arith, l.invariant.counts, room (waking_first a.waking) a.n a.k a.choices.now l.i (omega arith) p.1 (sym (c.is_open.ensures a.n (omega arith)) ∙ c.if-is_open.true)) in
     omega (arith, space)
 
 pub loop-i-preserved : goal.loop-i-preserved
@@ -56,14 +56,14 @@ loop-i-preserved c = let a = c.args in
     let l = c.loop-i in
     let e = sym (c.is_open.ensures a.n (omega arith)) in
     ⊎_elim
-    (λ w. rw (w.2, w.3, w.5) (number-open (waking_first a.waking) a.n a.k a.choices.now l.site l.slots l.count l.i l.inv (omega arith) p.1 (e ∙ w.0.taken)))
-    (λ w. rw (w.1, w.2, w.4) (number-shut (waking_first a.waking) a.n a.k a.choices.now l.site l.slots l.count l.i l.inv (omega arith) (e ∙ w.0.left)))
+    (λ w. rw (w.2, w.3, w.5) (number-open (waking_first a.waking) a.n a.k a.choices.now l.site l.slots l.count l.i l.invariant (omega arith) p.1 (e ∙ w.0.taken)))
+    (λ w. rw (w.1, w.2, w.4) (number-shut (waking_first a.waking) a.n a.k a.choices.now l.site l.slots l.count l.i l.invariant (omega arith) (e ∙ w.0.left)))
     c.if-is_open.came
 
 pub overflow_cast-result : goal.overflow_cast-result
 overflow_cast-result c = let a = c.args in
     let l = c.loop-i in
-    omega (arith, l.inv.counts, few-before (waking_first a.waking) a.n a.k a.choices.now l.i l.inv.most c.requires.1)
+    omega (arith, l.invariant.counts, few-before (waking_first a.waking) a.n a.k a.choices.now l.i l.invariant.most c.requires.1)
 
 pub returns : goal.returns
-returns c = let a = c.args in let l = c.loop-i in number-end (waking_first a.waking) a.n a.k a.choices.now l.site l.slots l.pairs l.count l.i l.inv c.loop-i-test.false
+returns c = let a = c.args in let l = c.loop-i in number-end (waking_first a.waking) a.n a.k a.choices.now l.site l.slots l.pairs l.count l.i l.invariant c.loop-i-test.false

@@ -36,10 +36,10 @@ pub shape_of-notes-in-Ends : goal.shape_of-notes-in-Ends
 shape_of-notes-in-Ends c = c.next_survivor-found.kept.1.1.1.1.0 ∙ c.loop-state.invariant.same-notes
 
 pub shape_of-bytes-in-Ends : goal.shape_of-bytes-in-Ends
-shape_of-bytes-in-Ends c = (turn c).loop.inv.same_bytes
+shape_of-bytes-in-Ends c = (turn c).loop.invariant.same_bytes
 
 pub shape_of-log-in-Ends : goal.shape_of-log-in-Ends
-shape_of-log-in-Ends c = (turn c).loop.inv.same_log
+shape_of-log-in-Ends c = (turn c).loop.invariant.same_log
 
 pub returns-in-Ends : goal.returns-in-Ends
 returns-in-Ends c = let inv = c.loop-state.invariant in
@@ -63,7 +63,7 @@ append-observed-requires c = let appends : next_of c.next_survivor-found.result 
     append-asks c.loop-state.invariant c.next_survivor-found.result _ _ _ c.next_survivor-found.ensures.outcome_ok appends
 
 pub note_test-requires : goal.note_test-requires
-note_test-requires c = (turn (sweep c)).loop.inv.facts-long
+note_test-requires c = (turn (sweep c)).loop.invariant.facts-long
 
 pub slice_bounds-test_survivors-end : goal.slice_bounds-test_survivors-end
 slice_bounds-test_survivors-end c = let appends : next_of c.next_survivor-found.result c.loop-state.g.room c.loop-state.g.end ≡ Appends c.in-Appends.d = sym c.follow.ensures ∙ c.in-Appends.is in
@@ -78,7 +78,7 @@ slice_bounds-test_survivors-end-in-loop-state c = let appends : next_of c.next_s
     sym (length-take-le _ _ inside)
 
 pub test_survivors-requires : goal.test_survivors-requires
-test_survivors-requires c = block-formed (turn (sweep c)).loop.inv
+test_survivors-requires c = block-formed (turn (sweep c)).loop.invariant
 
 pub longer-g-requires : goal.longer-g-requires
 longer-g-requires c = let appends : next_of c.next_survivor-found.result c.loop-state.g.room c.loop-state.g.end ≡ Appends c.in-Appends.d = sym c.follow.ensures ∙ c.in-Appends.is in

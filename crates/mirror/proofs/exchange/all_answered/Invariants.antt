@@ -4,7 +4,7 @@ use Rattle.mirror.proofs.OtherLaw.{none_below, more-below, all-below}
 use Rattle.mirror.proofs.exchange.all_answered.Given as goal
 
 abbrev pub invariant-loop-c : goal.invariant-loop-c
-invariant-loop-c l = Below (λ d. Answered l.block l.a l.b l.k l.j d) l.c
+invariant-loop-c it = Below (λ d. Answered it.block it.a it.b it.k it.j d) it.c
 
 abbrev pub decreases-loop-c : goal.decreases-loop-c
 decreases-loop-c l = l.end - l.c

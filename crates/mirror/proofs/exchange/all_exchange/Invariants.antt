@@ -4,7 +4,7 @@ use Rattle.mirror.proofs.OtherLaw.{none_below, more-below, all-below}
 use Rattle.mirror.proofs.exchange.all_exchange.Given as goal
 
 abbrev pub invariant-loop-s : goal.invariant-loop-s
-invariant-loop-s l = Below (λ q. RowExchanges l.block l.a l.b q) l.s
+invariant-loop-s it = Below (λ q. RowExchanges it.block it.a it.b q) it.s
 
 abbrev pub decreases-loop-s : goal.decreases-loop-s
 decreases-loop-s l = l.end - l.s

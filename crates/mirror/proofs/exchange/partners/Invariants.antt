@@ -5,7 +5,7 @@ use Rattle.mirror.proofs.ExchangeLaw.{movable}
 use Rattle.mirror.proofs.exchange.partners.Given as goal
 
 abbrev pub invariant-loop-b : goal.invariant-loop-b
-invariant-loop-b l = Each (λ t. Exchangeable l.block l.a t) l.set
+invariant-loop-b it = Each (λ t. Exchangeable it.block it.a t) it.set
 
 abbrev pub decreases-loop-b : goal.decreases-loop-b
 decreases-loop-b l = l.end - l.b

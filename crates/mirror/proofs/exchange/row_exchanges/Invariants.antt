@@ -5,7 +5,7 @@ use Rattle.mirror.proofs.OtherLaw.{other-low, none_below, more-below, all-below}
 use Rattle.mirror.proofs.exchange.row_exchanges.Given as goal
 
 abbrev pub invariant-loop-x : goal.invariant-loop-x
-invariant-loop-x l = Below (λ y. Exchanges l.block l.a l.b (pair l.s y) (pair (other l.a l.b l.s) y)) l.x
+invariant-loop-x it = Below (λ y. Exchanges it.block it.a it.b (pair it.s y) (pair (other it.a it.b it.s) y)) it.x
 
 abbrev pub decreases-loop-x : goal.decreases-loop-x
 decreases-loop-x l = l.end - l.x

@@ -5,7 +5,7 @@ use Rattle.mirror.proofs.OtherLaw.{none_below, more-below, all-below}
 use Rattle.mirror.proofs.reflection.blind_but.Given as goal
 
 abbrev pub invariant-loop-j : goal.invariant-loop-j
-invariant-loop-j l = Below (λ h. (h ≡ l.i → ⊥) → Blind l.a l.b (get_or l.cube h 0)) l.j
+invariant-loop-j it = Below (λ h. (h ≡ it.i → ⊥) → Blind it.a it.b (get_or it.cube h 0)) it.j
 
 abbrev pub decreases-loop-j : goal.decreases-loop-j
 decreases-loop-j l = 32 - l.j

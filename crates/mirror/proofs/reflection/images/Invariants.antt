@@ -5,7 +5,7 @@ use Rattle.mirror.proofs.OtherLaw.{each_none, each_more}
 use Rattle.mirror.proofs.reflection.images.Given as goal
 
 abbrev pub invariant-loop-b : goal.invariant-loop-b
-invariant-loop-b l = Each (λ t. Mirrors l.block l.cube l.i l.a t) l.found
+invariant-loop-b it = Each (λ t. Mirrors it.block it.cube it.i it.a t) it.found
 
 abbrev pub decreases-loop-b : goal.decreases-loop-b
 decreases-loop-b l = 16 - l.b

@@ -6,7 +6,7 @@ use Rattle.mirror.proofs.OtherLaw.{none_below, more-below, all-below}
 use Rattle.mirror.proofs.reflection.silent.Given as goal
 
 abbrev pub invariant-loop-x : goal.invariant-loop-x
-invariant-loop-x l = Below (λ y. Quiet l.block l.cube (pair l.s y)) l.x
+invariant-loop-x it = Below (λ y. Quiet it.block it.cube (pair it.s y)) it.x
 
 abbrev pub decreases-loop-x : goal.decreases-loop-x
 decreases-loop-x l = l.end - l.x

@@ -10,7 +10,7 @@ use borrow.Author.Rules.{rules}
 use Rattle.reading.proofs.filling.fill_faults.Given as goal
 
 abbrev pub invariant-loop-i : goal.invariant-loop-i
-invariant-loop-i l = (l.i ≤ l.faults) × ((l : List Row) → FaultsFrom l.sheet l.place l → l.faults ≡ length l → FaultTables l.initial.count l.initial.first l.initial.mutated l.initial.diverted [] → laws.Filling l.sheet l l.count l.first l.mutated l.diverted l.at l.i)
+invariant-loop-i it = (it.i ≤ it.faults) × ((l : List Row) → FaultsFrom it.sheet it.place l → it.faults ≡ length l → FaultTables it.initial.count it.initial.first it.initial.mutated it.initial.diverted [] → laws.Filling it.sheet l it.count it.first it.mutated it.diverted it.at it.i)
 
 abbrev pub decreases-loop-i : goal.decreases-loop-i
 decreases-loop-i l = l.faults - l.i

@@ -8,7 +8,7 @@ use Rattle.reading.proofs.FillLaw as laws
 use Rattle.reading.proofs.filling.fill_tests.Given as goal
 
 abbrev pub invariant-loop-i : goal.invariant-loop-i
-invariant-loop-i l = (l.i ≤ l.tests) × (l.at ≤ length l.sheet) × ((l : List (List ℕ)) → TestsFrom l.sheet l.place l → l.tests ≡ length l → TestTables l.initial.starts l.initial.lengths l.place l 0 → laws.Testing l.sheet l.place l l.starts l.lengths l.at l.i)
+invariant-loop-i it = (it.i ≤ it.tests) × (it.at ≤ length it.sheet) × ((l : List (List ℕ)) → TestsFrom it.sheet it.place l → it.tests ≡ length l → TestTables it.initial.starts it.initial.lengths it.place l 0 → laws.Testing it.sheet it.place l it.starts it.lengths it.at it.i)
 
 abbrev pub decreases-loop-i : goal.decreases-loop-i
 decreases-loop-i l = l.tests - l.i

@@ -9,7 +9,7 @@ use Rattle.reading.proofs.PlaceLaw as laws
 use Rattle.reading.proofs.part.test_from.Given as goal
 
 abbrev pub invariant-loop-j : goal.invariant-loop-j
-invariant-loop-j l = (l.j ≤ l.i) × (l.at ≤ length l.sheet) × ((l : List (List ℕ)) → drop l.place l.sheet ≡ test_bytes l ++ 6 ∷ [] → l.i < length l → laws.TestPlace l.sheet l.place l l.j l.at)
+invariant-loop-j it = (it.j ≤ it.i) × (it.at ≤ length it.sheet) × ((l : List (List ℕ)) → drop it.place it.sheet ≡ test_bytes l ++ 6 ∷ [] → it.i < length l → laws.TestPlace it.sheet it.place l it.j it.at)
 
 abbrev pub decreases-loop-j : goal.decreases-loop-j
 decreases-loop-j l = l.i - l.j
