@@ -57,8 +57,8 @@ loop-i-preserved c = let a = c.args in
     let l = c.loop-i in
     let e = sym (c.is_open.ensures a.n (omega arith)) in
     elim c.if-is_open.branch [
-    then-is_open w ↦ rw (w.site-is, w.slots-is, w.count-is) (number-open (waking_first a.waking) a.n a.k a.choices.now l.site l.slots l.count l.i l.invariant (omega arith) p.1 (e ∙ w.if-is_open.true))
-    | else-is_open w ↦ rw (w.site-is, w.slots-is, w.count-is) (number-shut (waking_first a.waking) a.n a.k a.choices.now l.site l.slots l.count l.i l.invariant (omega arith) (e ∙ w.if-is_open.false))
+      | then-is_open w ↦ rw (w.site-is, w.slots-is, w.count-is) (number-open (waking_first a.waking) a.n a.k a.choices.now l.site l.slots l.count l.i l.invariant (omega arith) p.1 (e ∙ w.if-is_open.true))
+      | else-is_open w ↦ rw (w.site-is, w.slots-is, w.count-is) (number-shut (waking_first a.waking) a.n a.k a.choices.now l.site l.slots l.count l.i l.invariant (omega arith) (e ∙ w.if-is_open.false))
     ]
 
 pub overflow_cast-result : goal.overflow_cast-result
