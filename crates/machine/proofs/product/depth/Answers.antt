@@ -18,7 +18,7 @@ loop-i-smaller c = rw c.link_of-i.ensures (c.requires.1.1.back c.loop-i.i c.loop
 pub loop-i-preserved : goal.loop-i-preserved
 loop-i-preserved c = let i = c.loop-i.i in
     let inv = c.loop-i.invariant in
-    let less = loop-less c in
+    let less = c.requires.1.1.back c.loop-i.i c.loop-i-test.true (omega (arith, c.loop-i.invariant.0)) in
     let pos = c.loop-i-test.true in
     (omega (arith, inv.0), λ path p. rw c.link_of-i.ensures (omega (arith, inv.1 path p, path-longer p i pos (omega (arith, inv.0)))))
 

@@ -38,7 +38,7 @@ loop-x-preserved c = let valid = c.requires.valid.0 in
       omega (arith, c.loop-x-test.true),
       λ start t. expanding-more (closed valid start _) valid.formed.few-states valid.formed.few-inputs (inv.2 start t)
           (omega (arith, inv.0, c.loop-x-test.true)) (c.lead-led.ensures start)
-          (other _ led.Apart c.in_default.keys2 (λ z. omega arith) (λ z. omega arith)) (rw c.wide.ensures.0 at c.enter-n.ensures),
+          c.in_default.not-Apart (rw c.wide.ensures.0 at c.enter-n.ensures),
     )
 
 pub returns : goal.returns

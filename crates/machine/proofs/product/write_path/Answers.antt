@@ -17,7 +17,8 @@ bounds-buf-d c = let p = c.requires.1 in
     omega (arith, c.depth-d.ensures p.0 p.1, p.2)
 
 pub loop-n-init : goal.loop-n-init
-loop-n-init c = let low = slice-write-buf c in
+loop-n-init c = let p = c.requires.1 in
+    let low : c.depth-d.result < length c.args.buf.now = omega (arith, c.depth-d.ensures p.0 p.1, p.2) in
     (omega arith, omega arith, simp length-set low, refl, λ path p. written_last path _ _ _ c.args.buf.now (c.depth-d.ensures path p) low)
 
 pub bounds-buf-n : goal.bounds-buf-n
