@@ -1,4 +1,4 @@
-use Rattle.lists.specs.Proving.{rules, arith, sym, ◌∙◌}
+use Rattle.lists.specs.Proving.{arith, sym, ◌∙◌}
 use Rattle.cubes.specs.laws.LiteralLaw.{both_left, both_right, both-none, both_some}
 use Rattle.cubes.proofs.literals.both.Goals as goal
 

@@ -1,11 +1,5 @@
 -- `depth`: what is counted and the inputs that lead to entry i are those that lead to entry h.
-use Prim.Native.Nat.{ℕ, ◌+◌, ◌≤◌}
-use mathlib.Core.Path.{◌≡◌}
-use mathlib.Core.List.{List}
 use native.Mathlib.Omega.{arith}
-use lib.ListN.{length}
-use borrow.Author.Rules.{rules}
-use Rattle.machine.specs.Tree.{Paths}
 use Rattle.machine.proofs.PathLaw.{path-longer, path-none}
 use Rattle.machine.proofs.product.depth.Goals as goal
 

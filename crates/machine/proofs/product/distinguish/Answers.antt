@@ -1,11 +1,7 @@
 -- `distinguish`: the entries before h are expanded, and the buffer is as it was.
-use Prim.Native.Nat.{◌*◌, ◌≤◌, ◌-◌}
-use mathlib.Core.Path.{◌≡◌, refl, ap, ◌∙◌}
+use mathlib.Core.Path.{refl, ap, ◌∙◌}
 use native.Mathlib.Omega.{arith}
 use lib.ListN.{length}
-use borrow.Author.Rules.{rules}
-use Rattle.machine.specs.Product.{tables}
-use Rattle.machine.specs.Tree.{Tree}
 use Rattle.machine.proofs.ProductLaw.{closed}
 use Rattle.machine.proofs.TreeLaw.{room-none, tree-root, way-there, way-short, entry-low, told-apart, told_none}
 use Rattle.machine.proofs.product.distinguish.Goals as goal

@@ -1,8 +1,4 @@
 -- `enter`: by what the link leads to; there is room for a pair that was not seen.
-use borrow.Author.Rules.{rules}
-use native.Mathlib.Omega.{arith}
-use Rattle.machine.specs.declared.product.Led.TheVariants as led
-use Rattle.machine.proofs.ProductLaw.{other}
 use Rattle.machine.proofs.TreeLaw.{room-one, entered-none, entered-old, entered-new}
 use Rattle.machine.proofs.product.enter.Goals as goal
 

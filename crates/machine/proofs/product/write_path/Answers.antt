@@ -1,12 +1,9 @@
 -- `write_path`: from the last on, the inputs after those that lead to entry i are written.
-use Prim.Native.Nat.{ℕ, ◌+◌, ◌≤◌, ◌<◌}
-use mathlib.Core.Path.{◌≡◌, refl, ◌∙◌}
-use mathlib.Core.List.{List}
+use Prim.Native.Nat.{◌<◌}
+use mathlib.Core.Path.{refl, ◌∙◌}
 use native.Mathlib.Omega.{arith}
 use lib.ListN.{length, length-set}
-use borrow.Author.Rules.{rules}
-use Rattle.machine.specs.Tree.{Paths}
-use Rattle.machine.proofs.PathLaw.{Written, written_last, written_back, written-more, written_all}
+use Rattle.machine.proofs.PathLaw.{written_last, written_back, written-more, written_all}
 use Rattle.machine.proofs.product.write_path.Goals as goal
 
 pub depth-d-requires : goal.depth-d-requires
@@ -39,6 +36,6 @@ pub shape_of-buf : goal.shape_of-buf
 shape_of-buf c = c.loop-n.invariant.3 ∙ simp length-set
 
 pub returns : goal.returns
-returns c = λ path p. 
+returns c = λ path p.
     let e = c.depth-d.ensures path p in
     (omega (arith, e), written_all _ e (omega arith) (c.loop-n.invariant.4 path p))
