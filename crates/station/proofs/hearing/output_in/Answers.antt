@@ -10,8 +10,6 @@ use Rattle.station.specs.words.Parts.{Walk}
 use Rattle.station.proofs.WalkLaw.{state-low, press-low, walk-on, walk-output, walk_start, walk-out}
 use Rattle.station.proofs.hearing.output_in.Goals as goal
 
-)
-
 reached : (sh : Sheet) (t : List ℕ) (j p s : ℕ) → j ≡ p → after sh.rules 0 (take j t) ≡ some s → after sh.rules 0 (take p t) ≡ some s
 reached sh t j p s e h = rw (← e) h
 
