@@ -1,5 +1,5 @@
 -- The numbers that the code gives to the suspects of a sheet are those of its mutants' slots.
-use Rattle.lists.specs.Proving.{arith, ℕ, zero, suc, ◌+◌, ◌*◌, ◌/◌, ◌%◌, ◌<◌, ◌≤◌, ◌≡◌, refl, sym, ◌∙◌, ap, ap₂, Bool, true, false, cond, ◌&&◌, by_cases, some, none, List, [], ◌∷◌, ◌++◌, length, get_or, replicate, length-replicate, length-append, ltb, ltb-true, lt-ltb, le-ltb}
+use Rattle.lists.specs.Proving.{arith, ℕ, zero, suc, ◌+◌, ◌*◌, ◌/◌, ◌%◌, ◌<◌, ◌≤◌, ◌≡◌, refl, sym, ◌∙◌, ap, ap₂, subst, Bool, true, false, cond, ◌&&◌, by_cases, some, none, List, [], ◌∷◌, ◌++◌, length, get_or, replicate, length-replicate, length-append, ltb, ltb-true, lt-ltb, le-ltb}
 use native.Mathlib.Decide.{dec_le}
 use native.Mathlib.Nat.{add_assoc}
 use mathlib.Core.Path.{fun_ext}
@@ -42,7 +42,8 @@ joined-cut g n (suc m) l =
     (λ le. joined_snoc (λ i. cond (ltb i n) (g i) []) m ∙ rw (le-ltb m n le) (append-nil (joined (λ i. cond (ltb i n) (g i) []) (up_to m)) ∙ joined-cut g n m le))
     (λ nl.
     let e : n ≡ suc m = omega arith in
-    rw e (joined_same (λ i. cond (ltb i (suc m)) (g i) []) g (suc m) (λ i li. rw (lt-ltb i (suc m) li) refl)))
+    subst (λ (x : ℕ). joined (λ i. cond (ltb i x) (g i) []) (up_to (suc m)) ≡ joined g (up_to x)) (sym e)
+    (joined_same (λ i. cond (ltb i (suc m)) (g i) []) g (suc m) (λ i li. rw (lt-ltb i (suc m) li) refl)))
 
 joined-nothing : {B : Type 0} (n : ℕ) → joined {A = ℕ} {B = B} (λ i. []) (up_to n) ≡ []
 unfolding joined up_to

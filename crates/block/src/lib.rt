@@ -3,6 +3,7 @@
 // Called by the crates of mutants above, which show what its functions require.
 
 #![tactic(auto)]
+
 mod layout;
 mod logged;
 mod packing;

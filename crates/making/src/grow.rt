@@ -127,7 +127,7 @@ pub(crate) fn grow(
 ) -> Growth
     requires facts_len { ((result : Result Grown) × (sh : Sheet) × GrowingIn result sh block.now bytes.old log.old from) × (length facts.old ≡ 1088) }
     requires ready { (34 ≤ length store.old → Ready block.now facts.old) × StoreOk Nonconforming block.now (take from.observed log.old) store.old }
-    ensures* fact { λ r. ⌜ ((result : Result Grown) (sh : Sheet) → GrowingIn result sh block.now bytes.old log.old from → Reached r.state result block.now bytes.new log.new r) ⌝ }
+    ensures fact { (r : Result Grown) (sh : Sheet) → GrowingIn r sh block.now bytes.old log.old from → Reached result.state r block.now bytes.new log.new result }
     ensures store_len { result.state ≡ Unknown → length store.old ≡ 0 }
 {
     let mut p = first_choices();

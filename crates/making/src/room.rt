@@ -37,7 +37,7 @@ fn no_bytes() -> [u8; 16384]
 // With a store of refutations, where the block has facts for them; otherwise with the least one, so that no sweep gives up.
 fn grow_whole(block: &[u8; BLOCK], bytes: &mut [u8], log: &mut [u8], from: Growth) -> Growth
     requires { (result : Result Grown) × (sh : Sheet) × GrowingIn result sh block.now bytes.old log.old from }
-    ensures* { λ r. ⌜ ((result : Result Grown) (sh : Sheet) → GrowingIn result sh block.now bytes.old log.old from → Finished r.state result bytes.new r) ⌝ }
+    ensures { (r : Result Grown) (sh : Sheet) → GrowingIn r sh block.now bytes.old log.old from → Finished result.state r bytes.new result }
 {
     let mut facts = no_facts();
     let mut notes = fresh_notes();
@@ -52,7 +52,7 @@ fn grow_whole(block: &[u8; BLOCK], bytes: &mut [u8], log: &mut [u8], from: Growt
 // The made sheet to the buffer's front; nothing where it does not fit.
 fn finish(g: Growth, made: &[u8], buffer: &mut [u8]) -> Made
     requires { ((result : Result Grown) × Finished g.state result made.now g) × (16384 ≤ length buffer.old) }
-    ensures* { λ r. ⌜ ((result : Result Grown) → Finished g.state result made.now g → Makes result r buffer.old buffer.new) ⌝ }
+    ensures { (r : Result Grown) → Finished g.state r made.now g → Makes r result buffer.old buffer.new }
 {
     let state = g.state;
     match state {

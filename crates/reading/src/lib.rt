@@ -3,6 +3,7 @@
 // Called by users, and by `block`, `writing`, `report` and `ranthelo`.
 
 #![tactic(auto)]
+
 ghost use Rattle.std.specs.Prelude.{◌≡◌};
 ghost use Rattle.sheet.specs.Reading as reading;
 ghost use Rattle.sheet.specs.Part.{parting, part_of, LiesIn};

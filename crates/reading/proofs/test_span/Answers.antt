@@ -8,10 +8,9 @@ use Rattle.reading.proofs.test_span.Goals as goal
 
 pub returns-in_default : goal.returns-in_default
 returns-in_default c = let a = c.args in
-    let g = c.in_default.given in
-    let z = refusal-told _ _ _ _ c.refusal_of-why.ensures g.1 in
+    let z = refusal-told _ _ _ _ c.refusal_of-why.ensures c.in_default.is in
     ap₂ Refused z.0 z.1
-    ∙ laws.span-refused a.sheet.now a.i c.read-reading.result _ _ c.read-reading.ensures g.1
+    ∙ laws.span-refused a.sheet.now a.i c.read-reading.result _ _ c.read-reading.ensures c.in_default.is
 
 pub layout_of-layout-requires : goal.layout_of-layout-requires
 layout_of-layout-requires c = let s = c.args.sheet.now in

@@ -3,7 +3,7 @@ use Rattle.block.specs.laws.LoggedLaw.{observed-short, observed-seen}
 use Rattle.block.proofs.logged.seen_at.Goals as goal
 
 pub returns-then-left-lt2 : goal.returns-then-left-lt2
-returns-then-left-lt2 c = 
+returns-then-left-lt2 c =
     let log = c.args.log.now in
     observed-short c.requires.0 c.requires.1 {x = 0} {o = 0} (sym (List·getD-eq-default log 0 (omega (arith, c.if-left-lt2.true)))) (sym (List·getD-eq-default log 0 (omega (arith, c.if-left-lt2.true)))) refl
 

@@ -3,6 +3,7 @@ use Rattle.lists.specs.Proving.{arith, ◌-◌, ◌*◌, ◌<◌, sym, ◌∙◌
 use Rattle.block.specs.Sites.{waking_first}
 use Rattle.block.proofs.SitesLaw.{Numbering, number-start, number-open, number-shut, number-end, few-before, room}
 use Rattle.block.proofs.sites.number.Goals as goal
+use Rattle.block.proofs.sites.number.Goals.{then-is_open, else-is_open}
 
 pub waking_slot-first-requires : goal.waking_slot-first-requires
 waking_slot-first-requires c = tt
@@ -55,10 +56,10 @@ loop-i-preserved c = let a = c.args in
     let p = c.requires in
     let l = c.loop-i in
     let e = sym (c.is_open.ensures a.n (omega arith)) in
-    ⊎_elim
-    (λ w. rw (w.2, w.3, w.5) (number-open (waking_first a.waking) a.n a.k a.choices.now l.site l.slots l.count l.i l.invariant (omega arith) p.1 (e ∙ w.0.taken)))
-    (λ w. rw (w.1, w.2, w.4) (number-shut (waking_first a.waking) a.n a.k a.choices.now l.site l.slots l.count l.i l.invariant (omega arith) (e ∙ w.0.left)))
-    c.if-is_open.came
+    elim c.if-is_open.branch [
+      | then-is_open w ↦ rw (w.site-is, w.slots-is, w.count-is) (number-open (waking_first a.waking) a.n a.k a.choices.now l.site l.slots l.count l.i l.invariant (omega arith) p.1 (e ∙ w.if-is_open.true))
+      | else-is_open w ↦ rw (w.site-is, w.slots-is, w.count-is) (number-shut (waking_first a.waking) a.n a.k a.choices.now l.site l.slots l.count l.i l.invariant (omega arith) (e ∙ w.if-is_open.false))
+    ]
 
 pub overflow_cast-result : goal.overflow_cast-result
 overflow_cast-result c = let a = c.args in

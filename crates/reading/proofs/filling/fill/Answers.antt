@@ -19,8 +19,8 @@ fill_faults-requires c = let laid : (sh : Sheet) → Fillable c.args.sheet.now c
     ((sh.faults, (laid sh h).faults, faults-are h.told), faults-none c.requires.cleared)
 
 pub unruled_choices-unruled-requires : goal.unruled_choices-unruled-requires
-unruled_choices-unruled-requires c = let start = entry c in
-    rw c.size_of.ensures (laws.size_fits start.args.sheet.now start.args.summary _ _ start.pre.0.0 start.pre.0.1)
+unruled_choices-unruled-requires c = let (sh, h) = c.requires.fillable in
+    rw c.size_of.ensures (laws.size_fits c.args.sheet.now c.args.summary _ _ sh h)
 
 pub count_choices-requires : goal.count_choices-requires
 count_choices-requires c = let laid : (sh : Sheet) → Fillable c.args.sheet.now c.args.summary c.args.output.now c.args.target.now sh → LaidOut c.args.sheet.now sh c.layout_of-layout.result = λ sh h. c.layout_of-layout.ensures sh h.told in
@@ -31,34 +31,34 @@ count_choices-requires c = let laid : (sh : Sheet) → Fillable c.args.sheet.now
     (sh, laws.countable c.args.sheet.now c.args.summary _ _ sh h _ l _ u _ _ _ _ f)
 
 pub wakings_from-wakings-requires : goal.wakings_from-wakings-requires
-wakings_from-wakings-requires c = let at-layout-of = at-layout c in
-    let (sh, h) = at-layout-of.§entry.pre.0 in
-    let l = laid at-layout-of sh h in
+wakings_from-wakings-requires c = let laid : (sh : Sheet) → Fillable c.args.sheet.now c.args.summary c.args.output.now c.args.target.now sh → LaidOut c.args.sheet.now sh c.layout_of-layout.result = λ sh h. c.layout_of-layout.ensures sh h.told in
+    let (sh, h) = c.requires.fillable in
+    let l = laid sh h in
     (sh.starts, l.starts, l.waking)
 
 pub overflow_add-waking : goal.overflow_add-waking
-overflow_add-waking c = let few : (at-layout c).layout_of.result.waking ≤ 15 = let at-layout-of = at-layout c in
-    let (sh, h) = at-layout-of.§entry.pre.0 in
-    let l = laid at-layout-of sh h in
-    omega (arith, l.starts.few, l.waking) in
-    omega (arith, few)
+overflow_add-waking c = let laid : (sh : Sheet) → Fillable c.args.sheet.now c.args.summary c.args.output.now c.args.target.now sh → LaidOut c.args.sheet.now sh c.layout_of-layout.result = λ sh h. c.layout_of-layout.ensures sh h.told in
+    let (sh, h) = c.requires.fillable in
+    let l = laid sh h in
+    omega (arith, l.starts.few, l.waking)
 
 pub overflow_cast-waking : goal.overflow_cast-waking
-overflow_cast-waking c = let few : (at-layout c).layout_of.result.waking ≤ 15 = let at-layout-of = at-layout c in
-    let (sh, h) = at-layout-of.§entry.pre.0 in
-    let l = laid at-layout-of sh h in
-    omega (arith, l.starts.few, l.waking) in
-    omega (arith, few)
+overflow_cast-waking c = let laid : (sh : Sheet) → Fillable c.args.sheet.now c.args.summary c.args.output.now c.args.target.now sh → LaidOut c.args.sheet.now sh c.layout_of-layout.result = λ sh h. c.layout_of-layout.ensures sh h.told in
+    let (sh, h) = c.requires.fillable in
+    let l = laid sh h in
+    omega (arith, l.starts.few, l.waking)
 
 pub fill_tests-requires : goal.fill_tests-requires
-fill_tests-requires c = let at-layout-of = at-layout c in
-    let start = at-layout-of.§entry in
-    let (sh, h) = start.pre.0 in
-    (sh.tests, (laid at-layout-of sh h).tests, tests-are h.told, tests-none start.pre.1 _ _)
+fill_tests-requires c = let laid : (sh : Sheet) → Fillable c.args.sheet.now c.args.summary c.args.output.now c.args.target.now sh → LaidOut c.args.sheet.now sh c.layout_of-layout.result = λ sh h. c.layout_of-layout.ensures sh h.told in
+    let (sh, h) = c.requires.fillable in
+    let l = laid sh h in
+    (sh.tests, l.tests, tests-are h.told, tests-none c.requires.cleared _ _)
 
 pub returns : goal.returns
 returns c = let laid : (sh : Sheet) → Fillable c.args.sheet.now c.args.summary c.args.output.now c.args.target.now sh → LaidOut c.args.sheet.now sh c.layout_of-layout.result = λ sh h. c.layout_of-layout.ensures sh h.told in
-    let a = c.args in record { reading_value = refl; lengths_after = λ sh h.
+    let a = c.args in record {
+      reading_value = refl;
+      lengths_after = λ sh h.
           let s = a.sheet.now in
           let l = laid sh h in
           let f = c.fill_faults.ensures sh.faults l.faults (faults-are h.told) in
@@ -66,4 +66,5 @@ returns c = let laid : (sh : Sheet) → Fillable c.args.sheet.now c.args.summary
           let n = c.count_choices.ensures sh (laws.countable s a.summary _ _ sh h _ l _ u _ _ _ _ f) in
           let w = c.wakings_from-wakings.ensures sh.starts l.starts l.waking in
           let t = c.fill_tests.ensures sh.tests l.tests (tests-are h.told) (tests-none c.requires.cleared _ _) in
-          laws.filled s a.summary _ _ sh h _ l _ _ _ _ _ _ _ _ f n w t }
+          laws.filled s a.summary _ _ sh h _ l _ _ _ _ _ _ _ _ f n w t;
+    }

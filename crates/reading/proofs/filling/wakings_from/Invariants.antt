@@ -9,7 +9,7 @@ use borrow.Author.Rules.{rules}
 use Rattle.reading.proofs.filling.wakings_from.Given as goal
 
 abbrev pub invariant-loop-i : goal.invariant-loop-i
-invariant-loop-i it =     (it.i ≤ it.starts) × ((l : List ℕ) → StartsFrom it.sheet it.place l → it.starts ≡ length l → laws.Waking it.sheet l it.wakings it.at it.i)
+invariant-loop-i it = (it.i ≤ it.starts) × ((l : List ℕ) → StartsFrom it.sheet it.place l → it.starts ≡ length l → laws.Waking it.sheet l it.wakings it.at it.i)
 
 abbrev pub decreases-loop-i : goal.decreases-loop-i
 decreases-loop-i l = l.starts - l.i

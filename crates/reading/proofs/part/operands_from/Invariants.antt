@@ -10,7 +10,7 @@ use borrow.Author.Rules.{rules}
 use Rattle.reading.proofs.part.operands_from.Given as goal
 
 abbrev pub invariant-loop-at : goal.invariant-loop-at
-invariant-loop-at l =     (l.at ≡ l.place + 2 * l.n) × (l.at ≤ length l.sheet)
+invariant-loop-at l = (l.at ≡ l.place + 2 * l.n) × (l.at ≤ length l.sheet)
     × ((xs rest : List ℕ) → drop l.place l.sheet ≡ operand_bytes l.byte xs ++ rest → Else l.byte rest → laws.Left l.sheet l.byte xs rest l.n l.at)
 
 abbrev pub decreases-loop-at : goal.decreases-loop-at
