@@ -3,6 +3,7 @@
 // Called by the crates above as far as `mutation`, which show what its functions require.
 
 #![tactic(auto)]
+
 pub mod conform;
 pub mod failing;
 pub mod gather;

@@ -44,6 +44,7 @@ module _ (seen : List ℕ) (v : ℕ) (fresh : get_or seen v 0 ≡ 0) (long : v <
 
   pub unseen-less : (n : ℕ) → v < n → unseen seen n ≡ suc (unseen (set seen v 1) n)
   unfolding count
+  unseen-less zero l = elim l [ ]
   unseen-less (suc n) l =
       by_cases (ℕ_discrete n v)
       (λ e. rw (e, fresh, get_or-set_same seen v 1 0 long, unseen_same v (omega arith)) refl)

@@ -3,6 +3,7 @@
 // Called by `mutation`, `search` and `clearing`, which show what its functions require.
 
 #![tactic(auto)]
+
 mod fitting;
 mod laying;
 mod product;

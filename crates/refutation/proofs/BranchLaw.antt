@@ -12,6 +12,9 @@ use Rattle.cubes.specs.laws.LiteralLaw.{any-means}
 use Rattle.cubes.specs.laws.JoinLaw.{DoneTo, join-none, join_more, join-all, done-skip, done_all}
 use Rattle.mirror.specs.Reflect.{ReflectedOk}
 use Rattle.mirror.specs.laws.MirrorLaw.{under-meets}
+use Rattle.store.specs.Store.{ToldOk}
+use Rattle.store.specs.declared.entries.Told.{Told}
+use Rattle.nodes.specs.Refuting.{Ready}
 use Rattle.refutation.specs.Branching.{SplitOk, TurnOk, JoinedOk}
 use Rattle.refutation.specs.declared.branch.Split.{Split}
 use Rattle.refutation.specs.declared.branch.Turn.{Turn}
@@ -26,6 +29,13 @@ joined {m} {cube} {all} {done} {mid} {more} {wider} {k} {s} i l wf lk ls ei el n
   keeps = λ v h. re.keeps v (ad.keeps v h);
   here = re.keeps (record { output = s.output; target = s.target }) (ad.here (record { output = s.output; target = s.target }) lo nl ms);
 }
+
+-- what holds throughout: the tables, what was seen first, the split
+pub record Splitting (goal : Goal) (block facts log : List ℕ) (left : ℕ) (seen : Told) (split : Split) : Type 0 where
+  pub ready : Ready block facts
+  pub told : ToldOk goal block log seen
+  pub ok : SplitOk block left split
+  pub few : split.n ≤ 256
 
 -- ---- the turns: n in each of two rounds; in the second each choice before is done
 pub record Trying (goal : Goal) (m log all done : List ℕ) (k n r : ℕ) : Type 0 where

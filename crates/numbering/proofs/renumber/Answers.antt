@@ -23,11 +23,11 @@ parts_of-parts-requires c = counted (opened c.args.sheet.now c.load-loaded.ensur
 pub rewrite-requires : goal.rewrite-requires
 rewrite-requires c = let o = opened c.args.sheet.now c.load-loaded.ensures.reading c.in-Accepted.is c.load-loaded.ensures.tables in
     let n = c.numbers_of-number in
-    (o.sheet, parted o n.result n.ensures.0 (n.ensures.1 o.sheet (searched o) (states-are o)) c.parts_of-parts.ensures (omega (arith, c.if-buffer-sheet.false)))
+    (o.sheet, parted o n.result n.ensures.result_len (n.ensures.t_value o.sheet (searched o) (states-are o)) c.parts_of-parts.ensures (omega (arith, c.if-buffer-sheet.false)))
 
 pub returns : goal.returns
 returns c = let o = opened c.args.sheet.now c.load-loaded.ensures.reading c.in-Accepted.is c.load-loaded.ensures.tables in
     let n = c.numbers_of-number in
-    let is = n.ensures.1 o.sheet (searched o) (states-are o) in
-    let x = told-numbered o c.args.buffer.now n.result n.ensures.0 is (omega (arith, c.if-buffer-sheet.false))
-    (c.rewrite.ensures o.sheet (parted o n.result n.ensures.0 is c.parts_of-parts.ensures (omega (arith, c.if-buffer-sheet.false)))) in record { answer = x.0; bytes = x.1; told = x.2 }
+    let is = n.ensures.t_value o.sheet (searched o) (states-are o) in
+    let x = told-numbered o c.args.buffer.now n.result n.ensures.result_len is (omega (arith, c.if-buffer-sheet.false))
+    (c.rewrite.ensures o.sheet (parted o n.result n.ensures.result_len is c.parts_of-parts.ensures (omega (arith, c.if-buffer-sheet.false)))) in record { answer = x.0; bytes = x.1; told = x.2 }

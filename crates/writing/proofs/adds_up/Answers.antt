@@ -18,5 +18,5 @@ loop-i-preserved c = omega (arith, c.loop-i.invariant, c.if-left-n.false, total-
 
 pub returns : goal.returns
 returns c = let a = c.args in
-    nothing_left (total a.lengths.now) c.loop-i.false a.presses
+    nothing_left (total a.lengths.now) c.loop-i.left a.presses
     (omega (arith, c.loop-i.invariant, total-none a.lengths.now c.loop-i.i c.loop-i-test.false))

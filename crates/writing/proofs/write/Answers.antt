@@ -2,40 +2,37 @@
 use borrow.Author.Rules.{rules}
 use native.Mathlib.Omega.{arith}
 use mathlib.Core.Path.{◌≡◌, sym, ◌∙◌}
-use lib.Seq.{length-take-le}
 use Rattle.writing.specs.Drawing.{Drawing, drawing, is_cut}
 use Rattle.writing.specs.laws.DrawingLaw.{whole}
 use Rattle.writing.proofs.WriteLaw.{Sized, write-cut, write-long, spell-room, spelled-inside, write-spelled}
 use Rattle.writing.proofs.write.Goals as goal
 
-abbrev tables : tie.After-is-cut → Drawing
-tables c =
-    let a = (entry c).args in
-    drawing a.size a.quiet a.rules.now a.faults.now a.starts.now a.lengths.now a.presses.now
-
 pub returns-then-is_cut : goal.returns-then-is_cut
-returns-then-is_cut c = let found-cut : c.is_cut.result ≡ is_cut (tables c) = let a = c.args in c.is_cut.ensures a.size a.quiet a.starts.now in
-    record { answer = (write-cut (tables c) c.args.buffer.now (sym found-cut ∙ c.if-is_cut.true)).0; bytes = (write-cut (tables c) c.args.buffer.now (sym found-cut ∙ c.if-is_cut.true)).1.0; told = (write-cut (tables c) c.args.buffer.now (sym found-cut ∙ c.if-is_cut.true)).1.1 }
+returns-then-is_cut c = let a = c.args in let d = drawing a.size a.quiet a.rules.now a.faults.now a.starts.now a.lengths.now a.presses.now in
+    let found-cut : c.is_cut.result ≡ is_cut d = c.is_cut.ensures a.size a.quiet a.starts.now in
+    record { answer = (write-cut d c.args.buffer.now (sym found-cut ∙ c.if-is_cut.true)).0; bytes = (write-cut d c.args.buffer.now (sym found-cut ∙ c.if-is_cut.true)).1.0; told = (write-cut d c.args.buffer.now (sym found-cut ∙ c.if-is_cut.true)).1.1 }
 
 pub returns-then-is_long : goal.returns-then-is_long
-returns-then-is_long c = let found-cut : c.is_cut.result ≡ is_cut (tables c) = let a = c.args in c.is_cut.ensures a.size a.quiet a.starts.now in
-    let sized : Sized (tables c) c.is_long.result = record { uncut = sym found-cut ∙ c.if-is_cut.false; is = c.is_long.ensures } in
+returns-then-is_long c = let a = c.args in let d = drawing a.size a.quiet a.rules.now a.faults.now a.starts.now a.lengths.now a.presses.now in
+    let found-cut : c.is_cut.result ≡ is_cut d = c.is_cut.ensures a.size a.quiet a.starts.now in
+    let sized : Sized d c.is_long.result = record { uncut = sym found-cut ∙ c.if-is_cut.false; is = c.is_long.ensures } in
     record { answer = (write-long sized c.args.buffer.now c.if-is_long.true).0; bytes = (write-long sized c.args.buffer.now c.if-is_long.true).1.0; told = (write-long sized c.args.buffer.now c.if-is_long.true).1.1 }
 
 pub spell-end-requires : goal.spell-end-requires
-spell-end-requires c = let found-cut : c.is_cut.result ≡ is_cut (tables c) = let a = c.args in c.is_cut.ensures a.size a.quiet a.starts.now in
-    let sized : Sized (tables c) c.is_long.result = record { uncut = sym found-cut ∙ c.if-is_cut.false; is = c.is_long.ensures } in
+spell-end-requires c = let a = c.args in let d = drawing a.size a.quiet a.rules.now a.faults.now a.starts.now a.lengths.now a.presses.now in
+    let found-cut : c.is_cut.result ≡ is_cut d = c.is_cut.ensures a.size a.quiet a.starts.now in
+    let sized : Sized d c.is_long.result = record { uncut = sym found-cut ∙ c.if-is_cut.false; is = c.is_long.ensures } in
     let z = sized in record { lengths_in_bounds = omega (arith, (whole _ z.uncut).tests); inputs_in_bounds = spell-room z c.if-is_long.false }
 
 pub slice_bounds-sheet-end : goal.slice_bounds-sheet-end
-slice_bounds-sheet-end c = let found-cut : c.is_cut.result ≡ is_cut (tables c) = let a = c.args in c.is_cut.ensures a.size a.quiet a.starts.now in
-    let sized : Sized (tables c) c.is_long.result = record { uncut = sym found-cut ∙ c.if-is_cut.false; is = c.is_long.ensures } in
+slice_bounds-sheet-end c = let a = c.args in let d = drawing a.size a.quiet a.rules.now a.faults.now a.starts.now a.lengths.now a.presses.now in
+    let found-cut : c.is_cut.result ≡ is_cut d = c.is_cut.ensures a.size a.quiet a.starts.now in
+    let sized : Sized d c.is_long.result = record { uncut = sym found-cut ∙ c.if-is_cut.false; is = c.is_long.ensures } in
     spelled-inside sized c.if-is_long.false c.spell-end.ensures
 
-pub slice_bounds-put-end : goal.slice_bounds-put-end
-slice_bounds-put-end c = sym (length-take-le _ _ (array-share-prefix-sheet c))
-
 pub returns : goal.returns
-returns c = let found-cut : c.is_cut.result ≡ is_cut (tables c) = let a = c.args in c.is_cut.ensures a.size a.quiet a.starts.now in
-    let sized : Sized (tables c) c.is_long.result = record { uncut = sym found-cut ∙ c.if-is_cut.false; is = c.is_long.ensures } in
-    record { answer = (write-spelled sized c.put.result c.args.buffer.now _ _ c.spell-end.ensures.front c.put.ensures).0; bytes = (write-spelled sized c.put.result c.args.buffer.now _ _ c.spell-end.ensures.front c.put.ensures).1.0; told = (write-spelled sized c.put.result c.args.buffer.now _ _ c.spell-end.ensures.front c.put.ensures).1.1 }
+returns c = let a = c.args in let d = drawing a.size a.quiet a.rules.now a.faults.now a.starts.now a.lengths.now a.presses.now in
+    let found-cut : c.is_cut.result ≡ is_cut d = c.is_cut.ensures a.size a.quiet a.starts.now in
+    let sized : Sized d c.is_long.result = record { uncut = sym found-cut ∙ c.if-is_cut.false; is = c.is_long.ensures } in
+    let w = write-spelled sized c.put.result c.args.buffer.now _ _ c.spell-end.ensures.front (c.put.ensures.value, c.put.ensures.buffer_after) in
+    record { answer = w.0; bytes = w.1.0; told = w.1.1 }

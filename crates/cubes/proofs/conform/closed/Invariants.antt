@@ -1,6 +1,6 @@
-use Rattle.lists.specs.Proving.{rules, arith, ◌-◌, not-false, never}
+use Rattle.lists.specs.Proving.{◌-◌}
 use Rattle.cubes.specs.Cube.{In}
-use Rattle.cubes.specs.laws.ConformLaw.{ClosedTo, closed_none, closed-more, all-conform}
+use Rattle.cubes.specs.laws.ConformLaw.{ClosedTo}
 use Rattle.cubes.proofs.conform.closed.Given as goal
 
 abbrev pub invariant-loop-a : goal.invariant-loop-a

@@ -1,4 +1,4 @@
-use Rattle.lists.specs.Proving.{rules, not-false, never}
+use Rattle.lists.specs.Proving.{never}
 use Rattle.cubes.specs.laws.LiteralLaw.{freed-all}
 use Rattle.cubes.proofs.conform.freed.Goals as goal
 

@@ -1,6 +1,5 @@
-use Rattle.lists.specs.Proving.{rules, ◌-◌, not-false, never}
-use Rattle.cubes.specs.Cube.{In}
-use Rattle.cubes.specs.laws.ConformLaw.{LineTo, line-none, line-more, line-all}
+use Rattle.lists.specs.Proving.{never}
+use Rattle.cubes.specs.laws.ConformLaw.{line-none, line-more, line-all}
 use Rattle.cubes.proofs.conform.line_closed.Goals as goal
 
 pub loop-b-init : goal.loop-b-init

@@ -1,6 +1,6 @@
-use Rattle.lists.specs.Proving.{rules, ◌-◌, not-false, never}
+use Rattle.lists.specs.Proving.{◌-◌}
 use Rattle.cubes.specs.Cube.{In}
-use Rattle.cubes.specs.laws.ConformLaw.{LineTo, line-none, line-more, line-all}
+use Rattle.cubes.specs.laws.ConformLaw.{LineTo}
 use Rattle.cubes.proofs.conform.line_closed.Given as goal
 
 abbrev pub invariant-loop-b : goal.invariant-loop-b

@@ -1,4 +1,4 @@
-use Rattle.lists.specs.Proving.{rules, never}
+use Rattle.lists.specs.Proving.{never}
 use Rattle.cubes.specs.laws.ConformLaw.{lone-low, lone-ok}
 use Rattle.cubes.proofs.conform.lone.Goals as goal
 

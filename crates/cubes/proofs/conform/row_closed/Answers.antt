@@ -1,6 +1,5 @@
-use Rattle.lists.specs.Proving.{rules, arith, ◌-◌, not-true, not-false, never}
-use Rattle.cubes.specs.Cube.{In}
-use Rattle.cubes.specs.laws.ConformLaw.{RowTo, row-none, row_more, row-all, row-not}
+use Rattle.lists.specs.Proving.{arith, never}
+use Rattle.cubes.specs.laws.ConformLaw.{row-none, row_more, row-all, row-not}
 use Rattle.cubes.proofs.conform.row_closed.Goals as goal
 
 pub holds-requires : goal.holds-requires
@@ -13,7 +12,7 @@ pub loop-x-init : goal.loop-x-init
 loop-x-init c = row-none
 
 pub cell_closed-requires : goal.cell_closed-requires
-cell_closed-requires c = 
+cell_closed-requires c =
     (c.requires.0, c.requires.1, c.requires.2, rw c.inputs-end.ensures at c.loop-x-test.true)
 
 pub returns-then-not-cell_closed : goal.returns-then-not-cell_closed

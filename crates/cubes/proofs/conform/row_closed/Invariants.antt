@@ -1,6 +1,6 @@
-use Rattle.lists.specs.Proving.{rules, arith, ◌-◌, not-true, not-false, never}
+use Rattle.lists.specs.Proving.{◌-◌}
 use Rattle.cubes.specs.Cube.{In}
-use Rattle.cubes.specs.laws.ConformLaw.{RowTo, row-none, row_more, row-all, row-not}
+use Rattle.cubes.specs.laws.ConformLaw.{RowTo}
 use Rattle.cubes.proofs.conform.row_closed.Given as goal
 
 abbrev pub invariant-loop-x : goal.invariant-loop-x

@@ -1,5 +1,5 @@
-use Rattle.lists.specs.Proving.{rules, arith, ◌-◌, length, never}
-use Rattle.cubes.specs.laws.WalkLaw.{Walking, walk_start, walk_more, walk_end}
+use Rattle.lists.specs.Proving.{◌-◌, length}
+use Rattle.cubes.specs.laws.WalkLaw.{Walking}
 use Rattle.cubes.proofs.failing.fails.Given as goal
 
 abbrev pub invariant-loop-at : goal.invariant-loop-at

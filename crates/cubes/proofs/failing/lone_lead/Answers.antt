@@ -1,4 +1,3 @@
-use Rattle.lists.specs.Proving.{rules}
 use Rattle.cubes.specs.laws.ConformLaw.{lone-low}
 use Rattle.cubes.specs.laws.WalkLaw.{lone-not, lone-one}
 use Rattle.cubes.proofs.failing.lone_lead.Goals as goal

@@ -1,5 +1,4 @@
-use Rattle.lists.specs.Proving.{rules, ◌-◌}
-use Rattle.cubes.specs.laws.WalkLaw.{OnTo, on_none, on-more, on-all}
+use Rattle.cubes.specs.laws.WalkLaw.{on_none, on-more, on-all}
 use Rattle.cubes.proofs.failing.onward.Goals as goal
 
 pub loop-q-init : goal.loop-q-init

@@ -1,5 +1,5 @@
-use Rattle.lists.specs.Proving.{rules, ◌-◌}
-use Rattle.cubes.specs.laws.WalkLaw.{OnTo, on_none, on-more, on-all}
+use Rattle.lists.specs.Proving.{◌-◌}
+use Rattle.cubes.specs.laws.WalkLaw.{OnTo}
 use Rattle.cubes.proofs.failing.onward.Given as goal
 
 abbrev pub invariant-loop-q : goal.invariant-loop-q

@@ -1,5 +1,4 @@
-use Rattle.lists.specs.Proving.{rules, ◌-◌}
-use Rattle.cubes.specs.laws.JoinLaw.{MeetsTo, meets-none, meets-more, meets-all}
+use Rattle.cubes.specs.laws.JoinLaw.{meets-none, meets-more, meets-all}
 use Rattle.cubes.proofs.gather.meet_in.Goals as goal
 
 pub loop-j-init : goal.loop-j-init

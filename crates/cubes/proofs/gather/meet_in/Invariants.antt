@@ -1,5 +1,5 @@
-use Rattle.lists.specs.Proving.{rules, ◌-◌}
-use Rattle.cubes.specs.laws.JoinLaw.{MeetsTo, meets-none, meets-more, meets-all}
+use Rattle.lists.specs.Proving.{◌-◌}
+use Rattle.cubes.specs.laws.JoinLaw.{MeetsTo}
 use Rattle.cubes.proofs.gather.meet_in.Given as goal
 
 abbrev pub invariant-loop-j : goal.invariant-loop-j

@@ -1,4 +1,3 @@
-use Rattle.lists.specs.Proving.{rules}
 use Rattle.cubes.specs.laws.JoinLaw.{note-none, note-some}
 use Rattle.cubes.proofs.gather.note.Goals as goal
 

@@ -1,4 +1,4 @@
-use Rattle.lists.specs.Proving.{rules, arith, sym, ◌∙◌}
+use Rattle.lists.specs.Proving.{arith, sym, ◌∙◌}
 use Rattle.cubes.specs.laws.LiteralLaw.{both_left, both_right, both-none, both_some}
 use Rattle.cubes.proofs.literals.both.Goals as goal
 
@@ -12,4 +12,4 @@ pub returns-then-lit_out : goal.returns-then-lit_out
 returns-then-lit_out c = both-none
 
 pub returns : goal.returns
-returns c = both_some c.if-a-eq4294967295.false (omega (arith, c.fits.a)) (sym c.lit_out.ensures ∙ c.if-lit_out.false ∙ c.lit_out-2.ensures)
+returns c = both_some c.if-a-eq4294967295.false (omega (arith, c.ranges.a)) (sym c.lit_out.ensures ∙ c.if-lit_out.false ∙ c.lit_out-2.ensures)

@@ -1,4 +1,4 @@
-use Rattle.lists.specs.Proving.{rules, sym, ◌∙◌, never}
+use Rattle.lists.specs.Proving.{sym, ◌∙◌, never}
 use Rattle.cubes.specs.laws.LiteralLaw.{meaning, any-means}
 use Rattle.cubes.proofs.literals.means.Goals as goal
 

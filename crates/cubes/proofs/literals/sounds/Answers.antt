@@ -1,4 +1,4 @@
-use Rattle.lists.specs.Proving.{rules, ◌+◌, sym, ◌∙◌, get_or, eqb-true}
+use Rattle.lists.specs.Proving.{◌+◌, sym, ◌∙◌, get_or, eqb-true}
 use Rattle.cubes.specs.laws.LiteralLaw.{sounds-any, sounds-some}
 use Rattle.cubes.proofs.literals.sounds.Goals as goal
 

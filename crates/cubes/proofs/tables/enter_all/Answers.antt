@@ -1,5 +1,4 @@
-use Rattle.lists.specs.Proving.{rules, ◌-◌, not-false}
-use Rattle.cubes.specs.laws.FreeLaw.{AllTo, all_none, all_more, all-not, all-all}
+use Rattle.cubes.specs.laws.FreeLaw.{all_none, all_more, all-not, all-all}
 use Rattle.cubes.proofs.tables.enter_all.Goals as goal
 
 pub loop-k-init : goal.loop-k-init

@@ -1,5 +1,5 @@
-use Rattle.lists.specs.Proving.{rules, ◌-◌, not-false}
-use Rattle.cubes.specs.laws.FreeLaw.{AllTo, all_none, all_more, all-not, all-all}
+use Rattle.lists.specs.Proving.{◌-◌}
+use Rattle.cubes.specs.laws.FreeLaw.{AllTo}
 use Rattle.cubes.proofs.tables.enter_all.Given as goal
 
 abbrev pub invariant-loop-k : goal.invariant-loop-k

@@ -1,5 +1,5 @@
-use Rattle.lists.specs.Proving.{rules, arith, ◌-◌, sym, ◌∙◌, not-false}
-use Rattle.cubes.specs.laws.FreeLaw.{PairTo, pair-none, pair-more, pair-skip, pair-not, pair-all}
+use Rattle.lists.specs.Proving.{arith, sym, ◌∙◌}
+use Rattle.cubes.specs.laws.FreeLaw.{pair-none, pair-more, pair-skip, pair-not, pair-all}
 use Rattle.cubes.proofs.tables.enter_pair.Goals as goal
 
 pub returns-then-i : goal.returns-then-i
@@ -12,7 +12,7 @@ pub loop-c-init : goal.loop-c-init
 loop-c-init c = pair-none
 
 pub enter-requires : goal.enter-requires
-enter-requires c = 
+enter-requires c =
     let i = c.site-i.ensures in
     (c.requires.0, c.requires.1, i, omega (arith, i, c.requires.0.sites c.args.k c.requires.1 (rw i at c.if-i.false)), rw c.choices-end.ensures at c.loop-c-test.true, c.loop-c.invariant.grows.long ∙ c.requires.2)
 

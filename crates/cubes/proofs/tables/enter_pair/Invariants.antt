@@ -1,5 +1,5 @@
-use Rattle.lists.specs.Proving.{rules, arith, ◌-◌, sym, ◌∙◌, not-false}
-use Rattle.cubes.specs.laws.FreeLaw.{PairTo, pair-none, pair-more, pair-skip, pair-not, pair-all}
+use Rattle.lists.specs.Proving.{◌-◌}
+use Rattle.cubes.specs.laws.FreeLaw.{PairTo}
 use Rattle.cubes.proofs.tables.enter_pair.Given as goal
 
 abbrev pub invariant-loop-c : goal.invariant-loop-c

@@ -1,4 +1,4 @@
-use Rattle.lists.specs.Proving.{rules, arith}
+use Rattle.lists.specs.Proving.{arith}
 use Rattle.cubes.specs.laws.SetLaw.{put_one}
 use Rattle.cubes.proofs.tables.put.Goals as goal
 

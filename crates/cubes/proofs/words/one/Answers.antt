@@ -1,4 +1,3 @@
-use Rattle.lists.specs.Proving.{rules}
 use Rattle.cubes.specs.laws.SetLaw.{one_shl}
 use Rattle.cubes.proofs.words.one.Goals as goal
 

@@ -4,4 +4,4 @@ use Rattle.generator.proofs.draw.draw.Goals as goal
 
 pub returns : goal.returns
 unfolding drawn
-returns c = rw (c.remainder-number.ensures, c.wrapping_add_u32-sum.ensures) refl
+returns c = rw (c.remainder-number.ensures, c.wrapping_add_u32-sum.ensures.value) refl

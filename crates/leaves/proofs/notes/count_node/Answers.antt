@@ -13,4 +13,4 @@ returns c =
     let notes = c.args.notes.now in
     let less = c.slice_known-2-1.given in
     let count = carried notes c.wrapping_add_u16.result in
-    (changed-more (changed-set 0 0 (omega arith) (omega arith) refl) (changed-set 1 _ (omega arith) (omega arith) refl), λ l. count l (omega arith) (omega (arith, less 0)) c.wrapping_add_u16.ensures (omega (arith, less 1)))
+    (changed-more (changed-set 0 0 (omega arith) (omega arith) refl) (changed-set 1 _ (omega arith) (omega arith) refl), λ l. count l (omega arith) (omega (arith, less 0)) c.wrapping_add_u16.ensures.value (omega (arith, less 1)))

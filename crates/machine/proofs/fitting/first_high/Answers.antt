@@ -1,9 +1,6 @@
 -- `first_high`: each choice before i is in range.
-use Prim.Native.Nat.{ℕ, ◌≤◌, ◌<◌, ◌-◌}
 use native.Mathlib.Omega.{arith}
 use borrow.Author.Count.{below_more}
-use lib.ListN.{length, get_or}
-use Rattle.block.specs.Layout.{choices_of}
 use Rattle.machine.proofs.fitting.first_high.Goals as goal
 
 pub loop-i-init : goal.loop-i-init

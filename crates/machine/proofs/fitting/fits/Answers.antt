@@ -1,7 +1,6 @@
 -- `fits`: each way out is a case of the two refusals.
 use Rattle.machine.proofs.MisfitLaw.{few-slots, fit_length, fit-high, fit_low}
 use native.Mathlib.Omega.{arith}
-use borrow.Author.Rules.{rules}
 use Rattle.machine.proofs.fitting.fits.Goals as goal
 
 pub returns-then-mutant-count : goal.returns-then-mutant-count

@@ -1,6 +1,5 @@
 use Rattle.machine.proofs.LayLaw.{acts-outside, acts-inside}
 use native.Mathlib.Omega.{arith}
-use borrow.Author.Rules.{rules}
 use Rattle.machine.proofs.laying.act.Goals as goal
 
 pub returns-then-k-wide : goal.returns-then-k-wide

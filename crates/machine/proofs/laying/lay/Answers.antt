@@ -1,13 +1,8 @@
 -- `lay`: the indices before k are laid out.
-use Prim.Native.Nat.{◌*◌, ◌-◌}
-use mathlib.Core.Path.{◌≡◌, ◌∙◌}
+use mathlib.Core.Path.{◌∙◌}
 use native.Mathlib.Omega.{arith}
-use lib.ListN.{length, length-set}
-use Rattle.block.specs.Layout.{states_of}
-use Rattle.block.specs.Tabulated.{step_of}
-use Rattle.machine.specs.Laid.{Moves}
+use lib.ListN.{length-set}
 use Rattle.machine.proofs.LayLaw.{moves-none, moves_more, moves-fewer}
-use borrow.Author.Rules.{rules}
 use Rattle.machine.proofs.laying.lay.Goals as goal
 
 pub loop-k-init : goal.loop-k-init

@@ -6,7 +6,6 @@ use Rattle.block.specs.laws.TabledLaw.{well-formed}
 use Rattle.machine.specs.laws.LaidLaw.{settled-chosen}
 use Rattle.machine.specs.laws.FitsLaw.{fit-mutant, not-mutant}
 use Rattle.machine.proofs.MisfitLaw.{settles, machined}
-use borrow.Author.Rules.{rules}
 use Rattle.machine.proofs.laying.machine_of.Goals as goal
 
 pub initial-start-requires : goal.initial-start-requires

@@ -1,10 +1,9 @@
 -- `widened`: the choices before i are the bytes.
-use Prim.Native.Nat.{ℕ, ◌<◌, ◌-◌}
-use mathlib.Core.Path.{◌≡◌, ◌∙◌, ap}
+use Prim.Native.Nat.{ℕ}
+use mathlib.Core.Path.{◌∙◌, ap}
 use native.Mathlib.Omega.{arith}
 use lib.ListN.{length, get_or, length-set, length-replicate}
 use Rattle.machine.proofs.LayLaw.{one_more}
-use borrow.Author.Rules.{rules}
 use Rattle.machine.proofs.laying.widened.Goals as goal
 
 pub loop-i-init : goal.loop-i-init

@@ -1,11 +1,5 @@
 -- `depth`: what is counted and the inputs that lead to entry i are those that lead to entry h.
-use Prim.Native.Nat.{ℕ, ◌+◌, ◌≤◌}
-use mathlib.Core.Path.{◌≡◌}
-use mathlib.Core.List.{List}
 use native.Mathlib.Omega.{arith}
-use lib.ListN.{length}
-use borrow.Author.Rules.{rules}
-use Rattle.machine.specs.Tree.{Paths}
 use Rattle.machine.proofs.PathLaw.{path-longer, path-none}
 use Rattle.machine.proofs.product.depth.Goals as goal
 
@@ -18,7 +12,7 @@ loop-i-smaller c = rw c.link_of-i.ensures (c.requires.1.1.back c.loop-i.i c.loop
 pub loop-i-preserved : goal.loop-i-preserved
 loop-i-preserved c = let i = c.loop-i.i in
     let inv = c.loop-i.invariant in
-    let less = loop-less c in
+    let less = c.requires.1.1.back c.loop-i.i c.loop-i-test.true (omega (arith, c.loop-i.invariant.0)) in
     let pos = c.loop-i-test.true in
     (omega (arith, inv.0), λ path p. rw c.link_of-i.ensures (omega (arith, inv.1 path p, path-longer p i pos (omega (arith, inv.0)))))
 

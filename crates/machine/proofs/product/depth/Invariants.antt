@@ -2,11 +2,8 @@
 use Prim.Native.Nat.{ℕ, ◌+◌, ◌≤◌}
 use mathlib.Core.Path.{◌≡◌}
 use mathlib.Core.List.{List}
-use native.Mathlib.Omega.{arith}
 use lib.ListN.{length}
-use borrow.Author.Rules.{rules}
 use Rattle.machine.specs.Tree.{Paths}
-use Rattle.machine.proofs.PathLaw.{path-longer, path-none}
 use Rattle.machine.proofs.product.depth.Given as goal
 
 abbrev pub invariant-loop-i : goal.invariant-loop-i

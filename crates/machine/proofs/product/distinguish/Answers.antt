@@ -1,11 +1,7 @@
 -- `distinguish`: the entries before h are expanded, and the buffer is as it was.
-use Prim.Native.Nat.{◌*◌, ◌≤◌, ◌-◌}
-use mathlib.Core.Path.{◌≡◌, refl, ap, ◌∙◌}
+use mathlib.Core.Path.{refl, ap, ◌∙◌}
 use native.Mathlib.Omega.{arith}
 use lib.ListN.{length}
-use borrow.Author.Rules.{rules}
-use Rattle.machine.specs.Product.{tables}
-use Rattle.machine.specs.Tree.{Tree}
 use Rattle.machine.proofs.ProductLaw.{closed}
 use Rattle.machine.proofs.TreeLaw.{room-none, tree-root, way-there, way-short, entry-low, told-apart, told_none}
 use Rattle.machine.proofs.product.distinguish.Goals as goal
@@ -14,7 +10,7 @@ pub enter-count-requires : goal.enter-count-requires
 enter-count-requires c = (room-none c.no_entries-entries.ensures c.blank-seen.ensures, omega arith)
 
 pub loop-h-init : goal.loop-h-init
-loop-h-init c = (refl, omega arith, tree-root _ c.requires.start_bound.0 c.requires.valid.formed.few-states c.no_entries-entries.ensures c.blank-seen.ensures c.enter-count.ensures)
+loop-h-init c = (refl, omega arith, tree-root _ c.requires.start_bound c.requires.valid.formed.few-states c.no_entries-entries.ensures c.blank-seen.ensures c.enter-count.ensures)
 
 pub expand-requires : goal.expand-requires
 expand-requires c = record { valid = (c.requires.valid, c.loop-h-test.true); by_index = (c.args.start, c.loop-h.invariant.2) }
@@ -23,18 +19,18 @@ pub write_path-requires : goal.write_path-requires
 write_path-requires c = let v = c.requires.valid in
     let ok = rw c.in-Apart.is at (c.expand.ensures c.args.start c.loop-h.invariant.2) in
     let cl = closed v c.args.start c.args.outputs.now in
-    let short = way-short cl v.formed.few-states v.formed.few-inputs c.requires.start_bound.0 ok in
-    (entry-low cl v.formed.few-states v.formed.few-inputs c.requires.start_bound.0 ok, (ok.3.path, way-there cl v.formed.few-states v.formed.few-inputs c.requires.start_bound.0 ok, omega (arith, short, c.requires.start_bound.1, ap length c.loop-h.invariant.0)))
+    let short = way-short cl v.formed.few-states v.formed.few-inputs c.requires.start_bound ok in
+    (entry-low cl v.formed.few-states v.formed.few-inputs c.requires.start_bound ok, (ok.3.path, way-there cl v.formed.few-states v.formed.few-inputs c.requires.start_bound ok, omega (arith, short, c.requires.block_in_bounds, ap length c.loop-h.invariant.0)))
 
 pub shape_of-buf-in-Apart : goal.shape_of-buf-in-Apart
-shape_of-buf-in-Apart c = c.write_path.auto.1.1.1.0 ∙ ap length c.loop-h.invariant.0
+shape_of-buf-in-Apart c = c.write_path.auto.buf ∙ ap length c.loop-h.invariant.0
 
 pub returns-in-Apart : goal.returns-in-Apart
 returns-in-Apart c = let v = c.requires.valid in
     let ok = rw c.in-Apart.is at (c.expand.ensures c.args.start c.loop-h.invariant.2) in
     let cl = closed v c.args.start c.args.outputs.now in
-    let w = c.write_path.ensures ok.3.path (way-there cl v.formed.few-states v.formed.few-inputs c.requires.start_bound.0 ok) in
-record { value = (told-apart cl v.formed.few-states v.formed.few-inputs c.requires.start_bound.0 ok c.args.buf.now (rw c.loop-h.invariant.0 at w)).0; buf_after = (told-apart cl v.formed.few-states v.formed.few-inputs c.requires.start_bound.0 ok c.args.buf.now (rw c.loop-h.invariant.0 at w)).1 }
+    let w = c.write_path.ensures ok.3.path (way-there cl v.formed.few-states v.formed.few-inputs c.requires.start_bound ok) in
+    record { value = (told-apart cl v.formed.few-states v.formed.few-inputs c.requires.start_bound ok c.args.buf.now (rw c.loop-h.invariant.0 at w)).0; buf_after = (told-apart cl v.formed.few-states v.formed.few-inputs c.requires.start_bound ok c.args.buf.now (rw c.loop-h.invariant.0 at w)).1 }
 
 pub overflow_add-h : goal.overflow_add-h
 overflow_add-h c = omega (arith, c.loop-h.invariant.2.sized.room)
@@ -52,4 +48,4 @@ shape_of-buf c = ap length c.loop-h.invariant.0
 pub returns : goal.returns
 returns c = let v = c.requires.valid in
     let inv = c.loop-h.invariant in
-record { value = (told_none (closed v c.args.start c.args.outputs.now) v.formed.few-states v.formed.few-inputs c.requires.start_bound.0 inv.2 (omega (arith, inv.1, c.loop-h-test.false)) inv.0).0; buf_after = (told_none (closed v c.args.start c.args.outputs.now) v.formed.few-states v.formed.few-inputs c.requires.start_bound.0 inv.2 (omega (arith, inv.1, c.loop-h-test.false)) inv.0).1 }
+    record { value = (told_none (closed v c.args.start c.args.outputs.now) v.formed.few-states v.formed.few-inputs c.requires.start_bound inv.2 (omega (arith, inv.1, c.loop-h-test.false)) inv.0).0; buf_after = (told_none (closed v c.args.start c.args.outputs.now) v.formed.few-states v.formed.few-inputs c.requires.start_bound inv.2 (omega (arith, inv.1, c.loop-h-test.false)) inv.0).1 }

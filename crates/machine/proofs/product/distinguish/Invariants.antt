@@ -1,17 +1,12 @@
 -- `distinguish`: the entries before h are expanded, and the buffer is as it was.
 use Prim.Native.Nat.{◌*◌, ◌≤◌, ◌-◌}
-use mathlib.Core.Path.{◌≡◌, refl, ap, ◌∙◌}
-use native.Mathlib.Omega.{arith}
-use lib.ListN.{length}
-use borrow.Author.Rules.{rules}
+use mathlib.Core.Path.{◌≡◌}
 use Rattle.machine.specs.Product.{tables}
 use Rattle.machine.specs.Tree.{Tree}
-use Rattle.machine.proofs.ProductLaw.{closed}
-use Rattle.machine.proofs.TreeLaw.{room-none, tree-root, way-there, way-short, entry-low, told-apart, told_none}
 use Rattle.machine.proofs.product.distinguish.Given as goal
 
 abbrev pub invariant-loop-h : goal.invariant-loop-h
-invariant-loop-h l =     (l.buf ≡ l.initial.buf) × (l.h ≤ l.count) × Tree (tables l.block l.start l.outputs l.targets) l.entries l.seen l.count (16 * l.h)
+invariant-loop-h l = (l.buf ≡ l.initial.buf) × (l.h ≤ l.count) × Tree (tables l.block l.start l.outputs l.targets) l.entries l.seen l.count (16 * l.h)
 
 abbrev pub decreases-loop-h : goal.decreases-loop-h
 decreases-loop-h l = 256 - l.h

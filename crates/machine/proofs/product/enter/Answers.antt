@@ -1,13 +1,9 @@
 -- `enter`: by what the link leads to; there is room for a pair that was not seen.
-use borrow.Author.Rules.{rules}
-use native.Mathlib.Omega.{arith}
-use Rattle.machine.specs.declared.product.Led.TheVariants as led
-use Rattle.machine.proofs.ProductLaw.{other}
 use Rattle.machine.proofs.TreeLaw.{room-one, entered-none, entered-old, entered-new}
 use Rattle.machine.proofs.product.enter.Goals as goal
 
 pub returns-in_default : goal.returns-in_default
-returns-in_default c = entered-none (λ v. other _ (led.To v) c.in_default.keys2 (λ z. omega arith) (λ z. omega arith))
+returns-in_default c = entered-none c.in_default.not-To
 
 pub returns-then-seen-i-ne0 : goal.returns-then-seen-i-ne0
 returns-then-seen-i-ne0 c = entered-old c.in-To.is c.wide-i.ensures.0 c.if-seen-i-ne0.true

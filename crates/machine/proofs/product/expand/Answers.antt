@@ -1,14 +1,7 @@
 -- `expand`: up to the input x the pairs that entry h leads to are entered.
-use Prim.Native.Nat.{ℕ, ◌*◌, ◌≤◌, ◌-◌}
-use mathlib.Core.Path.{◌≡◌}
 use native.Mathlib.Omega.{arith}
-use borrow.Author.Rules.{rules}
-use Rattle.block.specs.Layout.{inputs_of}
-use Rattle.machine.specs.declared.product.Led.TheVariants as led
-use Rattle.machine.specs.Product.{tables}
-use Rattle.machine.specs.Tree.{Tree}
-use Rattle.machine.proofs.ProductLaw.{closed, other}
-use Rattle.machine.proofs.TreeLaw.{Expanding, expanding-none, expanding-pair, expanding-more, expanding-apart, expanding-all}
+use Rattle.machine.proofs.ProductLaw.{closed}
+use Rattle.machine.proofs.TreeLaw.{expanding-none, expanding-pair, expanding-more, expanding-apart, expanding-all}
 use Rattle.machine.proofs.product.expand.Goals as goal
 
 pub bounds-entries-h : goal.bounds-entries-h
@@ -38,7 +31,7 @@ loop-x-preserved c = let valid = c.requires.valid.0 in
       omega (arith, c.loop-x-test.true),
       λ start t. expanding-more (closed valid start _) valid.formed.few-states valid.formed.few-inputs (inv.2 start t)
           (omega (arith, inv.0, c.loop-x-test.true)) (c.lead-led.ensures start)
-          (other _ led.Apart c.in_default.keys2 (λ z. omega arith) (λ z. omega arith)) (rw c.wide.ensures.0 at c.enter-n.ensures),
+          c.in_default.not-Apart (rw c.wide.ensures.0 at c.enter-n.ensures),
     )
 
 pub returns : goal.returns

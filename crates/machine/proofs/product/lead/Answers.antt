@@ -1,5 +1,4 @@
 -- `lead`: each answer is a law of `leads` on tables; the two next states are states.
-use borrow.Author.Rules.{rules}
 use native.Mathlib.Omega.{arith}
 use Rattle.machine.proofs.ProductLaw.{undefined-here, next_low, apart-here, onward-here}
 use Rattle.machine.proofs.product.lead.Goals as goal

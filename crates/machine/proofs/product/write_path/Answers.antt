@@ -1,12 +1,9 @@
 -- `write_path`: from the last on, the inputs after those that lead to entry i are written.
-use Prim.Native.Nat.{ℕ, ◌+◌, ◌≤◌, ◌<◌}
-use mathlib.Core.Path.{◌≡◌, refl, ◌∙◌}
-use mathlib.Core.List.{List}
+use Prim.Native.Nat.{◌<◌}
+use mathlib.Core.Path.{refl, ◌∙◌}
 use native.Mathlib.Omega.{arith}
 use lib.ListN.{length, length-set}
-use borrow.Author.Rules.{rules}
-use Rattle.machine.specs.Tree.{Paths}
-use Rattle.machine.proofs.PathLaw.{Written, written_last, written_back, written-more, written_all}
+use Rattle.machine.proofs.PathLaw.{written_last, written_back, written-more, written_all}
 use Rattle.machine.proofs.product.write_path.Goals as goal
 
 pub depth-d-requires : goal.depth-d-requires
@@ -17,7 +14,8 @@ bounds-buf-d c = let p = c.requires.1 in
     omega (arith, c.depth-d.ensures p.0 p.1, p.2)
 
 pub loop-n-init : goal.loop-n-init
-loop-n-init c = let low = slice-write-buf c in
+loop-n-init c = let p = c.requires.1 in
+    let low : c.depth-d.result < length c.args.buf.now = omega (arith, c.depth-d.ensures p.0 p.1, p.2) in
     (omega arith, omega arith, simp length-set low, refl, λ path p. written_last path _ _ _ c.args.buf.now (c.depth-d.ensures path p) low)
 
 pub bounds-buf-n : goal.bounds-buf-n
@@ -38,6 +36,6 @@ pub shape_of-buf : goal.shape_of-buf
 shape_of-buf c = c.loop-n.invariant.3 ∙ simp length-set
 
 pub returns : goal.returns
-returns c = λ path p. 
+returns c = λ path p.
     let e = c.depth-d.ensures path p in
     (omega (arith, e), written_all _ e (omega arith) (c.loop-n.invariant.4 path p))

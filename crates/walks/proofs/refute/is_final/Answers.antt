@@ -2,8 +2,5 @@ use Rattle.lists.specs.Proving.{rules, arith, ℕ, subst, not-true, not-false, n
 use Rattle.cubes.specs.Sets.{Has}
 use Rattle.walks.proofs.refute.is_final.Goals as goal
 
-pub returns-then-not-told : goal.returns-then-not-told
-returns-then-not-told c = (λ e. never cc, λ e ok h. never cc)
-
 pub returns : goal.returns
-returns c = (λ e. c.if-not-told.false, λ e ok h. c.among.ensures.1 (not-true _ e) (subst (λ (n : ℕ). Has c.args.told.used n) (omega (arith, c.requires)) h))
+returns c = (λ e. not-false _ c.if-not-told.false, λ e ok h. c.among.ensures.1 (not-true _ e) (subst (λ (n : ℕ). Has c.args.told.used n) (omega (arith, c.requires)) h))

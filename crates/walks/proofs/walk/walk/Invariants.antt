@@ -5,7 +5,7 @@ use Rattle.walks.proofs.StandLaw.{suspect-low, settled-step, step-on, step-not}
 use Rattle.walks.proofs.walk.walk.Given as goal
 
 abbrev pub invariant-loop-at : goal.invariant-loop-at
-invariant-loop-at l = Stands l.block l.log l.p (record { l.at = l.at; l.state = l.state; l.used = l.used })
+invariant-loop-at l = Stands l.block l.log l.p (record { at = l.at; state = l.state; used = l.used })
 
 abbrev pub decreases-loop-at : goal.decreases-loop-at
 decreases-loop-at l = length l.log - l.at

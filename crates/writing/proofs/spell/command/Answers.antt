@@ -9,8 +9,8 @@ byte-to-requires c = omega (arith, c.requires)
 pub bytes-requires : goal.bytes-requires
 bytes-requires c = omega (arith, c.requires, c.byte-to.ensures.many, c.byte-to.ensures.long)
 
-pub shape_of-sheet : goal.shape_of-sheet
-shape_of-sheet c = (returns c).long
-
 pub returns : goal.returns
 returns c = spelled-both c.byte-to.ensures c.bytes.ensures
+
+pub shape_of-sheet : goal.shape_of-sheet
+shape_of-sheet c = (returns c).long
