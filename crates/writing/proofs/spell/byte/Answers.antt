@@ -1,4 +1,4 @@
-use Rattle.writing.specs.laws.SpelledLaw.{spelled-byte}
+use Rattle.writing.proofs.laws.SpelledLaw.{spelled-byte}
 use Rattle.writing.proofs.spell.byte.Goals as goal
 
 pub returns : goal.returns

@@ -1,7 +1,7 @@
 -- `bytes`: those before i are spelled.
 use native.Mathlib.Omega.{arith}
 use lib.ListN.{drop_of_length-le}
-use Rattle.writing.specs.laws.SpelledLaw.{spelling-start, spelling-room, spelling-more, spelling-end}
+use Rattle.writing.proofs.laws.SpelledLaw.{spelling-start, spelling-room, spelling-more, spelling-end}
 use Rattle.writing.proofs.RestLaw.{bytes_next}
 use Rattle.writing.proofs.spell.bytes.Goals as goal
 

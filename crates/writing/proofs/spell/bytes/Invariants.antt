@@ -1,7 +1,7 @@
 -- `bytes`: those before i are spelled.
 use Prim.Native.Nat.{◌-◌}
 use lib.ListN.{length, drop}
-use Rattle.writing.specs.laws.SpelledLaw.{Spelling}
+use Rattle.writing.proofs.laws.SpelledLaw.{Spelling}
 use Rattle.writing.proofs.spell.bytes.Given as goal
 
 abbrev pub invariant-loop-i : goal.invariant-loop-i

@@ -1,5 +1,5 @@
 -- `operands`: those before i are spelled.
-use Rattle.writing.specs.laws.SpelledLaw.{spelling-start, spelling-room, spelling-more, spelling-end}
+use Rattle.writing.proofs.laws.SpelledLaw.{spelling-start, spelling-room, spelling-more, spelling-end}
 use Rattle.writing.proofs.RestLaw.{operands_next, operands-none}
 use Rattle.writing.proofs.spell.operands.Goals as goal
 

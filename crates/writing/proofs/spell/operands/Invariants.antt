@@ -2,7 +2,7 @@
 use Prim.Native.Nat.{◌-◌}
 use lib.ListN.{length, drop}
 use Rattle.sheet.specs.Encode.{operand_bytes}
-use Rattle.writing.specs.laws.SpelledLaw.{Spelling}
+use Rattle.writing.proofs.laws.SpelledLaw.{Spelling}
 use Rattle.writing.proofs.spell.operands.Given as goal
 
 abbrev pub invariant-loop-i : goal.invariant-loop-i

@@ -1,6 +1,6 @@
 -- `rows`: those before i are spelled.
 use native.Mathlib.Omega.{arith}
-use Rattle.writing.specs.laws.SpelledLaw.{spelling-start, spelling-room, spelling-more, spelling-end}
+use Rattle.writing.proofs.laws.SpelledLaw.{spelling-start, spelling-room, spelling-more, spelling-end}
 use Rattle.writing.proofs.RestLaw.{rows_next, rows_none}
 use Rattle.writing.proofs.spell.rows.Goals as goal
 

@@ -3,7 +3,7 @@ use Prim.Native.Nat.{◌-◌, ◌≤◌}
 use lib.ListN.{length, drop}
 use Rattle.sheet.specs.Encode.{row_bytes}
 use Rattle.writing.specs.Drawing.{rows_of}
-use Rattle.writing.specs.laws.SpelledLaw.{Spelling}
+use Rattle.writing.proofs.laws.SpelledLaw.{Spelling}
 use Rattle.writing.proofs.spell.rows.Given as goal
 
 abbrev pub invariant-loop-i : goal.invariant-loop-i

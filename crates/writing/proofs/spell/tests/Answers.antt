@@ -1,6 +1,6 @@
 -- `tests`: those before i are spelled, and `start` is where the inputs of the others begin.
 use native.Mathlib.Omega.{arith}
-use Rattle.writing.specs.laws.SpelledLaw.{spelling-start, spelling-room, spelling-more, spelling-end}
+use Rattle.writing.proofs.laws.SpelledLaw.{spelling-start, spelling-room, spelling-more, spelling-end}
 use Rattle.writing.proofs.RestLaw.{tests-next, tests-none, total-next}
 use Rattle.writing.proofs.spell.tests.Goals as goal
 

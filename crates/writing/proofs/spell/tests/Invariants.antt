@@ -3,7 +3,7 @@ use Prim.Native.Nat.{◌+◌, ◌-◌, ◌≤◌}
 use lib.ListN.{length, drop}
 use Rattle.sheet.specs.Encode.{test_bytes}
 use Rattle.writing.specs.Drawing.{tests_of, total}
-use Rattle.writing.specs.laws.SpelledLaw.{Spelling}
+use Rattle.writing.proofs.laws.SpelledLaw.{Spelling}
 use Rattle.writing.proofs.spell.tests.Given as goal
 
 abbrev pub invariant-loop-i : goal.invariant-loop-i
