@@ -3,10 +3,12 @@
 // Called by nothing: users run it.
 
 #![tactic(auto)]
+
 ghost use Rattle.judge.specs.Input.{Fits};
 
-use libc::{STDERR_FILENO, STDIN_FILENO, STDOUT_FILENO};
 use report::report;
+use std::env::{Env, FillError};
+use std::io::{Eprint, Print, Read, Stdin};
 
 // What reading gave: so many bytes at the buffer's front, or a failure.
 #[derive(Clone, Copy)]
@@ -16,23 +18,22 @@ enum Input {
 }
 
 // Reads once: no bytes where the input ends.
-fn read_some(rest: &mut [u8]) -> Input
+fn read_some(stdin: &mut Stdin, rest: &mut [u8]) -> Input
     ensures { Fits result rest.new }
 {
-    let got = libc::read(STDIN_FILENO, rest);
-    if got < 0 {
-        return Input::Failed;
+    match stdin.read(rest) {
+        Ok(n) => Input::Bytes(n),
+        Err(_) => Input::Failed,
     }
-    Input::Bytes(io::count(got, rest))
 }
 
 // Reads until the input ends or the buffer is full.
-fn read_input(buffer: &mut [u8]) -> Input
+fn read_input(stdin: &mut Stdin, buffer: &mut [u8]) -> Input
     ensures { Fits result buffer.new }
 {
     let mut done: usize = 0;
     while done < buffer.len() {
-        match read_some(&mut buffer[done..]) {
+        match read_some(stdin, &mut buffer[done..]) {
             Input::Failed => {
                 return Input::Failed;
             }
@@ -48,26 +49,26 @@ fn read_input(buffer: &mut [u8]) -> Input
 }
 
 // Tells whoever names a file that it is not looked at. The program's own name is the first argument.
-fn warn_of_arguments() {
-    if os::arg_count() > 1 {
-        io::write_all(
-            STDERR_FILENO,
-            b"judge: takes no arguments and reads standard input\n",
-        );
+fn warn_of_arguments(rt: &HostRuntime) {
+    let mut first = [0u8; 1];
+    if matches!(rt.arg(1, &mut first), Err(FillError::NotPresent)) {
+        return;
     }
+    let _ = rt.eprintln("judge: takes no arguments and reads standard input");
 }
 
 // A sheet has at most 16,384 bytes: one more tells a longer one. Input that can't be read gets no verdict.
-fn main() {
-    warn_of_arguments();
+fn main(rt: HostRuntime) {
+    warn_of_arguments(&rt);
     let mut buffer = [0u8; 16385];
-    let Input::Bytes(n) = read_input(&mut buffer) else {
-        io::write_all(STDERR_FILENO, b"judge: can't read standard input\n");
+    let mut stdin = rt.stdin();
+    let Input::Bytes(n) = read_input(&mut stdin, &mut buffer) else {
+        let _ = rt.eprintln("judge: can't read standard input");
         return;
     };
     let mut text = [0u8; 2048];
     let end = report(&buffer[..n], &mut text);
-    if !io::write_all(STDOUT_FILENO, &text[..end]) {
-        io::write_all(STDERR_FILENO, b"judge: can't write standard output\n");
+    if rt.write_all(&text[..end]).is_err() {
+        let _ = rt.eprintln("judge: can't write standard output");
     }
 }

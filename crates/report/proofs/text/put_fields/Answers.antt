@@ -21,10 +21,10 @@ put_number-end-requires c = omega (arith, c.loop-i.invariant.2.long, c.byte-blan
 
 pub loop-i-preserved : goal.loop-i-preserved
 loop-i-preserved c = (
-      omega arith,
-      omega (arith, c.byte-blank.ensures.many, c.put_number-end.ensures.many, byte-digits _ (c.shared_slice_known-in-loop-i-1.given c.loop-i.i)),
-      field-more c.args.numbers.now c.loop-i.i c.loop-i.invariant.2 c.byte-blank.ensures c.put_number-end.ensures (omega arith),
-    )
+  omega arith,
+  omega (arith, c.byte-blank.ensures.many, c.put_number-end.ensures.many, byte-digits _ (c.shared_slice_known-in-loop-i-1.given c.loop-i.i)),
+  field-more c.args.numbers.now c.loop-i.i c.loop-i.invariant.2 c.byte-blank.ensures c.put_number-end.ensures (omega arith),
+)
 
 pub shape_of-out : goal.shape_of-out
 shape_of-out c = c.loop-i.invariant.2.long
