@@ -19,6 +19,10 @@ pub slice_bounds-short-end : goal.slice_bounds-short-end
 slice_bounds-short-end c = let short-log : (sh : Sheet) → ReadFrom sh c.args.sheet.now c.args.starts.now c.args.lengths.now c.args.tests c.args.block.now → (log : List ℕ) × Logged sh log c.log_suite-n.result = λ sh rd. (_, c.log_suite-n.ensures sh (suite-short rd (omega (arith, c.if-sheet-le1024.true)))) in
     let (sh, rd) = c.requires.0 in (short-log sh rd).1.inside
 
+pub slice_bounds-conclude-end : goal.slice_bounds-conclude-end
+slice_bounds-conclude-end c = let short-log : (sh : Sheet) → ReadFrom sh c.args.sheet.now c.args.starts.now c.args.lengths.now c.args.tests c.args.block.now → (log : List ℕ) × Logged sh log c.log_suite-n.result = λ sh rd. (_, c.log_suite-n.ensures sh (suite-short rd (omega (arith, c.if-sheet-le1024.true)))) in
+    let (sh, rd) = c.requires.0 in sym (length-take-le _ _ (short-log sh rd).1.inside)
+
 pub conclude-requires : goal.conclude-requires
 conclude-requires c = let short-log : (sh : Sheet) → ReadFrom sh c.args.sheet.now c.args.starts.now c.args.lengths.now c.args.tests c.args.block.now → (log : List ℕ) × Logged sh log c.log_suite-n.result = λ sh rd. (_, c.log_suite-n.ensures sh (suite-short rd (omega (arith, c.if-sheet-le1024.true)))) in
     let pre = c.requires in
@@ -35,6 +39,10 @@ log_suite-n-requires-2 c = let (sh, rd) = c.requires.0 in (sh, suite-long rd (om
 pub slice_bounds-long-end : goal.slice_bounds-long-end
 slice_bounds-long-end c = let long-log : (sh : Sheet) → ReadFrom sh c.args.sheet.now c.args.starts.now c.args.lengths.now c.args.tests c.args.block.now → (log : List ℕ) × Logged sh log c.log_suite-n-2.result = λ sh rd. (_, c.log_suite-n-2.ensures sh (suite-long rd (omega arith))) in
     let (sh, rd) = c.requires.0 in (long-log sh rd).1.inside
+
+pub slice_bounds-conclude-end-2 : goal.slice_bounds-conclude-end-2
+slice_bounds-conclude-end-2 c = let long-log : (sh : Sheet) → ReadFrom sh c.args.sheet.now c.args.starts.now c.args.lengths.now c.args.tests c.args.block.now → (log : List ℕ) × Logged sh log c.log_suite-n-2.result = λ sh rd. (_, c.log_suite-n-2.ensures sh (suite-long rd (omega arith))) in
+    let (sh, rd) = c.requires.0 in sym (length-take-le _ _ (long-log sh rd).1.inside)
 
 pub conclude-requires-2 : goal.conclude-requires-2
 conclude-requires-2 c = let long-log : (sh : Sheet) → ReadFrom sh c.args.sheet.now c.args.starts.now c.args.lengths.now c.args.tests c.args.block.now → (log : List ℕ) × Logged sh log c.log_suite-n-2.result = λ sh rd. (_, c.log_suite-n-2.ensures sh (suite-long rd (omega arith))) in
