@@ -6,8 +6,8 @@ use Rattle.sheet.specs.Sheet.{Sheet}
 use Rattle.sheet.specs.laws.RowLaw.{before-irreflexive}
 use Rattle.model.specs.Mutant.{slots, IsMutant}
 use Rattle.model.specs.Log.{Observation}
-use Rattle.model.specs.laws.SuspectLaw.{slot-count}
-use Rattle.model.specs.laws.OperationLaw.{mutant-length, in-range-at}
+use Rattle.model.proofs.laws.SuspectLaw.{slot-count}
+use Rattle.model.proofs.laws.OperationLaw.{mutant-length, in-range-at}
 use Rattle.block.specs.Layout.{slots_of}
 use Rattle.block.specs.Logged.{observations}
 use Rattle.block.specs.laws.TabledLaw.{get_d_default, slot-few}

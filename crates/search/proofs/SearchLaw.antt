@@ -8,9 +8,9 @@ use Rattle.sheet.specs.laws.RowLaw.{before-irreflexive}
 use Rattle.model.specs.Mutant.{slots, IsMutant}
 use Rattle.model.specs.Suite.{compare_of}
 use Rattle.model.specs.Log.{Observation}
-use Rattle.model.specs.laws.JudgeLaw.{some-nonconforming}
-use Rattle.model.specs.laws.SuspectLaw.{slot-count}
-use Rattle.model.specs.laws.OperationLaw.{mutant-length, in-range-at, in-range}
+use Rattle.model.proofs.laws.JudgeLaw.{some-nonconforming}
+use Rattle.model.proofs.laws.SuspectLaw.{slot-count}
+use Rattle.model.proofs.laws.OperationLaw.{mutant-length, in-range-at, in-range}
 use Rattle.block.specs.Layout.{choices_of, slots_of}
 use Rattle.block.specs.Logged.{observations}
 use Rattle.block.specs.Tabled.{Tabled}

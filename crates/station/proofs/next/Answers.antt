@@ -2,7 +2,7 @@ use borrow.Author.Rules.{rules}
 use mathlib.Core.Path.{◌∙◌, ap₂}
 use Rattle.sheet.specs.laws.RefusalLaw.{refusal-told}
 use Rattle.station.specs.declared.Advanced.TheVariants.{Refused}
-use Rattle.station.specs.laws.ToldLaw.{next-told}
+use Rattle.station.proofs.laws.ToldLaw.{next-told}
 use Rattle.station.proofs.ReadLaw.{is-refused, is-accepted, tests-are}
 use Rattle.station.proofs.AnswerLaw.{next-refused, next-ready, next-due, next-passed, next-failed}
 use Rattle.station.proofs.next.Goals as goal

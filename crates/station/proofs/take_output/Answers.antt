@@ -2,7 +2,7 @@ use borrow.Author.Rules.{rules}
 use mathlib.Core.Path.{◌∙◌, ap₂}
 use Rattle.sheet.specs.laws.RefusalLaw.{refusal-told}
 use Rattle.station.specs.declared.Taken.TheVariants.{Refused}
-use Rattle.station.specs.laws.ToldLaw.{taken-told}
+use Rattle.station.proofs.laws.ToldLaw.{taken-told}
 use Rattle.station.proofs.ReadLaw.{is-refused, is-accepted, outputs-are}
 use Rattle.station.proofs.WalkLaw.{due-low}
 use Rattle.station.proofs.AnswerLaw.{take-refused, take_none, due-is, take-high, take-heard}
