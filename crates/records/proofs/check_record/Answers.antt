@@ -15,11 +15,11 @@ returns-in_default c =
 
 pub check_accepted-requires : goal.check_accepted-requires
 check_accepted-requires c = 
-    let x = opened c.args.sheet.now c.load-reading.ensures.value c.in-Accepted.is c.load-reading.ensures.block_len.1 in
+    let x = opened c.args.sheet.now c.load-reading.ensures.value c.in-Accepted.is c.load-reading.ensures.loads in
     (x.sheet, sized c.load-reading.ensures.value c.in-Accepted.is x)
 
 pub returns : goal.returns
 returns c = 
     let a = c.args in
-    let x = opened a.sheet.now c.load-reading.ensures.value c.in-Accepted.is c.load-reading.ensures.block_len.1 in
+    let x = opened a.sheet.now c.load-reading.ensures.value c.in-Accepted.is c.load-reading.ensures.loads in
     record { answer = (check-accepted a.sheet.now a.log.now x.sheet x.is _ (c.check_accepted.ensures x.sheet (sized c.load-reading.ensures.value c.in-Accepted.is x))).0; told = (check-accepted a.sheet.now a.log.now x.sheet x.is _ (c.check_accepted.ensures x.sheet (sized c.load-reading.ensures.value c.in-Accepted.is x))).1 }

@@ -15,11 +15,11 @@ returns-in_default c =
 
 pub explain_accepted-requires : goal.explain_accepted-requires
 explain_accepted-requires c = 
-    let x = opened c.args.sheet.now c.load-reading.ensures.value c.in-Accepted.is c.load-reading.ensures.block_len.1 in
+    let x = opened c.args.sheet.now c.load-reading.ensures.value c.in-Accepted.is c.load-reading.ensures.loads in
     (x.sheet, sized c.load-reading.ensures.value c.in-Accepted.is x)
 
 pub returns : goal.returns
 returns c = 
     let a = c.args in
-    let x = opened a.sheet.now c.load-reading.ensures.value c.in-Accepted.is c.load-reading.ensures.block_len.1 in
+    let x = opened a.sheet.now c.load-reading.ensures.value c.in-Accepted.is c.load-reading.ensures.loads in
     let y = explain-accepted a.sheet.now a.log.now a.board.now a.sequence.now x.sheet x.is _ _ _ (c.explain_accepted.ensures x.sheet (sized c.load-reading.ensures.value c.in-Accepted.is x)) in record { answer = y.0.answer; board = y.0.board; sequence = y.0.sequence; told = y.1 }
