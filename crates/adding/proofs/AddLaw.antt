@@ -11,9 +11,9 @@ use Rattle.sheet.specs.Tables.{read_answer}
 use Rattle.writing.specs.declared.Written.{Written}
 use Rattle.writing.specs.declared.Written.TheVariants as written
 use Rattle.writing.specs.words.Spelled.{Spelled}
-use Rattle.writing.specs.laws.SpelledLaw.{spelled-front}
+use Rattle.writing.proofs.laws.SpelledLaw.{spelled-front}
 use Rattle.model.specs.Longer.{with_test}
-use Rattle.model.specs.laws.LongerLaw.{body-longer, encode-longer}
+use Rattle.model.proofs.laws.LongerLaw.{body-longer, encode-longer}
 use Rattle.block.specs.Tabled.{ReadFrom}
 use Rattle.block.specs.laws.OpenedLaw.{closed-by}
 use Rattle.adding.specs.declared.Pressed.{Pressed}

@@ -6,7 +6,7 @@ use Rattle.lists.specs.Lists.{maybe}
 use Rattle.sheet.specs.declared.Row.{Row}
 use Rattle.sheet.specs.Sheet.{Sheet, rule_at}
 use Rattle.sheet.specs.Reading.{Result, accepted, refused}
-use Rattle.model.specs.laws.StaysLaw.{rule-row}
+use Rattle.model.proofs.laws.StaysLaw.{rule-row}
 use Rattle.block.specs.Layout.{pair, rule_target, inputs_of}
 use Rattle.block.specs.Tabled.{Tabled}
 use Rattle.adding.specs.declared.Pressed.{Pressed}

@@ -13,7 +13,7 @@ use Rattle.sheet.specs.WellFormed.{WellFormed}
 use Rattle.sheet.specs.laws.TablesLaw.{table_at}
 use Rattle.model.specs.Mutant.{Suspect, keep_open, suspects, slots, site_of}
 use Rattle.lists.specs.laws.ListLaw.{map-append, joined-append, up_to-snoc, length-joined-snoc}
-use Rattle.model.specs.laws.SuspectLaw.{at_count, slots_before, slot-count, site-outside, site-number}
+use Rattle.model.proofs.laws.SuspectLaw.{at_count, slots_before, slot-count, site-outside, site-number}
 use Rattle.block.specs.Sites.{open_at, open_choices, Numbered}
 use Rattle.block.specs.declared.sites.Sites.{Sites}
 

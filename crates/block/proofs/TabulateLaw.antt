@@ -10,7 +10,7 @@ use Rattle.sheet.specs.Tables.{Tables, tables_of, by_pair, first_fault}
 use Rattle.sheet.specs.laws.TablesLaw.{table_at}
 use Rattle.sheet.specs.laws.WakingLaw.{wakings-at}
 use Rattle.model.specs.Mutant.{slots, start_slot}
-use Rattle.model.specs.laws.SuspectLaw.{slot-count}
+use Rattle.model.proofs.laws.SuspectLaw.{slot-count}
 use Rattle.block.specs.declared.sites.Sites.{Sites}
 use Rattle.block.specs.Sites.{waking_first, open_choices, Numbered}
 use Rattle.block.specs.Packing.{Copied, FirstCopied, ChoicesCopied}

@@ -13,7 +13,7 @@ use Rattle.model.specs.Mutant.{slots, IsMutant, step, initial}
 use Rattle.model.specs.Compare.{compare_pair, found}
 use Rattle.model.specs.Log.{failed_in}
 use Rattle.model.specs.Suite.{Place, first_failed_of, Passes, compare_of}
-use Rattle.model.specs.laws.StaysLaw.{start-below}
+use Rattle.model.proofs.laws.StaysLaw.{start-below}
 use Rattle.block.specs.Layout.{states_of, waking}
 use Rattle.block.specs.Tabulated.{Wf, choices_at, chosen, step_of, start_of}
 use Rattle.block.specs.Logged.{observations}

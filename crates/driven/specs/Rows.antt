@@ -11,7 +11,7 @@ use Rattle.station.specs.declared.State.{State}
 use Rattle.station.specs.declared.Step.TheVariants.{Reset, Input, Pass, Failure}
 use Rattle.station.specs.Station.{fresh, suited, beginning, current, input_at, nexting, expected, taking, same, head_bytes, agrees, changing}
 use Rattle.station.specs.Calls.{GivesPass, GivesFailure, got_from, got_in, taken_in, PassMeans, FailureMeans}
-use Rattle.station.specs.laws.PassedLaw.{pass-told, failure-told}
+use Rattle.station.proofs.laws.PassedLaw.{pass-told, failure-told}
 use Rattle.driven.specs.Histories.{Action, go, hear, swap, Answer, given, right, goes_on, refusal, driven, calls, answer_of, history, At, some_at}
 
 -- ---- sheets beside P2, whose one test is aba

@@ -11,12 +11,12 @@ use Rattle.writing.specs.declared.Written.{Written}
 use Rattle.writing.specs.declared.Written.TheVariants as written
 use Rattle.writing.specs.Drawing.{drawing, drawing_of}
 use Rattle.writing.specs.Writing.{writing, written_answer, sheet_writes}
-use Rattle.writing.specs.laws.WritingLaw.{refuses, writes, written-again}
+use Rattle.writing.proofs.laws.WritingLaw.{refuses, writes, written-again}
 use Rattle.generator.specs.declared.pairs.Place.{Place}
 use Rattle.generator.specs.Generating.{drafted, sheet_from, generating}
 use Rattle.generator.specs.Generated.{ToldGenerated}
 use Rattle.generator.specs.words.Standing.{Standing}
-use Rattle.generator.specs.laws.GeneratedLaw.{short, read_back, generated}
+use Rattle.generator.proofs.laws.GeneratedLaw.{short, read_back, generated}
 
 module _ (seed : ℕ) (z : Size) (room : ℕ) where
   -- in range and with room, it is the sheet

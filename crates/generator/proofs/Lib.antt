@@ -1,3 +1,4 @@
+pub mod laws
 pub mod TableLaw
 pub mod StandingLaw
 pub mod GenerateLaw

@@ -9,13 +9,13 @@ use Rattle.sheet.specs.Sheet.{row_of}
 use Rattle.sheet.specs.WellFormed.{SizeIn}
 use Rattle.lists.specs.laws.ListLaw.{joined-append}
 use Rattle.writing.specs.words.Spelled.{Spelled}
-use Rattle.writing.specs.laws.SpelledLaw.{spelled_none, spelled-both}
+use Rattle.writing.proofs.laws.SpelledLaw.{spelled_none, spelled-both}
 use Rattle.generator.specs.declared.pairs.Pair.{Pair}
 use Rattle.generator.specs.declared.pairs.Place.{Place}
 use Rattle.generator.specs.Generating.{third, drawn, rule_from, is_faulty, fault_of, Draft, with_pair, drafted}
 use Rattle.generator.specs.words.Standing.{pair_from, faults_of, Ready, PairPut, Standing}
-use Rattle.generator.specs.laws.DraftLaw.{drafts}
-use Rattle.generator.specs.laws.GeneratedLaw.{few-pairs}
+use Rattle.generator.proofs.laws.DraftLaw.{drafts}
+use Rattle.generator.proofs.laws.GeneratedLaw.{few-pairs}
 
 -- ---- a pair gets a fault or none
 

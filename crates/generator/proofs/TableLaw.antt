@@ -3,7 +3,7 @@ use Rattle.std.proofs.Common.{◌≡◌, ℕ, ◌+◌, ◌<◌, ◌≤◌, List,
 use Rattle.sheet.specs.declared.Row.{Row}
 use Rattle.sheet.specs.Sheet.{row_of}
 use Rattle.writing.specs.words.Spelled.{Spelled}
-use Rattle.writing.specs.laws.SpelledLaw.{spelled_none, spelled-byte, spelled-both}
+use Rattle.writing.proofs.laws.SpelledLaw.{spelled_none, spelled-byte, spelled-both}
 
 -- one byte more
 next : {old new : List ℕ} {at to : ℕ} {bytes : List ℕ} (b j : ℕ) → j ≡ to → j < length new → Spelled old new at to bytes → Spelled old (set new j b) at (j + 1) (bytes ++ b ∷ [])

@@ -1,4 +1,3 @@
 pub mod Generating
 pub mod Generated
 pub mod words
-pub mod laws

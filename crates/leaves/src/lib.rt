@@ -3,6 +3,7 @@
 // Called by `walks`, `cursors`, `pairs`, `store`, `nodes`, `refutation`, `search`, `clearing` and `pool`.
 
 #![tactic(auto)]
+
 mod notes;
 
 ghost use Rattle.std.specs.Prelude.{◌≡◌, ◌+◌, ◌*◌, ◌%◌, ◌^◌, ◌<◌, true, false, length};

@@ -4,7 +4,7 @@ use mathlib.Core.List.{append_assoc, append-nil}
 use lib.Seq.{take-suc-set}
 use Rattle.lists.specs.Lists.{joined}
 use Rattle.model.specs.Log.{Observation, reset, seen, test_log, tests_log}
-use Rattle.model.specs.laws.SuiteLaw.{Following, specified-uncons}
+use Rattle.model.proofs.laws.SuiteLaw.{Following, specified-uncons}
 use Rattle.block.specs.Layout.{pair, rule_output, rule_target}
 use Rattle.block.specs.Tabulated.{rule_of}
 use Rattle.block.specs.laws.ChoiceLaw.{RuleAt, rule-at}

@@ -8,8 +8,8 @@ use lib.ListN.{length, get_or}
 use Rattle.sheet.specs.Sheet.{Sheet}
 use Rattle.model.specs.Mutant.{slots, IsMutant}
 use Rattle.model.specs.Operations.{with_mutant}
-use Rattle.model.specs.laws.SuspectLaw.{slot-count}
-use Rattle.model.specs.laws.OperationLaw.{in-range, first-high}
+use Rattle.model.proofs.laws.SuspectLaw.{slot-count}
+use Rattle.model.proofs.laws.OperationLaw.{in-range, first-high}
 use Rattle.block.specs.Layout.{waking, choices_of, states_of, slots_of}
 use Rattle.block.specs.Tabulated.{choices_at, chosen, step_of, start_of}
 use Rattle.block.specs.Tabled.{Tabled}

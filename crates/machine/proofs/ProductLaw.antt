@@ -12,7 +12,7 @@ use lib.ListN.{get_or}
 use Rattle.lists.specs.Lists.{maybe}
 use Rattle.lists.specs.laws.TestLaw.{never}
 use Rattle.model.specs.Machine.{Move, Pair}
-use Rattle.model.specs.laws.StaysLaw.{Closed}
+use Rattle.model.proofs.laws.StaysLaw.{Closed}
 use Rattle.block.specs.Layout.{pair, rule_output, rule_target, states_of, inputs_of}
 use Rattle.block.specs.Tabulated.{rule_of}
 use Rattle.block.specs.laws.ChoiceLaw.{rule-at}

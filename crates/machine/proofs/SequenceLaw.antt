@@ -11,8 +11,8 @@ use Rattle.sheet.specs.laws.RowLaw.{before-trans, before-irreflexive}
 use Rattle.model.specs.Machine.{Pair, DistinguishesFrom}
 use Rattle.model.specs.Compare.{compare_from, compare_pair}
 use Rattle.model.specs.Verdict.{After}
-use Rattle.model.specs.laws.StaysLaw.{Closed}
-use Rattle.model.specs.laws.CompareLaw.{compare-none, compare-some, conforming-not}
+use Rattle.model.proofs.laws.StaysLaw.{Closed}
+use Rattle.model.proofs.laws.CompareLaw.{compare-none, compare-some, conforming-not}
 
 -- the same sequence, or a later one
 abbrev pub AtMost : List ℕ → List ℕ → Type 0

@@ -17,8 +17,8 @@ use Rattle.sheet.specs.laws.ReachedLaw.{count_most}
 use Rattle.model.specs.Machine.{Pair, DistinguishesFrom}
 use Rattle.model.specs.Compare.{compare_pair, found}
 use Rattle.model.specs.Verdict.{After}
-use Rattle.model.specs.laws.StaysLaw.{Closed}
-use Rattle.model.specs.laws.CompareLaw.{Shown, dist-uncons, dist-one, dist-cons, dist-nil}
+use Rattle.model.proofs.laws.StaysLaw.{Closed}
+use Rattle.model.proofs.laws.CompareLaw.{Shown, dist-uncons, dist-one, dist-cons, dist-nil}
 use Rattle.machine.specs.declared.product.Led.{Led}
 use Rattle.machine.specs.declared.product.Led.TheVariants as led
 use Rattle.machine.specs.declared.product.Expanded.TheVariants as expanded

@@ -15,7 +15,7 @@ use Rattle.model.specs.Machine.{Move}
 use Rattle.model.specs.Mutant.{rule}
 use Rattle.model.specs.Log.{Observation, reset, test_log, tests_log, suite_log}
 use Rattle.model.specs.Longer.{with_test}
-use Rattle.model.specs.laws.LongerLaw.{rule-longer, body-longer, encode-longer, well-formed-longer}
+use Rattle.model.proofs.laws.LongerLaw.{rule-longer, body-longer, encode-longer, well-formed-longer}
 use Rattle.block.specs.Logged.{log_bytes}
 use Rattle.block.specs.laws.LoggedLaw.{bytes-append}
 use Rattle.block.specs.Tabulated.{rule_of}

@@ -19,9 +19,9 @@ use Rattle.model.specs.Mutant.{rule}
 use Rattle.model.specs.Longer.{with_test}
 use Rattle.model.specs.Making.{Grown}
 use Rattle.model.specs.Verdict.{ShortestOf}
-use Rattle.model.specs.laws.JudgeLaw.{judge-none, judged-survivor}
-use Rattle.model.specs.laws.LongerLaw.{encode-longer, shortest-test}
-use Rattle.model.specs.laws.MakingLaw.{grow-complete, grow-more, grow-full}
+use Rattle.model.proofs.laws.JudgeLaw.{judge-none, judged-survivor}
+use Rattle.model.proofs.laws.LongerLaw.{encode-longer, shortest-test}
+use Rattle.model.proofs.laws.MakingLaw.{grow-complete, grow-more, grow-full}
 use Rattle.block.specs.Layout.{states_of}
 use Rattle.block.specs.Tabulated.{Wf}
 use Rattle.block.specs.laws.TabledLaw.{well-formed}

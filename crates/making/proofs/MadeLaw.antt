@@ -17,9 +17,9 @@ use Rattle.sheet.specs.Encode.{body, encode}
 use Rattle.sheet.specs.Reading.{Result, accepted, refused, Reading, reading}
 use Rattle.sheet.specs.Tables.{read_answer}
 use Rattle.writing.specs.words.Spelled.{Spelled}
-use Rattle.writing.specs.laws.SpelledLaw.{spelled-front}
+use Rattle.writing.proofs.laws.SpelledLaw.{spelled-front}
 use Rattle.model.specs.Making.{Grown, grow_from, make_on, making, MadeMeans}
-use Rattle.model.specs.laws.MakingLaw.{made_told}
+use Rattle.model.proofs.laws.MakingLaw.{made_told}
 use Rattle.block.specs.Tabled.{ReadFrom}
 use Rattle.block.specs.laws.OpenedLaw.{closed-by}
 use Rattle.cubes.specs.declared.goal.Goal.{Goal}

@@ -14,10 +14,10 @@ use Rattle.sheet.specs.laws.PartLaw.{operands-length}
 use Rattle.sheet.specs.laws.WakingLaw.{no-choice, a-choice}
 use Rattle.model.specs.Operations.{refuse_if}
 use Rattle.writing.specs.words.Spelled.{Spelled}
-use Rattle.writing.specs.laws.SpelledLaw.{spelled-front}
+use Rattle.writing.proofs.laws.SpelledLaw.{spelled-front}
 use Rattle.renaming.specs.Ordering.{union, only}
 use Rattle.renaming.specs.Merging.{merged, bare, equal, limited, merge_on, SameMachine, merge_of}
-use Rattle.renaming.specs.laws.MergedLaw.{equal-same, same-equal, same-machine}
+use Rattle.renaming.proofs.laws.MergedLaw.{equal-same, same-equal, same-machine}
 use Rattle.merging.specs.declared.Merged.{Merged}
 use Rattle.merging.specs.declared.Merged.TheVariants as answer
 use Rattle.merging.specs.declared.outline.Outline.{Outline}

@@ -16,9 +16,9 @@ use Rattle.model.specs.Suite.{Judgement, complete, judge_of}
 use Rattle.model.specs.Operations.{refuse_if, judge_on, judging}
 use Rattle.model.specs.Verdict.{Complete}
 use Rattle.model.specs.Mutant.{slots}
-use Rattle.model.specs.laws.JudgeLaw.{judged-complete}
+use Rattle.model.proofs.laws.JudgeLaw.{judged-complete}
 use Rattle.renaming.specs.Merging.{Merge, merged, merging, merge_of, merge_on, SameMachine, Merges}
-use Rattle.renaming.specs.laws.MergedLaw.{first-refused, second-refused, merging-is, merged-told, merges}
+use Rattle.renaming.proofs.laws.MergedLaw.{first-refused, second-refused, merging-is, merged-told, merges}
 use Rattle.merging.specs.declared.Merged.{Merged}
 use Rattle.merging.specs.declared.Merged.TheVariants as answer
 use Rattle.merging.specs.Answers.{merged_answer, merged_writes, Refuses, Becomes, FoundBy, ToldMerge}

@@ -14,8 +14,8 @@ use Rattle.sheet.specs.laws.RowTableLaw.{at_true}
 use Rattle.sheet.specs.laws.TablesLaw.{table_at}
 use Rattle.renaming.specs.Ordering.{union}
 use Rattle.renaming.specs.Merging.{SameMachine, merged}
-use Rattle.renaming.specs.laws.SortLaw.{union-mem, mem-left, mem-right}
-use Rattle.renaming.specs.laws.RowsLaw.{row-keys, rows-mem, mem-rows}
+use Rattle.renaming.proofs.laws.SortLaw.{union-mem, mem-left, mem-right}
+use Rattle.renaming.proofs.laws.RowsLaw.{row-keys, rows-mem, mem-rows}
 use Rattle.merging.specs.words.Outlined.{either_open, open_both}
 
 -- what is true together is the same

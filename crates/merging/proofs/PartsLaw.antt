@@ -16,7 +16,7 @@ use Rattle.sheet.specs.laws.AcceptedLaw.{well-formed, short-enough}
 use Rattle.sheet.specs.laws.PartLaw.{operands-length}
 use Rattle.sheet.specs.laws.WakingLaw.{few-starts}
 use Rattle.renaming.specs.Ordering.{insert, union, only}
-use Rattle.renaming.specs.laws.PlaceLaw.{rises-only}
+use Rattle.renaming.proofs.laws.PlaceLaw.{rises-only}
 use Rattle.merging.specs.declared.outline.Outline.{Outline}
 use Rattle.merging.specs.words.Uniting.{itself, flat, united, Part}
 use Rattle.merging.specs.words.Outlined.{Known, head_bytes, between, Laid}

@@ -3,6 +3,7 @@
 // Called by `refutation`, which shows what its functions require.
 
 #![tactic(auto)]
+
 mod exchange;
 mod reflection;
 

@@ -13,4 +13,3 @@ pub mod Longer
 pub mod Relisted
 pub mod Making
 pub mod Tray
-pub mod laws

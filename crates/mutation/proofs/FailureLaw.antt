@@ -12,7 +12,7 @@ use Rattle.model.specs.Used.{mark, mark_all, counted}
 use Rattle.model.specs.Suite.{Place, first_failed_of, tried_of, finding_of}
 use Rattle.model.specs.Verdict.{FirstFailed}
 use Rattle.model.specs.Log.{failed_in}
-use Rattle.model.specs.laws.SuiteLaw.{specified-length, failed-means}
+use Rattle.model.proofs.laws.SuiteLaw.{specified-length, failed-means}
 use Rattle.block.specs.Logged.{observations}
 use Rattle.logs.specs.declared.walk.Wrong.{Wrong}
 use Rattle.logs.specs.declared.walk.Wrong.TheVariants as wrong

@@ -19,8 +19,8 @@ use Rattle.model.specs.Log.{Observation, suite_log}
 use Rattle.model.specs.Suite.{Judgement, complete, survivor, judge_of}
 use Rattle.model.specs.Operations.{judging, judge_on}
 use Rattle.model.specs.Verdict.{Complete, JudgedMeans}
-use Rattle.model.specs.laws.OperationLaw.{mutant-length}
-use Rattle.model.specs.laws.Demands.{judged-told, complete-told}
+use Rattle.model.proofs.laws.OperationLaw.{mutant-length}
+use Rattle.model.proofs.laws.Demands.{judged-told, complete-told}
 use Rattle.block.specs.Layout.{slots_of}
 use Rattle.block.specs.Tabled.{Tabled, ReadFrom}
 use Rattle.logs.specs.Suites.{Logged}

@@ -14,8 +14,8 @@ use Rattle.model.specs.Used.{Usage, used_on, Uses}
 use Rattle.model.specs.Suite.{Place, first_failed_of, tried_of, finding_of, compare_of}
 use Rattle.model.specs.Operations.{refuse_if, refuse_at, first_over, with_mutant, running, failing, comparing, compare_on, response_of, run_on}
 use Rattle.model.specs.Verdict.{RanMeans, UsedMeans, FailedMeans, ComparedMeans}
-use Rattle.model.specs.laws.OperationLaw.{none_over, mutant-goes-on}
-use Rattle.model.specs.laws.Demands.{ran-told, used-told, failed-told, compared-told}
+use Rattle.model.proofs.laws.OperationLaw.{none_over, mutant-goes-on}
+use Rattle.model.proofs.laws.Demands.{ran-told, used-told, failed-told, compared-told}
 use Rattle.mutation.specs.declared.Ran.{Ran}
 use Rattle.mutation.specs.declared.Failed.{Failed}
 use Rattle.mutation.specs.declared.Compared.{Compared}

@@ -17,8 +17,8 @@ use Rattle.model.specs.Compare.{compare_pair, found}
 use Rattle.model.specs.Used.{mark, mark_from, counted}
 use Rattle.model.specs.Suite.{finding_of, compare_of}
 use Rattle.model.specs.Operations.{refuse_if, refuse_at, first_over, with_mutant, compare_on, Response, response_of, run_on}
-use Rattle.model.specs.laws.StaysLaw.{start-below}
-use Rattle.model.specs.laws.OperationLaw.{mutant-goes-on, over_first, over_none}
+use Rattle.model.proofs.laws.StaysLaw.{start-below}
+use Rattle.model.proofs.laws.OperationLaw.{mutant-goes-on, over_first, over_none}
 use Rattle.block.specs.Layout.{states_of, inputs_of}
 use Rattle.block.specs.Tabled.{Tabled}
 use Rattle.machine.specs.declared.fitting.Fit.TheVariants as fit

@@ -9,8 +9,8 @@ use lib.Seq.{take-suc-set, append_snoc, drop-set-lt, drop-drop, drop-cons}
 use Rattle.model.specs.Machine.{outputs_from}
 use Rattle.model.specs.Used.{mark, mark_from}
 use Rattle.model.specs.Operations.{first_over}
-use Rattle.model.specs.laws.OperationLaw.{first-over, none_over}
-use Rattle.model.specs.laws.SuiteLaw.{outputs-length}
+use Rattle.model.proofs.laws.OperationLaw.{first-over, none_over}
+use Rattle.model.proofs.laws.SuiteLaw.{outputs-length}
 use Rattle.lists.specs.Lists.{index_or, overlay}
 use Rattle.block.specs.Layout.{pair, states_of}
 use Rattle.machine.specs.Product.{moves_in}

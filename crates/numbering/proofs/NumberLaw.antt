@@ -16,14 +16,14 @@ use Rattle.writing.specs.declared.Written.{Written}
 use Rattle.writing.specs.declared.Written.TheVariants as written
 use Rattle.writing.specs.Writing.{written_answer, sheet_writes}
 use Rattle.writing.specs.words.Spelled.{Spelled}
-use Rattle.writing.specs.laws.SpelledLaw.{spelled-front}
-use Rattle.writing.specs.laws.LengthLaw.{parts-length}
-use Rattle.writing.specs.laws.WritingLaw.{refuses, writes}
+use Rattle.writing.proofs.laws.SpelledLaw.{spelled-front}
+use Rattle.writing.proofs.laws.LengthLaw.{parts-length}
+use Rattle.writing.proofs.laws.WritingLaw.{refuses, writes}
 use Rattle.renaming.specs.Renaming.{renamed, Renames, number_of, numbered, numbering, Numbers}
-use Rattle.renaming.specs.laws.AgainLaw.{renamed-same}
-use Rattle.renaming.specs.laws.MetLaw.{numbers}
-use Rattle.renaming.specs.laws.NumberedLaw.{rows-length}
-use Rattle.renaming.specs.laws.NumberingLaw.{numbering-is, numbered-told}
+use Rattle.renaming.proofs.laws.AgainLaw.{renamed-same}
+use Rattle.renaming.proofs.laws.MetLaw.{numbers}
+use Rattle.renaming.proofs.laws.NumberedLaw.{rows-length}
+use Rattle.renaming.proofs.laws.NumberingLaw.{numbering-is, numbered-told}
 use Rattle.numbering.specs.declared.ordered.Parts.{Parts}
 use Rattle.numbering.specs.words.Searched.{Searched}
 use Rattle.numbering.specs.words.Ordered.{named, parts_by, Parted}

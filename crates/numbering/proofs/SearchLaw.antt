@@ -6,10 +6,10 @@ use Rattle.lists.specs.laws.ListLaw.{all-at-index}
 use Rattle.sheet.specs.declared.Row.{Row}
 use Rattle.sheet.specs.Sheet.{Sheet, rule_at}
 use Rattle.sheet.specs.words.Tabled.{place_of, rule_target}
-use Rattle.model.specs.laws.StaysLaw.{rule-row}
+use Rattle.model.proofs.laws.StaysLaw.{rule-row}
 use Rattle.renaming.specs.Renaming.{meet, meet_from, met_by, order, number_of}
-use Rattle.renaming.specs.laws.MetLaw.{Met, met-room, from-met, met-states}
-use Rattle.renaming.specs.laws.MarkLaw.{Marked, marked-old, unmarked, marked-new, marked-none, look-next, look_none, marked_all}
+use Rattle.renaming.proofs.laws.MetLaw.{Met, met-room, from-met, met-states}
+use Rattle.renaming.proofs.laws.MarkLaw.{Marked, marked-old, unmarked, marked-new, marked-none, look-next, look_none, marked_all}
 use Rattle.numbering.specs.words.Searched.{meet_next, Room, Searched}
 
 -- ---- one state

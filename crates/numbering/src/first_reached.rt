@@ -4,8 +4,8 @@ ghost use Rattle.std.specs.Prelude.{◌≡◌, List, ℕ, suc, ◌%◌, ◌<◌,
 ghost use Rattle.sheet.specs.Sheet.{Sheet};
 ghost use Rattle.sheet.specs.words.Tabled.{place_of};
 ghost use Rattle.renaming.specs.Renaming.{meet_from, met_by, number_of};
-ghost use Rattle.renaming.specs.laws.MetLaw.{Met};
-ghost use Rattle.renaming.specs.laws.MarkLaw.{Marked};
+ghost use Rattle.renaming.proofs.laws.MetLaw.{Met};
+ghost use Rattle.renaming.proofs.laws.MarkLaw.{Marked};
 ghost use Rattle.numbering.specs.words.Searched.{meet_next, Searched, Room};
 
 // By state.

@@ -16,7 +16,7 @@ use Rattle.model.specs.Compare.{found}
 use Rattle.model.specs.Suite.{compare_of}
 use Rattle.model.specs.Verdict.{ComparedMeans}
 use Rattle.model.specs.Walk.{Taken as Next}
-use Rattle.model.specs.laws.OperationLaw.{mutant-length}
+use Rattle.model.proofs.laws.OperationLaw.{mutant-length}
 use Rattle.block.specs.Layout.{slots_of}
 use Rattle.block.specs.Logged.{observations}
 use Rattle.block.specs.Tabulated.{rule_of}
@@ -39,9 +39,9 @@ use Rattle.records.specs.Record.{broken_from, broken_in, differs_from, differs_i
 use Rattle.records.specs.Means.{FirstDifference, GivesRecord, ExplainedMeans}
 use Rattle.records.specs.Steps.{place_of}
 use Rattle.records.specs.Answers.{recorded_by, recorded_answer, RecordedSays, ToldRecorded, compared_explained, explained_by, Explains, ExplainedSays, ToldExplained, Sized}
-use Rattle.records.specs.laws.ScanLaw.{whole, broken-at}
-use Rattle.records.specs.laws.DifferLaw.{first-difference}
-use Rattle.records.specs.laws.GivenLaw.{giving-none, giving-first, explained-means, given-means}
+use Rattle.records.proofs.laws.ScanLaw.{whole, broken-at}
+use Rattle.records.proofs.laws.DifferLaw.{first-difference}
+use Rattle.records.proofs.laws.GivenLaw.{giving-none, giving-first, explained-means, given-means}
 
 -- from the first mutant on
 pub from_front : {sh : Sheet} {m last : List ℕ} → Tabled sh m → Leaving sh m Front last

@@ -2,4 +2,3 @@ pub mod Record
 pub mod Means
 pub mod Answers
 pub mod Steps
-pub mod laws

@@ -16,14 +16,14 @@ use Rattle.sheet.specs.laws.AcceptedLaw.{well-formed}
 use Rattle.model.specs.Mutant.{slots}
 use Rattle.model.specs.Suite.{Judgement, complete, survivor, judge_of}
 use Rattle.model.specs.Operations.{reads, refuse_if, judging, judge_on}
-use Rattle.model.specs.laws.JudgeLaw.{judged-survivor}
-use Rattle.model.specs.laws.OperationLaw.{mutant-length}
-use Rattle.model.specs.laws.SuspectLaw.{slot-count}
+use Rattle.model.proofs.laws.JudgeLaw.{judged-survivor}
+use Rattle.model.proofs.laws.OperationLaw.{mutant-length}
+use Rattle.model.proofs.laws.SuspectLaw.{slot-count}
 use Rattle.mutation.specs.declared.verdict.Judged.TheVariants as judged
 use Rattle.lists.specs.Lists.{overlay}
 use Rattle.mutation.specs.Judging.{judged_answer, board_writes, sequence_writes}
 use Rattle.writing.specs.words.Spelled.{Spelled}
-use Rattle.writing.specs.laws.SpelledLaw.{spelled-front}
+use Rattle.writing.proofs.laws.SpelledLaw.{spelled-front}
 use Rattle.report.specs.Text.{Prints, complete_text, survivor_lines, refused_line, text_of, text_in, suspects_in}
 
 -- a buffer that is too small is left as it was

@@ -6,11 +6,13 @@ use Rattle.sheet.specs.Sheet.{Sheet}
 use Rattle.sheet.specs.laws.RowLaw.{before-irreflexive}
 use Rattle.model.specs.Mutant.{slots, IsMutant}
 use Rattle.model.specs.Log.{Observation}
-use Rattle.model.specs.laws.SuspectLaw.{slot-count}
-use Rattle.model.specs.laws.OperationLaw.{mutant-length, in-range-at}
+use Rattle.model.proofs.laws.SuspectLaw.{slot-count}
+use Rattle.model.proofs.laws.OperationLaw.{mutant-length, in-range-at}
 use Rattle.block.specs.Layout.{slots_of}
+use Rattle.block.specs.Logged.{observations}
 use Rattle.block.specs.laws.TabledLaw.{get_d_default, slot-few}
 use Rattle.cubes.specs.declared.goal.Goal.{Goal}
+use Rattle.refutation.specs.Lent.{StoreOk}
 use Rattle.search.specs.declared.settle.Found.{Found}
 use Rattle.search.specs.declared.settle.Found.TheVariants.{Nothing, First, GaveUp}
 use Rattle.search.specs.declared.settle.Beginning.{Beginning}
@@ -171,3 +173,11 @@ module _ {sh : Sheet} {m last : List ℕ} (le : Leaving sh m After last) where
               inside : i < length last
               inside = omega (arith, h.searching.prefix.within, long)
       left-found GaveUp q n a = tt
+
+-- ---- what `search_after` has at each turn: of the mutants that have the first i choices none that stands after is wanted
+pub record Going (goal : Goal) (block log last store₀ store notes₀ notes p : List ℕ) (i : ℕ) : Type 0 where
+  pub left : (sh : Sheet) → Leaving sh block After last → Left goal sh (observations log) block last p i
+  pub low : i ≤ 32
+  pub ok : StoreOk goal block log store
+  pub same_store : length store ≡ length store₀
+  pub same-notes : length notes ≡ length notes₀

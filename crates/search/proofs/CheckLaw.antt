@@ -8,10 +8,10 @@ use Rattle.model.specs.Mutant.{slots, IsMutant, step, initial}
 use Rattle.model.specs.Compare.{compare_pair, found}
 use Rattle.model.specs.Suite.{Place, compare_of}
 use Rattle.model.specs.Log.{failed_in}
-use Rattle.model.specs.laws.LogLaw.{none-gives}
-use Rattle.model.specs.laws.StaysLaw.{start-below}
-use Rattle.model.specs.laws.SuspectLaw.{slot-count}
-use Rattle.model.specs.laws.OperationLaw.{mutant-length, in-range-at}
+use Rattle.model.proofs.laws.LogLaw.{none-gives}
+use Rattle.model.proofs.laws.StaysLaw.{start-below}
+use Rattle.model.proofs.laws.SuspectLaw.{slot-count}
+use Rattle.model.proofs.laws.OperationLaw.{mutant-length, in-range-at}
 use Rattle.block.specs.Layout.{waking, states_of, slots_of}
 use Rattle.block.specs.Tabulated.{Wf, choices_at, chosen, step_of, start_of}
 use Rattle.block.specs.Logged.{observations}

@@ -8,9 +8,9 @@ use Rattle.sheet.specs.laws.RowLaw.{before-irreflexive}
 use Rattle.model.specs.Mutant.{slots, IsMutant}
 use Rattle.model.specs.Suite.{compare_of}
 use Rattle.model.specs.Log.{Observation}
-use Rattle.model.specs.laws.JudgeLaw.{some-nonconforming}
-use Rattle.model.specs.laws.SuspectLaw.{slot-count}
-use Rattle.model.specs.laws.OperationLaw.{mutant-length, in-range-at, in-range}
+use Rattle.model.proofs.laws.JudgeLaw.{some-nonconforming}
+use Rattle.model.proofs.laws.SuspectLaw.{slot-count}
+use Rattle.model.proofs.laws.OperationLaw.{mutant-length, in-range-at, in-range}
 use Rattle.block.specs.Layout.{choices_of, slots_of}
 use Rattle.block.specs.Logged.{observations}
 use Rattle.block.specs.Tabled.{Tabled}
@@ -19,6 +19,7 @@ use Rattle.cubes.specs.Cube.{Sought, Meets as Asked, Extends, NoneIf}
 use Rattle.cubes.specs.declared.goal.Goal.{Goal}
 use Rattle.cubes.specs.declared.goal.Goal.TheVariants.{Any, Nonconforming}
 use Rattle.refutation.specs.Refuting.{Ready}
+use Rattle.refutation.specs.Lent.{StoreOk}
 use Rattle.search.specs.declared.settle.Found.{Found}
 use Rattle.search.specs.declared.settle.Found.TheVariants.{Nothing, First, GaveUp}
 use Rattle.search.specs.contracts.settle.Found.{the_type}
@@ -280,3 +281,11 @@ given-none n =
       yes = λ e. never (cc);
       no = λ e h. n.at h.mutant h.is (record { at = λ j k. absurd (omega arith) }, omega arith) (record { gives = h.gives; meets = tt });
     }
+
+-- ---- what `search_from` has before each choice c: those from `from` on and below c lead to no wanted mutant
+pub record Trying (goal : Goal) (block log p : List ℕ) (i from k : ℕ) (store₀ store notes₀ notes : List ℕ) (c : ℕ) : Type 0 where
+  pub tried : (sh : Sheet) → Searching sh block p i → Tried goal sh (observations log) p i from c
+  pub low : from ≤ c
+  pub ok : StoreOk goal block log store
+  pub same_store : length store ≡ length store₀
+  pub same-notes : length notes ≡ length notes₀

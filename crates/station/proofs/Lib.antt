@@ -1,3 +1,4 @@
+pub mod laws
 -- What the proofs of the functions share.
 mod ReadLaw
 mod PressLaw

@@ -23,7 +23,7 @@ use Rattle.sheet.specs.laws.EncodedLaw.{encoded}
 use Rattle.sheet.specs.laws.InjectiveLaw.{tests_on, starts_on, faults_on, rules_on, encode-parts, rules-else}
 use Rattle.sheet.specs.laws.PartLaw.{presses-length}
 use Rattle.station.specs.Station.{same, head_bytes, agrees, agrees_with}
-use Rattle.station.specs.laws.AgreeLaw.{same_true, same_self}
+use Rattle.station.proofs.laws.AgreeLaw.{same_true, same_self}
 use Rattle.station.specs.words.Parts.{least_of, RulesOf, TestsOf, HeadIn, TestsIn}
 
 -- ---- equal bytes

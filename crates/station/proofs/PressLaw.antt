@@ -16,7 +16,7 @@ use Rattle.sheet.specs.Part.{parting, part_of}
 use Rattle.sheet.specs.laws.PartLaw.{presses-length, part-presses}
 use Rattle.station.specs.declared.steps.Found.TheVariants as found
 use Rattle.station.specs.Station.{current, element_at}
-use Rattle.station.specs.laws.ProgressLaw.{element-at, element-out}
+use Rattle.station.proofs.laws.ProgressLaw.{element-at, element-out}
 use Rattle.station.specs.words.Parts.{found_of}
 
 pub presses-at : (t : List ℕ) (i : ℕ) → i < length t → get_or (press_bytes t) (2 * i + 1) 0 ≡ get_or t i 0

@@ -18,7 +18,7 @@ use Rattle.sheet.specs.laws.AcceptedLaw.{well-formed}
 use Rattle.model.specs.Mutant.{slots}
 use Rattle.model.specs.Suite.{Judgement, complete, survivor, judge_of}
 use Rattle.model.specs.Operations.{reads, refuse_if, judge_on, judging}
-use Rattle.model.specs.laws.SuspectLaw.{slot-count}
+use Rattle.model.proofs.laws.SuspectLaw.{slot-count}
 use Rattle.mutation.specs.Judging.{judgement_answer, judged_answer}
 use Rattle.station.specs.Station.{is_complete, suited}
 use Rattle.station.specs.words.Parts.{suited_answer, suited_by}

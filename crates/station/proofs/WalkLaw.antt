@@ -21,15 +21,15 @@ use Rattle.sheet.specs.laws.AcceptedLaw.{well-formed}
 use Rattle.sheet.specs.laws.TablesLaw.{table-length, table_at}
 use Rattle.model.specs.Machine.{specified_from}
 use Rattle.model.specs.Mutant.{move_of, rule, specified}
-use Rattle.model.specs.laws.StaysLaw.{rule-row}
-use Rattle.model.specs.laws.SuiteLaw.{Following, specified-uncons, after-specified, specified-length}
+use Rattle.model.proofs.laws.StaysLaw.{rule-row}
+use Rattle.model.proofs.laws.SuiteLaw.{Following, specified-uncons, after-specified, specified-length}
 use Rattle.station.specs.declared.steps.Found.TheVariants as found
 use Rattle.station.specs.declared.Phase.{Phase}
 use Rattle.station.specs.declared.Phase.TheVariants as phase
 use Rattle.station.specs.declared.State.{State}
 use Rattle.station.specs.Station.{current, element_at, expected, due_by}
 use Rattle.station.specs.words.Parts.{found_of, Ruled, Walk}
-use Rattle.station.specs.laws.ProgressLaw.{element-some, element-out, expected-short}
+use Rattle.station.proofs.laws.ProgressLaw.{element-some, element-out, expected-short}
 use Rattle.station.proofs.PressLaw.{presses-at, part_length}
 
 -- ---- the tables

@@ -3,4 +3,3 @@ pub mod Answers
 pub mod Calls
 pub mod Told
 pub mod words
-pub mod laws

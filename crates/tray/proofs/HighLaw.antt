@@ -9,7 +9,7 @@ use Rattle.sheet.specs.Reading.{accepted}
 use Rattle.model.specs.Mutant.{slots, later, IsMutant}
 use Rattle.model.specs.Operations.{first_high, with_mutant, refuse_if, refuse_at}
 use Rattle.model.specs.Tray.{slots_for}
-use Rattle.model.specs.laws.OperationLaw.{high-first, mutant-high}
+use Rattle.model.proofs.laws.OperationLaw.{high-first, mutant-high}
 use Rattle.machine.specs.declared.fitting.Fit.{Fit}
 use Rattle.machine.specs.declared.fitting.Fit.TheVariants as fit
 use Rattle.machine.specs.Fits.{fit_answer, fit_of}

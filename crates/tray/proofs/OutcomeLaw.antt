@@ -12,8 +12,8 @@ use Rattle.model.specs.Mutant.{slots, IsMutant}
 use Rattle.model.specs.Suite.{first_failed_of, finding_of}
 use Rattle.model.specs.Operations.{first_high, failing}
 use Rattle.model.specs.Tray.{result_of, boards_in, slots_for, try_on, trying, board_at}
-use Rattle.model.specs.laws.OperationLaw.{high-first, is-mutant, choice-too-high}
-use Rattle.model.specs.laws.TrayLaw.{tray-told}
+use Rattle.model.proofs.laws.OperationLaw.{high-first, is-mutant, choice-too-high}
+use Rattle.model.proofs.laws.TrayLaw.{tray-told}
 use Rattle.block.specs.laws.OpenedLaw.{closed-by}
 use Rattle.tray.specs.declared.Tried.{Tried}
 use Rattle.tray.specs.declared.Tried.TheVariants as tried

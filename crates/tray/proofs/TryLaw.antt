@@ -12,7 +12,7 @@ use Rattle.model.specs.Log.{failed_in}
 use Rattle.model.specs.Suite.{Place, first_failed_of}
 use Rattle.model.specs.Verdict.{FailedMeans}
 use Rattle.model.specs.Tray.{result_of, boards_in, board_at}
-use Rattle.model.specs.laws.SuiteLaw.{failed-means}
+use Rattle.model.proofs.laws.SuiteLaw.{failed-means}
 use Rattle.block.specs.Logged.{observations}
 use Rattle.logs.specs.declared.walk.Wrong.{Wrong}
 use Rattle.logs.specs.declared.walk.Wrong.TheVariants as wrong

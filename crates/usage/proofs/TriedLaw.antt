@@ -7,7 +7,7 @@ use mathlib.Core.List.{List, [], ◌∷◌}
 use lib.ListN.{length, get_or, take}
 use Rattle.model.specs.Used.{mark, mark_from, mark_all}
 use Rattle.model.specs.Suite.{tried_of}
-use Rattle.model.specs.laws.UsedLaw.{mark-append}
+use Rattle.model.proofs.laws.UsedLaw.{mark-append}
 use Rattle.block.specs.Layout.{pair}
 use Rattle.logs.specs.Tests.{inputs_at, tests_from, tests_at}
 use Rattle.logs.specs.laws.TestsLaw.{inputs-more, tests-more}

@@ -1,2 +1,3 @@
+pub mod laws
 -- What the proofs of the functions share.
 mod TakingLaw

@@ -24,9 +24,9 @@ use Rattle.model.specs.Operations.{refuse_if}
 use Rattle.model.specs.Verdict.{ComparedMeans}
 use Rattle.model.specs.Walk.{Standing, start, after, end, with_standing, take_of, take_on, taking, Remains, TakenMeans}
 use Rattle.model.specs.Walk.{Taken as Next}
-use Rattle.model.specs.laws.OperationLaw.{mutant-length}
-use Rattle.model.specs.laws.LogLaw.{passes-gives}
-use Rattle.model.specs.laws.WalkLaw.{rest_end, take_none, take-some, taken-means}
+use Rattle.model.proofs.laws.OperationLaw.{mutant-length}
+use Rattle.model.proofs.laws.LogLaw.{passes-gives}
+use Rattle.model.proofs.laws.WalkLaw.{rest_end, take_none, take-some, taken-means}
 use Rattle.block.specs.Layout.{slots_of}
 use Rattle.block.specs.Tabled.{Tabled, ReadFrom}
 use Rattle.logs.specs.Suites.{Logged}
@@ -50,7 +50,7 @@ use Rattle.walking.specs.declared.Place.{Place}
 use Rattle.walking.specs.declared.Place.TheVariants as place
 use Rattle.walking.specs.declared.Taken.{Taken}
 use Rattle.walking.specs.declared.Taken.TheVariants as taken
-use Rattle.walking.specs.laws.TurnLaw.{goes_on}
+use Rattle.walking.proofs.laws.TurnLaw.{goes_on}
 use Rattle.walking.specs.Taking.{standing, standing_from, compared_taken, taken_by, Takes, TakenSays, LastIs, ToldTaken}
 
 -- what comes after 13 and 14

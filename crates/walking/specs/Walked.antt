@@ -13,7 +13,7 @@ use Rattle.model.specs.Suite.{Passes, Judgement, complete, judge_of, or_else}
 use Rattle.model.specs.Verdict.{ComparedMeans}
 use Rattle.model.specs.Walk.{Standing, start, after, end, taking, Remains}
 use Rattle.model.specs.Walk.{Taken as Next}
-use Rattle.model.specs.laws.WalkLaw.{Once}
+use Rattle.model.proofs.laws.WalkLaw.{Once}
 use Rattle.walking.specs.declared.Taken.{Taken}
 use Rattle.walking.specs.declared.Taken.TheVariants as taken
 use Rattle.walking.specs.Taking.{Takes, LastIs}

@@ -72,3 +72,11 @@ none-conforming f = record { at = λ b w g y. y.1 (f b w g) }
 -- a mutant with all the choices of the prefix has those used
 pub none-extends : {goal : Goal} {m log p : List ℕ} {used : ℕ} → NoneBy goal m log p used → (b : List ℕ) → Ranged m b → Extends b p → Sought goal m log b → ⊥
 none-extends none b w ex = none.at b w (record { at = λ j h. ex j })
+
+-- what stands before each choice; q is p, settled at the suspect by the choice before
+pub record Trying (goal : Goal) (m log p q : List ℕ) (i left end : ℕ) (place : Place) (c used : ℕ) : Type 0 where
+  pub split : SplitOk m p i left end
+  pub few : end ≤ 256
+  pub stands : Stands m log p place
+  pub tried : Tried goal m log p i c used
+  pub child : (v : ℕ) → set q i v ≡ set p i v

@@ -3,6 +3,7 @@
 // Called by `search`, `clearing` and `pool`, which show what it requires.
 
 #![tactic(auto)]
+
 mod blame;
 mod effort;
 mod reach;

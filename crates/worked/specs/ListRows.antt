@@ -7,7 +7,7 @@ use Rattle.sheet.specs.laws.AcceptedLaw.{well-formed}
 use Rattle.model.specs.Mutant.{slots}
 use Rattle.model.specs.Suite.{Judgement, complete, survivor}
 use Rattle.model.specs.Operations.{refuse_if, judge_on, judging}
-use Rattle.model.specs.laws.QuickJudgeLaw.{tabulate, cell_at, rounds, compare_quick, first_quick, judge_quick, quick}
+use Rattle.model.proofs.laws.QuickJudgeLaw.{tabulate, cell_at, rounds, compare_quick, first_quick, judge_quick, quick}
 use Rattle.worked.specs.Sheets.{p9machine, bababa}
 use Rattle.worked.specs.Rows.{computing, sheet_of}
 use Rattle.worked.specs.MadeRows.{babaaba, baa}

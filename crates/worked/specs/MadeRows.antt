@@ -8,8 +8,8 @@ use Rattle.sheet.specs.laws.AcceptedLaw.{well-formed}
 use Rattle.model.specs.Suite.{complete, survivor, judge_of}
 use Rattle.model.specs.Longer.{with_test}
 use Rattle.model.specs.Making.{Grown, grow_from, make_on, making}
-use Rattle.model.specs.laws.MakingLaw.{grow-complete, grow-more}
-use Rattle.model.specs.laws.QuickJudgeLaw.{tabulate, cell_at, rounds, compare_quick, first_quick, judge_quick, quick}
+use Rattle.model.proofs.laws.MakingLaw.{grow-complete, grow-more}
+use Rattle.model.proofs.laws.QuickJudgeLaw.{tabulate, cell_at, rounds, compare_quick, first_quick, judge_quick, quick}
 use Rattle.worked.specs.Sheets.{p1machine, p1, p2, p3, p4machine, p4, p5, p9machine, bababa, p9, p1start, p4quiet, p4silent}
 use Rattle.worked.specs.Rows.{computing, sheet_of}
 

@@ -7,7 +7,7 @@ use Rattle.sheet.specs.Encode.{body, encode}
 use Rattle.sheet.specs.laws.AcceptedLaw.{well-formed}
 use Rattle.model.specs.Suite.{survivor, judge_of}
 use Rattle.model.specs.Operations.{judging}
-use Rattle.model.specs.laws.QuickJudgeLaw.{tabulate, cell_at, rounds, compare_quick, first_quick, judge_quick, quick}
+use Rattle.model.proofs.laws.QuickJudgeLaw.{tabulate, cell_at, rounds, compare_quick, first_quick, judge_quick, quick}
 use Rattle.renaming.specs.Ordering.{insert, union, place_in}
 use Rattle.renaming.specs.Renaming.{meet_from, met_by, order, number_of, numbered, numbering}
 use Rattle.worked.specs.Sheets.{p9}

@@ -18,8 +18,8 @@ use Rattle.model.specs.Used.{has, mark_from, mark_all, Usage, used_on}
 use Rattle.model.specs.Compare.{least, shows, within, best, shortest, distance, compare_from, compare_pair}
 use Rattle.model.specs.Suite.{Judgement, complete, survivor, wrong_from, wrong_in, first_failed_in, first_failed_of, Finding, finding_of, compare_of, survivor_among, judge_of}
 use Rattle.model.specs.Operations.{reads, first_high, first_over, with_mutant, Response, response_of, running, failing, comparing, judging, run_on, compare_on, judge_on}
-use Rattle.model.specs.laws.UsedBitLaw.{ones-count}
-use Rattle.model.specs.laws.QuickJudgeLaw.{tabulate, cell_at, rounds, compare_quick, first_quick, judge_quick, quick}
+use Rattle.model.proofs.laws.UsedBitLaw.{ones-count}
+use Rattle.model.proofs.laws.QuickJudgeLaw.{tabulate, cell_at, rounds, compare_quick, first_quick, judge_quick, quick}
 use Rattle.worked.specs.Sheets.{p1machine, p1, p2, p3, empty_test, p4machine, p4, p5, p6, p9machine, bababa, p9, p10, stuck, chain, open32, open33, many_tests, p1start, only_rules, only_start, equal_start, start31, start32, p4silent, p4quiet, p4quiet_start, quiet200}
 
 -- the sheet that was read

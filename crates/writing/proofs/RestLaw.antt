@@ -10,7 +10,7 @@ use lib.Seq.{drop-drop, drop-cons}
 use borrow.Author.Tests.{eq-eqb, ne_eqb}
 use Rattle.sheet.specs.Encode.{row_bytes, operand_bytes, press_bytes, test_bytes}
 use Rattle.writing.specs.Drawing.{rows_of, tests_of, total}
-use Rattle.writing.specs.laws.SpelledLaw.{Next}
+use Rattle.writing.proofs.laws.SpelledLaw.{Next}
 
 first : (l : List ℕ) (i : ℕ) → i < length l → drop i l ≡ get_or l i 0 ∷ drop (i + 1) l
 first l i h = rw add-one (drop-cons l i 0 h)

@@ -22,10 +22,10 @@ use Rattle.writing.specs.declared.Written.TheVariants as written
 use Rattle.writing.specs.Drawing.{Drawing, is_cut, sheet_of}
 use Rattle.writing.specs.Writing.{placed, writing, written_answer, sheet_writes, Spells, ToldWritten}
 use Rattle.writing.specs.words.Spelled.{Spelled, length_of}
-use Rattle.writing.specs.laws.SpelledLaw.{spelled-front}
-use Rattle.writing.specs.laws.DrawingLaw.{whole}
-use Rattle.writing.specs.laws.LengthLaw.{sheet-length}
-use Rattle.writing.specs.laws.WritingLaw.{refuses, writes, spells, cut-refused, unread-refused, short-refused, written-again}
+use Rattle.writing.proofs.laws.SpelledLaw.{spelled-front}
+use Rattle.writing.proofs.laws.DrawingLaw.{whole}
+use Rattle.writing.proofs.laws.LengthLaw.{sheet-length}
+use Rattle.writing.proofs.laws.WritingLaw.{refuses, writes, spells, cut-refused, unread-refused, short-refused, written-again}
 
 -- the answer and the buffer are those of an outcome
 abbrev Puts : Result (List ℕ) → Written → List ℕ → List ℕ → Type 0

@@ -1,4 +1,3 @@
 pub mod Drawing
 pub mod Writing
 pub mod words
-pub mod laws

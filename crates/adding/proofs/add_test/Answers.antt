@@ -8,16 +8,15 @@ use Rattle.adding.proofs.add_test.Goals as goal
 
 pub returns-in_default : goal.returns-in_default
 returns-in_default c = let a = c.args in
-    let g = c.in_default.given in
-    let z = refusal-told _ _ _ _ c.refusal_of-why.ensures g.1 in
-    let x = add-refused a.sheet.now a.presses.now a.buffer.now c.load-reading.result g.0.0 g.0.1.0 _ c.load-reading.ensures.value g.1 (ap₂ Refused z.0 z.1) in record { answer = x.0.answer; bytes = x.0.bytes; told = x.1 }
+    let z = refusal-told _ _ _ _ c.refusal_of-why.ensures c.in_default.is in
+    let x = add-refused a.sheet.now a.presses.now a.buffer.now c.load-reading.result _ _ _ c.load-reading.ensures.value c.in_default.is (ap₂ Refused z.0 z.1) in record { answer = x.0.answer; bytes = x.0.bytes; told = x.1 }
 
 pub add_read-requires : goal.add_read-requires
 add_read-requires c = let a = c.args in
-    let x = opened a.sheet.now c.load-reading.ensures.value c.in-Accepted.is c.load-reading.ensures.block_len.1 in
+    let x = opened a.sheet.now c.load-reading.ensures.value c.in-Accepted.is c.load-reading.ensures.loads in
     (x.sheet, x.holds)
 
 pub returns : goal.returns
 returns c = let a = c.args in
-    let x = opened a.sheet.now c.load-reading.ensures.value c.in-Accepted.is c.load-reading.ensures.block_len.1 in
+    let x = opened a.sheet.now c.load-reading.ensures.value c.in-Accepted.is c.load-reading.ensures.loads in
     let y = add-accepted a.sheet.now a.presses.now a.buffer.now x.sheet x.is (c.add_read.ensures x.sheet x.holds) in record { answer = y.0.answer; bytes = y.0.bytes; told = y.1 }

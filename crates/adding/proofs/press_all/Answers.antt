@@ -15,7 +15,7 @@ returns-in-Refused c = pressing-stops c.loop-i.invariant c.loop-i-test.true c.pr
 pub loop-i-preserved : goal.loop-i-preserved
 loop-i-preserved c = 
     let e = c.press.ensures in
-    pressing-again c.loop-i.invariant c.loop-i-test.true e.0 c.in-To.is (e.1 _ c.in-To.is)
+    pressing-again c.loop-i.invariant c.loop-i-test.true e.value c.in-To.is (e.by_index _ c.in-To.is)
 
 pub returns : goal.returns
 returns c = pressing-all c.loop-i.invariant c.loop-i-test.false

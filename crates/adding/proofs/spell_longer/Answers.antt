@@ -3,7 +3,7 @@
 use Rattle.lists.specs.Proving.{rules, arith, sym, ◌≡◌, ◌-◌, length, take, List, ℕ}
 use lib.Seq.{length-take-le}
 use Rattle.sheet.specs.laws.PartLaw.{presses-length}
-use Rattle.writing.specs.laws.SpelledLaw.{spelled-both}
+use Rattle.writing.proofs.laws.SpelledLaw.{spelled-both}
 use Rattle.adding.proofs.spell_longer.Goals as goal
 
 but_last : (l : List ℕ) → length (take (length l - 1) l) ≡ length l - 1

@@ -15,8 +15,8 @@ use Rattle.writing.specs.declared.Written.{Written}
 use Rattle.writing.specs.declared.Written.TheVariants as written
 use Rattle.model.specs.Longer.{with_test}
 use Rattle.model.specs.Operations.{refuse_if}
-use Rattle.model.specs.laws.StaysLaw.{rule-row}
-use Rattle.model.specs.laws.LongerLaw.{well-formed-longer}
+use Rattle.model.proofs.laws.StaysLaw.{rule-row}
+use Rattle.model.proofs.laws.LongerLaw.{well-formed-longer}
 use Rattle.adding.specs.Adding.{onward, one_press, pressing, add_on, Adds, RefusedBy, PressRefused, ToldAdded}
 
 -- ---- the presses

@@ -12,11 +12,11 @@ use Rattle.model.specs.Machine.{Move}
 use Rattle.model.specs.Mutant.{move_of, rule, transitions, Suspect, suspects, slots, site_of, start_slot, IsMutant, idle, step, initial, against}
 use Rattle.model.specs.Log.{GivesLog}
 use Rattle.lists.specs.laws.AllLaw.{all-every, all-imp, all_map, all_append, all_replicate, all_get_d}
-use Rattle.model.specs.laws.StaysLaw.{rule-row, rule-in}
-use Rattle.model.specs.laws.SuspectLaw.{slots_before, slot-count, site-none, site-open, site-is, site-one, site-outside, waking-slot, waking-apart}
-use Rattle.model.specs.laws.TransitionLaw.{rule-choice, fault-choice, unruled-choice, only-choice, open-unruled, shut-unruled, choices-few, choices-some as some-choice}
-use Rattle.model.specs.laws.OperationLaw.{mutant-length, in-range-at}
-use Rattle.model.specs.laws.StepLaw.{step-at, step-outside, choice-below, choice_of as choice_at}
+use Rattle.model.proofs.laws.StaysLaw.{rule-row, rule-in}
+use Rattle.model.proofs.laws.SuspectLaw.{slots_before, slot-count, site-none, site-open, site-is, site-one, site-outside, waking-slot, waking-apart}
+use Rattle.model.proofs.laws.TransitionLaw.{rule-choice, fault-choice, unruled-choice, only-choice, open-unruled, shut-unruled, choices-few, choices-some as some-choice}
+use Rattle.model.proofs.laws.OperationLaw.{mutant-length, in-range-at}
+use Rattle.model.proofs.laws.StepLaw.{step-at, step-outside, choice-below, choice_of as choice_at}
 use Rattle.block.specs.Layout.{pair, waking, rule_output, rule_target, site_at, first_fault, mutated, diverted, choices_of}
 use Rattle.block.specs.Tabulated.{choices_at, choice_of, chosen, rule_of, step_of, start_of, pair_of, Ranged, Wf}
 use Rattle.block.specs.Logged.{GivesOf, observations}

@@ -7,10 +7,10 @@ use Rattle.std.proofs.Math.Pow.{high, ones_split}
 use Rattle.sheet.specs.Sheet.{Sheet}
 use Rattle.model.specs.Mutant.{slots, IsMutant}
 use Rattle.model.specs.Suite.{compare_of}
-use Rattle.model.specs.laws.JudgeLaw.{some-nonconforming}
-use Rattle.model.specs.laws.LogLaw.{passes-gives}
-use Rattle.model.specs.laws.OperationLaw.{mutant-length}
-use Rattle.model.specs.laws.SuspectLaw.{slot-count}
+use Rattle.model.proofs.laws.JudgeLaw.{some-nonconforming}
+use Rattle.model.proofs.laws.LogLaw.{passes-gives}
+use Rattle.model.proofs.laws.OperationLaw.{mutant-length}
+use Rattle.model.proofs.laws.SuspectLaw.{slot-count}
 use Rattle.block.specs.laws.TabledLaw.{start-same, pair_same, ranged, gives_same}
 use Rattle.cubes.specs.Sets.{Has}
 use Rattle.cubes.specs.Cube.{Sought}

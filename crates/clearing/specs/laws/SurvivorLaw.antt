@@ -6,9 +6,9 @@ use Rattle.lists.specs.Lists.{Before}
 use Rattle.sheet.specs.Sheet.{Sheet}
 use Rattle.model.specs.Mutant.{slots, IsMutant}
 use Rattle.model.specs.Suite.{survivor, judge_of}
-use Rattle.model.specs.laws.JudgeLaw.{judge-first}
-use Rattle.model.specs.laws.OperationLaw.{mutant-length, in-range}
-use Rattle.model.specs.laws.SuspectLaw.{slot-count}
+use Rattle.model.proofs.laws.JudgeLaw.{judge-first}
+use Rattle.model.proofs.laws.OperationLaw.{mutant-length, in-range}
+use Rattle.model.proofs.laws.SuspectLaw.{slot-count}
 use Rattle.block.specs.Tabled.{Tabled}
 use Rattle.block.specs.laws.TabledLaw.{get_d_default, slot-some}
 use Rattle.search.specs.Search.{mutant_in}

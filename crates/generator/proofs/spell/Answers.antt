@@ -3,7 +3,7 @@ use Rattle.std.proofs.Common.{ℕ, List, length, sym, ap, ◌∙◌, arith}
 use Rattle.lists.specs.Lists.{overlay}
 use Rattle.sheet.specs.Reading.{Result}
 use Rattle.writing.specs.Writing.{written_answer, sheet_writes}
-use Rattle.generator.specs.laws.GeneratedLaw.{few-pairs}
+use Rattle.generator.proofs.laws.GeneratedLaw.{few-pairs}
 use Rattle.generator.proofs.StandingLaw.{blank-ready, standing-few, standing-inside}
 use Rattle.generator.proofs.GenerateLaw.{written-tables}
 use Rattle.generator.proofs.spell.Goals as goal

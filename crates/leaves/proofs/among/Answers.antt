@@ -1,4 +1,4 @@
-use Rattle.lists.specs.Proving.{rules, eqb-true, eqb-false}
+use Rattle.lists.specs.Proving.{eqb-true, eqb-false}
 use Rattle.cubes.specs.Sets.{Has}
 use Rattle.leaves.proofs.among.Goals as goal
 

@@ -1,6 +1,5 @@
-use Rattle.lists.specs.Proving.{rules, arith, ◌-◌, ◌≤◌, ◌≡◌, refl, ◌∙◌, length, length-set}
+use Rattle.lists.specs.Proving.{◌-◌, ◌≤◌, ◌≡◌, length}
 use Rattle.leaves.specs.Members.{Exact}
-use Rattle.leaves.proofs.MembersLaw.{exact_none, exact-more, exact-all}
 use Rattle.leaves.proofs.exact.Given as goal
 
 abbrev pub invariant-loop-j : goal.invariant-loop-j

@@ -1,4 +1,4 @@
-use Rattle.lists.specs.Proving.{rules, arith, not-true, not-false}
+use Rattle.lists.specs.Proving.{rules, arith}
 use Rattle.leaves.proofs.MembersLaw.{means-only}
 use Rattle.leaves.proofs.exactly.Goals as goal
 

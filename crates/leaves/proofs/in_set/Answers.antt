@@ -1,4 +1,4 @@
-use Rattle.lists.specs.Proving.{rules, ℕ, ◌≡◌, subst, true, false}
+use Rattle.lists.specs.Proving.{ℕ, ◌≡◌, subst, true, false}
 use Rattle.cubes.specs.Sets.{Has}
 use Rattle.leaves.proofs.in_set.Goals as goal
 

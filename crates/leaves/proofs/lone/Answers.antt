@@ -1,9 +1,8 @@
-use Rattle.lists.specs.Proving.{rules}
 use Rattle.block.specs.laws.ChoiceLaw.{choice-lone}
 use Rattle.leaves.proofs.lone.Goals as goal
 
 pub returns : goal.returns
-returns c = 
+returns c =
     λ w e.
     let some = choice-lone _ _ e in
     let step = c.transition-step.ensures in

@@ -1,4 +1,4 @@
-use Rattle.lists.specs.Proving.{rules, ℕ, sym, subst}
+use Rattle.lists.specs.Proving.{ℕ, sym, subst}
 use Rattle.leaves.specs.Members.{Later}
 use Rattle.leaves.proofs.MembersLaw.{later-and}
 use Rattle.leaves.proofs.without_least.Goals as goal

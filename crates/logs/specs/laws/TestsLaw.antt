@@ -12,8 +12,8 @@ use Rattle.sheet.specs.laws.TablesLaw.{table_at}
 use Rattle.model.specs.Machine.{Move}
 use Rattle.model.specs.Mutant.{rule, specified}
 use Rattle.model.specs.Log.{tests_log, suite_log}
-use Rattle.model.specs.laws.StaysLaw.{rule-in}
-use Rattle.model.specs.laws.SuiteLaw.{Specified, test-specified}
+use Rattle.model.proofs.laws.StaysLaw.{rule-in}
+use Rattle.model.proofs.laws.SuiteLaw.{Specified, test-specified}
 use Rattle.logs.specs.Tests.{inputs_at, tests_from, tests_at, Low, TestsAt}
 
 -- the first input, and the first test, and those after it

@@ -7,8 +7,8 @@ use Rattle.model.specs.Machine.{Move}
 use Rattle.model.specs.Mutant.{step, initial}
 use Rattle.model.specs.Suite.{first_failed_of, Passes}
 use Rattle.model.specs.Log.{Observation, reset, seen, GivesFrom, GivesLog, failed_in, suite_log}
-use Rattle.model.specs.laws.StaysLaw.{start-below}
-use Rattle.model.specs.laws.LogLaw.{failed-log}
+use Rattle.model.proofs.laws.StaysLaw.{start-below}
+use Rattle.model.proofs.laws.LogLaw.{failed-log}
 use Rattle.block.specs.Layout.{pair}
 use Rattle.block.specs.Logged.{observations, LowSeen}
 use Rattle.logs.specs.Walked.{moves_in}

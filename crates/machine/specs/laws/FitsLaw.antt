@@ -10,7 +10,7 @@ use Rattle.sheet.specs.Reading.{Result, accepted, refused}
 use Rattle.lists.specs.laws.TestLaw.{never}
 use Rattle.model.specs.Mutant.{slots, IsMutant}
 use Rattle.model.specs.Operations.{first_high, with_mutant, refuse_if, refuse_at}
-use Rattle.model.specs.laws.OperationLaw.{mutant-goes-on, is-mutant}
+use Rattle.model.proofs.laws.OperationLaw.{mutant-goes-on, is-mutant}
 use Rattle.machine.specs.declared.fitting.Fit.TheVariants as fit
 use Rattle.machine.specs.Fits.{fit_answer, fit_of}
 

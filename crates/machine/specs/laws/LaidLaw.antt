@@ -11,8 +11,8 @@ use Rattle.std.proofs.Math.ListN.{get_or}
 use Rattle.sheet.specs.Sheet.{Sheet}
 use Rattle.model.specs.Machine.{Move}
 use Rattle.model.specs.Mutant.{IsMutant, idle, step, initial, against}
-use Rattle.model.specs.laws.StaysLaw.{step_in}
-use Rattle.model.specs.laws.StepLaw.{step-outside}
+use Rattle.model.proofs.laws.StaysLaw.{step_in}
+use Rattle.model.proofs.laws.StepLaw.{step-outside}
 use Rattle.block.specs.Layout.{pair, waking, site_at, states_of, inputs_of}
 use Rattle.block.specs.Tabulated.{choice_of, chosen, step_of, start_of}
 use Rattle.block.specs.Tabled.{Tabled}

@@ -7,16 +7,14 @@ use Rattle.merging.proofs.merge.Goals as goal
 
 pub returns-in_default : goal.returns-in_default
 returns-in_default c = let a = c.args in
-    let g = c.in_default.given in
-    let z = refusal-told _ _ _ _ c.refusal_of-why.ensures g.1 in
-    let w = whole-first a.first.now a.second.now a.buffer.now (refused-is a.first.now c.survey-a.ensures.reading_value g.1) z.0 z.1 in record { answer = w.answer; bytes = w.bytes; told = w.told }
+    let z = refusal-told _ _ _ _ c.refusal_of-why.ensures c.in_default.is in
+    let w = whole-first a.first.now a.second.now a.buffer.now (refused-is a.first.now c.survey-a.ensures.reading_value c.in_default.is) z.0 z.1 in record { answer = w.answer; bytes = w.bytes; told = w.told }
 
 pub returns-in_default-later : goal.returns-in_default-later
 returns-in_default-later c = let a = c.args in
     let v = seen a.first.now c.survey-a.ensures.reading_value c.survey-a.ensures.surveyed c.in-Accepted.is in
-    let g = c.in_default-later.given in
-    let z = refusal-told _ _ _ _ c.refusal_of-why-in_default-later.ensures g.1 in
-    let w = whole-second a.first.now a.second.now a.buffer.now v.is (refused-is a.second.now c.survey-b.ensures.reading_value g.1) z.0 z.1 in record { answer = w.answer; bytes = w.bytes; told = w.told }
+    let z = refusal-told _ _ _ _ c.refusal_of-why-in_default-later.ensures c.in_default-later.is in
+    let w = whole-second a.first.now a.second.now a.buffer.now v.is (refused-is a.second.now c.survey-b.ensures.reading_value c.in_default-later.is) z.0 z.1 in record { answer = w.answer; bytes = w.bytes; told = w.told }
 
 pub returns-then-buffer-lt16384 : goal.returns-then-buffer-lt16384
 returns-then-buffer-lt16384 c = let a = c.args in

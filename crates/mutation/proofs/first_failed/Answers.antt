@@ -10,9 +10,8 @@ use Rattle.mutation.proofs.first_failed.Goals as goal
 
 pub returns-in_default : goal.returns-in_default
 returns-in_default c = let a = c.args in
-    let g = c.in_default.given in
-    let z = refusal-told _ _ _ _ c.refusal_of-why.ensures g.1 in
-    let e = failing-refused a.sheet.now g.0.0 g.0.1.0 (closed-by a.sheet.now c.load-reading.ensures.value g.0.0 g.0.1.0 g.1) a.mutant.now in
+    let z = refusal-told _ _ _ _ c.refusal_of-why.ensures c.in_default.is in
+    let e = failing-refused a.sheet.now c.in_default.field-0 c.in_default.field-1 (closed-by a.sheet.now c.load-reading.ensures.value c.in_default.field-0 c.in_default.field-1 c.in_default.is) a.mutant.now in
     let answer = ap₂ Refused z.0 z.1 ∙ sym (ap failed_answer e) in record { answer = answer; told = told-failed a.sheet.now a.mutant.now _ answer }
 
 pub first_failed_accepted-requires : goal.first_failed_accepted-requires

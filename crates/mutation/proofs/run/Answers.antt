@@ -12,9 +12,8 @@ use Rattle.mutation.proofs.run.Goals as goal
 
 pub returns-in_default : goal.returns-in_default
 returns-in_default c = let a = c.args in
-    let g = c.in_default.given in
-    let z = refusal-told _ _ _ _ c.refusal_of-why.ensures g.1 in
-    let e = running-refused a.sheet.now g.0.0 g.0.1.0 (closed-by a.sheet.now c.load-reading.ensures.value g.0.0 g.0.1.0 g.1) a.mutant.now a.inputs.now (length a.buffer.now) in
+    let z = refusal-told _ _ _ _ c.refusal_of-why.ensures c.in_default.is in
+    let e = running-refused a.sheet.now c.in_default.field-0 c.in_default.field-1 (closed-by a.sheet.now c.load-reading.ensures.value c.in_default.field-0 c.in_default.field-1 c.in_default.is) a.mutant.now a.inputs.now (length a.buffer.now) in
     let answer = ap₂ Refused z.0 z.1 ∙ sym (ap ran_answer e) in
     let bytes = sym (ap (λ q. overlay (ran_writes q) a.buffer.now) e) in record { answer = answer; bytes = bytes; told = told-ran a.sheet.now a.mutant.now a.inputs.now (length a.buffer.now) _ a.buffer.now a.buffer.now answer bytes }
 

@@ -3,7 +3,7 @@ use Rattle.std.specs.Prelude.{ℕ, zero, suc, ◌+◌, ◌/◌, ◌%◌, ◌^◌
 use Rattle.std.proofs.Common.{pow-suc, arith, add-one, Fits, sym, ◌∙◌, ap, append_assoc, append-nil, length-append, length-take, take-suc, take_all, lt-ltb, le-ltb, ltb-true, ltb-false}
 use Rattle.std.specs.Int.{w8, w64}
 use Rattle.writing.specs.words.Spelled.{Spelled}
-use Rattle.writing.specs.laws.SpelledLaw.{spelled_none, spelled-both}
+use Rattle.writing.proofs.laws.SpelledLaw.{spelled_none, spelled-both}
 use Rattle.report.specs.Text.{decimal_from, decimal, fields, Prints}
 
 -- more fuel changes nothing

@@ -4,8 +4,8 @@ use Rattle.lists.specs.Lists.{overlay}
 use Rattle.sheet.specs.Sheet.{Sheet}
 use Rattle.model.specs.Suite.{Passes, compare_of, complete, survivor, judge_of}
 use Rattle.model.specs.Log.{suite_log}
-use Rattle.model.specs.laws.JudgeLaw.{judge-none, judge-first}
-use Rattle.model.specs.laws.LogLaw.{passes-gives}
+use Rattle.model.proofs.laws.JudgeLaw.{judge-none, judge-first}
+use Rattle.model.proofs.laws.LogLaw.{passes-gives}
 use Rattle.logs.specs.laws.WalkedLaw.{gives-passes}
 use Rattle.cubes.specs.declared.goal.Goal.TheVariants.{Nonconforming}
 use Rattle.machine.specs.declared.product.Difference.{Difference}

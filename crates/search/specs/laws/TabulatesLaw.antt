@@ -3,7 +3,7 @@ use Rattle.lists.specs.Proving.{arith, ℕ, ◌*◌, ◌/◌, ◌%◌, ◌<◌, 
 use Rattle.sheet.specs.Sheet.{Sheet}
 use Rattle.sheet.specs.WellFormed.{WellFormed}
 use Rattle.model.specs.Mutant.{step}
-use Rattle.model.specs.laws.StaysLaw.{step_in}
+use Rattle.model.proofs.laws.StaysLaw.{step_in}
 use Rattle.block.specs.Layout.{pair}
 use Rattle.logs.specs.laws.WalkedLaw.{Tabulates}
 use Rattle.machine.specs.Laid.{Moves}

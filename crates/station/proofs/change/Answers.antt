@@ -1,7 +1,7 @@
 use borrow.Author.Rules.{rules}
 use mathlib.Core.Path.{sym, ◌∙◌}
-use Rattle.station.specs.laws.ToldLaw.{changed-told}
-use Rattle.station.specs.laws.StandsLaw.{suited-as}
+use Rattle.station.proofs.laws.ToldLaw.{changed-told}
+use Rattle.station.proofs.laws.StandsLaw.{suited-as}
 use Rattle.station.proofs.AnswerLaw.{suited-some, suited-none, change-refused, change-closed, change-differs, change-goes-on}
 use Rattle.station.proofs.change.Goals as goal
 

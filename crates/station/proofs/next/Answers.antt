@@ -2,7 +2,7 @@ use borrow.Author.Rules.{rules}
 use mathlib.Core.Path.{◌∙◌, ap₂}
 use Rattle.sheet.specs.laws.RefusalLaw.{refusal-told}
 use Rattle.station.specs.declared.Advanced.TheVariants.{Refused}
-use Rattle.station.specs.laws.ToldLaw.{next-told}
+use Rattle.station.proofs.laws.ToldLaw.{next-told}
 use Rattle.station.proofs.ReadLaw.{is-refused, is-accepted, tests-are}
 use Rattle.station.proofs.AnswerLaw.{next-refused, next-ready, next-due, next-passed, next-failed}
 use Rattle.station.proofs.next.Goals as goal
@@ -10,9 +10,8 @@ use Rattle.station.proofs.next.Goals as goal
 pub returns-in_default : goal.returns-in_default
 returns-in_default c = let a = c.args in
     let s = a.sheet.now in
-    let g = c.in_default.given in
-    let z = refusal-told _ _ _ _ c.refusal_of-why.ensures g.1 in
-    let answer = ap₂ Refused z.0 z.1 ∙ next-refused s a.state (is-refused s c.read-reading.ensures g.1) in record { answer = answer; told = next-told s a.state _ answer }
+    let z = refusal-told _ _ _ _ c.refusal_of-why.ensures c.in_default.is in
+    let answer = ap₂ Refused z.0 z.1 ∙ next-refused s a.state (is-refused s c.read-reading.ensures c.in_default.is) in record { answer = answer; told = next-told s a.state _ answer }
 
 pub along-requires : goal.along-requires
 along-requires c = let (sh, e, m) = is-accepted c.args.sheet.now c.read-reading.ensures c.in-Accepted.is in

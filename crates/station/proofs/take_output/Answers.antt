@@ -2,7 +2,7 @@ use borrow.Author.Rules.{rules}
 use mathlib.Core.Path.{◌∙◌, ap₂}
 use Rattle.sheet.specs.laws.RefusalLaw.{refusal-told}
 use Rattle.station.specs.declared.Taken.TheVariants.{Refused}
-use Rattle.station.specs.laws.ToldLaw.{taken-told}
+use Rattle.station.proofs.laws.ToldLaw.{taken-told}
 use Rattle.station.proofs.ReadLaw.{is-refused, is-accepted, outputs-are}
 use Rattle.station.proofs.WalkLaw.{due-low}
 use Rattle.station.proofs.AnswerLaw.{take-refused, take_none, due-is, take-high, take-heard}
@@ -11,9 +11,8 @@ use Rattle.station.proofs.take_output.Goals as goal
 pub returns-in_default : goal.returns-in_default
 returns-in_default c = let a = c.args in
     let s = a.sheet.now in
-    let g = c.in_default.given in
-    let z = refusal-told _ _ _ _ c.refusal_of-why.ensures g.1 in
-    let answer = ap₂ Refused z.0 z.1 ∙ take-refused s a.state a.output (is-refused s c.rules_of-reading.ensures.value g.1) in record { answer = answer; told = taken-told s a.state a.output _ answer }
+    let z = refusal-told _ _ _ _ c.refusal_of-why.ensures c.in_default.is in
+    let answer = ap₂ Refused z.0 z.1 ∙ take-refused s a.state a.output (is-refused s c.rules_of-reading.ensures.value c.in_default.is) in record { answer = answer; told = taken-told s a.state a.output _ answer }
 
 pub due_output-due-requires : goal.due_output-due-requires
 due_output-due-requires c = let (sh, e, m) = is-accepted c.args.sheet.now c.rules_of-reading.ensures.value c.in-Accepted.is in

@@ -9,7 +9,7 @@ use Rattle.model.specs.Mutant.{suspects, site_of, start_slot}
 use Rattle.model.specs.Log.{Observation, reset, seen, GivesFrom}
 use Rattle.model.specs.Longer.{with_test, Among}
 use Rattle.sheet.specs.Reading.{with_tests}
-use Rattle.model.specs.laws.LongerLaw.{slots-longer, mutant-longer, compare-longer, passes-fewer}
+use Rattle.model.proofs.laws.LongerLaw.{slots-longer, mutant-longer, compare-longer, passes-fewer}
 use Rattle.block.specs.Tabled.{Tabled}
 use Rattle.block.specs.Logged.{observations, GivesOf}
 use Rattle.block.specs.Tabulated.{step_of, start_of}

@@ -8,9 +8,8 @@ use Rattle.tray.proofs.first_failures.Goals as goal
 
 pub returns-in_default : goal.returns-in_default
 returns-in_default c = let a = c.args in
-    let g = c.in_default.given in
-    let z = refusal-told _ _ _ _ c.refusal_of-why.ensures g.1 in
-    let x = tried-refused a.sheet.now a.boards a.choices.now a.results.now c.load-reading.result g.0.0 g.0.1.0 _ c.load-reading.ensures.value g.1 (ap₂ Refused z.0 z.1) in record { answer = x.0.answer; numbers = x.0.numbers; told = x.1 }
+    let z = refusal-told _ _ _ _ c.refusal_of-why.ensures c.in_default.is in
+    let x = tried-refused a.sheet.now a.boards a.choices.now a.results.now c.load-reading.result c.in_default.field-0 c.in_default.field-1 _ c.load-reading.ensures.value c.in_default.is (ap₂ Refused z.0 z.1) in record { answer = x.0.answer; numbers = x.0.numbers; told = x.1 }
 
 pub try_accepted-requires : goal.try_accepted-requires
 try_accepted-requires c = let x = opened c.args.sheet.now c.load-reading.ensures.value c.in-Accepted.is c.load-reading.ensures.block_len.1 in

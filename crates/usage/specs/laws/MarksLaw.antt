@@ -14,9 +14,9 @@ use Rattle.model.specs.Machine.{specified_from}
 use Rattle.model.specs.Used.{mark, mark_from, mark_all, counted, used_on}
 use Rattle.model.specs.Suite.{Place, tried_of}
 use Rattle.lists.specs.laws.AllLaw.{all-imp, all_append, all_get_d}
-use Rattle.model.specs.laws.StaysLaw.{rule-in, start-below}
-use Rattle.model.specs.laws.SuiteLaw.{specified-uncons, Specified, test-specified}
-use Rattle.model.specs.laws.SuspectLaw.{slot-count, site-is, waking-slot}
+use Rattle.model.proofs.laws.StaysLaw.{rule-in, start-below}
+use Rattle.model.proofs.laws.SuiteLaw.{specified-uncons, Specified, test-specified}
+use Rattle.model.proofs.laws.SuspectLaw.{slot-count, site-is, waking-slot}
 use Rattle.block.specs.Layout.{pair}
 use Rattle.block.specs.Tabled.{Tabled}
 use Rattle.logs.specs.laws.WalkedLaw.{Tabulates}

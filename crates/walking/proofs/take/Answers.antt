@@ -9,9 +9,8 @@ use Rattle.walking.proofs.take.Goals as goal
 
 pub returns-in_default : goal.returns-in_default
 returns-in_default c = let a = c.args in
-    let g = c.in_default.given in
-    let z = refusal-told _ _ _ _ c.refusal_of-why.ensures g.1 in
-    let x = take-refused a.sheet.now _ a.board.now a.sequence.now c.load-reading.result g.0.0 g.0.1.0 _ c.load-reading.ensures.value g.1 (ap₂ Refused z.0 z.1) in record { answer = x.0.answer; board = x.0.board; sequence = x.0.sequence; told = x.1 }
+    let z = refusal-told _ _ _ _ c.refusal_of-why.ensures c.in_default.is in
+    let x = take-refused a.sheet.now _ a.board.now a.sequence.now c.load-reading.result c.in_default.field-0 c.in_default.field-1 _ c.load-reading.ensures.value c.in_default.is (ap₂ Refused z.0 z.1) in record { answer = x.0.answer; board = x.0.board; sequence = x.0.sequence; told = x.1 }
 
 pub take_read-requires : goal.take_read-requires
 take_read-requires c = 

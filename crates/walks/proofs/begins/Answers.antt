@@ -1,4 +1,4 @@
-use Rattle.lists.specs.Proving.{rules, eqb-true}
+use Rattle.lists.specs.Proving.{eqb-true}
 use Rattle.walks.proofs.begins.Goals as goal
 
 pub returns : goal.returns

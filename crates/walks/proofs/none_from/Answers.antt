@@ -1,4 +1,4 @@
-use Rattle.lists.specs.Proving.{rules, not-false, never}
+use Rattle.lists.specs.Proving.{never}
 use Rattle.walks.proofs.StandLaw.{stands-start}
 use Rattle.walks.proofs.SplitLaw.{none-extends}
 use Rattle.walks.proofs.none_from.Goals as goal

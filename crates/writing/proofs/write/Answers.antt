@@ -3,7 +3,7 @@ use borrow.Author.Rules.{rules}
 use native.Mathlib.Omega.{arith}
 use mathlib.Core.Path.{◌≡◌, sym, ◌∙◌}
 use Rattle.writing.specs.Drawing.{Drawing, drawing, is_cut}
-use Rattle.writing.specs.laws.DrawingLaw.{whole}
+use Rattle.writing.proofs.laws.DrawingLaw.{whole}
 use Rattle.writing.proofs.WriteLaw.{Sized, write-cut, write-long, spell-room, spelled-inside, write-spelled}
 use Rattle.writing.proofs.write.Goals as goal
 

@@ -1,5 +1,5 @@
 use Rattle.std.proofs.Common.{arith, rules}
-use Rattle.generator.specs.laws.GeneratedLaw.{few-pairs}
+use Rattle.generator.proofs.laws.GeneratedLaw.{few-pairs}
 use Rattle.generator.proofs.pairs.pairs_of.Goals as goal
 
 pub overflow_mul-result : goal.overflow_mul-result

@@ -1,8 +1,8 @@
 -- `put_pair`: pair i is that of the state i / k and the input i % k.
 use Rattle.std.proofs.Common.{◌/◌, ◌%◌, arith, rules}
-use Rattle.generator.specs.laws.PairLaw.{pair-state, pair-input}
-use Rattle.generator.specs.laws.DraftLaw.{rule-in}
-use Rattle.generator.specs.laws.GeneratedLaw.{few-pairs}
+use Rattle.generator.proofs.laws.PairLaw.{pair-state, pair-input}
+use Rattle.generator.proofs.laws.DraftLaw.{rule-in}
+use Rattle.generator.proofs.laws.GeneratedLaw.{few-pairs}
 use Rattle.generator.proofs.StandingLaw.{pair_put}
 use Rattle.generator.proofs.pairs.put_pair.Goals as goal
 

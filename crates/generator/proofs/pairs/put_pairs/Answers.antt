@@ -2,7 +2,7 @@
 use Rattle.std.proofs.Common.{◌≡◌, ◌-◌, ◌*◌, ◌≤◌, arith}
 use Rattle.generator.specs.Generating.{drafted}
 use Rattle.generator.specs.words.Standing.{Standing}
-use Rattle.generator.specs.laws.GeneratedLaw.{few-pairs}
+use Rattle.generator.proofs.laws.GeneratedLaw.{few-pairs}
 use Rattle.generator.proofs.StandingLaw.{standing-start, standing-few, standing-ready, standing-more}
 use Rattle.generator.proofs.pairs.put_pairs.Goals as goal
 

@@ -1,5 +1,5 @@
-use Rattle.lists.specs.Proving.{rules, arith, ◌-◌, ◌≤◌}
-use Rattle.leaves.proofs.NotesLaw.{Kept, kept-none, kept_more, kept-all}
+use Rattle.lists.specs.Proving.{arith}
+use Rattle.leaves.proofs.NotesLaw.{kept-none, kept_more, kept-all}
 use Rattle.leaves.proofs.notes.keep_witness.Goals as goal
 
 pub loop-j-init : goal.loop-j-init

@@ -1,5 +1,5 @@
-use Rattle.lists.specs.Proving.{rules, arith, ◌-◌, ◌≤◌}
-use Rattle.leaves.proofs.NotesLaw.{Kept, kept-none, kept_more, kept-all}
+use Rattle.lists.specs.Proving.{◌-◌, ◌≤◌}
+use Rattle.leaves.proofs.NotesLaw.{Kept}
 use Rattle.leaves.proofs.notes.keep_witness.Given as goal
 
 abbrev pub invariant-loop-j : goal.invariant-loop-j

@@ -1,4 +1,4 @@
-use Rattle.lists.specs.Proving.{rules, arith, sym, List·getD-eq-default}
+use Rattle.lists.specs.Proving.{arith, sym, List·getD-eq-default}
 use Rattle.leaves.proofs.notes.note.Goals as goal
 
 pub returns-then-at-notes : goal.returns-then-at-notes

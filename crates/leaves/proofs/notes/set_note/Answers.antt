@@ -1,4 +1,4 @@
-use Rattle.lists.specs.Proving.{rules, arith, sym}
+use Rattle.lists.specs.Proving.{arith, sym}
 use lib.Seq.{set_out}
 use Rattle.leaves.proofs.notes.set_note.Goals as goal
 

@@ -1,6 +1,5 @@
-use Rattle.lists.specs.Proving.{rules, arith, ℕ, ◌+◌, ◌-◌, ◌<◌, ◌≤◌, refl, sym, ◌∙◌, get_or, below_more}
+use Rattle.lists.specs.Proving.{arith, refl, sym, ◌∙◌, below_more}
 use Rattle.lists.specs.laws.TestLaw.{clash}
-use Rattle.leaves.specs.Noted.{Clash}
 use Rattle.leaves.proofs.notes.witnessed.Goals as goal
 
 pub returns-then-note-eq0 : goal.returns-then-note-eq0

@@ -1,5 +1,4 @@
-use Rattle.lists.specs.Proving.{rules, arith, ℕ, ◌+◌, ◌-◌, ◌<◌, ◌≤◌, refl, sym, ◌∙◌, get_or, below_more}
-use Rattle.lists.specs.laws.TestLaw.{clash}
+use Rattle.lists.specs.Proving.{ℕ, ◌+◌, ◌-◌, ◌<◌, ◌≤◌, get_or}
 use Rattle.leaves.specs.Noted.{Clash}
 use Rattle.leaves.proofs.notes.witnessed.Given as goal
 

@@ -3,7 +3,7 @@ use borrow.Author.Rules.{rules}
 use native.Mathlib.Omega.{arith}
 use mathlib.Core.Path.{sym}
 use lib.Seq.{length-take-le}
-use Rattle.writing.specs.laws.SpelledLaw.{spelled-both}
+use Rattle.writing.proofs.laws.SpelledLaw.{spelled-both}
 use Rattle.making.proofs.MadeLaw.{made_inside, made-long, makes-whole, makes_none, finished-full}
 use Rattle.making.proofs.room.finish.Goals as goal
 

@@ -1,6 +1,6 @@
 -- `assemble`: one part after another.
 use Rattle.lists.specs.Proving.{rules}
-use Rattle.writing.specs.laws.SpelledLaw.{spelled-both}
+use Rattle.writing.proofs.laws.SpelledLaw.{spelled-both}
 use Rattle.merging.proofs.join.assemble.Goals as goal
 
 pub returns : goal.returns

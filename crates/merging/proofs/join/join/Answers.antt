@@ -42,7 +42,7 @@ overflow_add-a c = let p = c.requires.2.2 in
     omega (arith, p.many, p.formed.few-tests, q.many, q.formed.few-tests)
 
 pub close-requires : goal.close-requires
-close-requires c = (c.requires.0, c.requires.1, short-parts c.requires.2.2 c.requires.2.3 c.unite-f.result c.unite-t.result c.unite-f.new.1.1.1.0 c.unite-t.new.1.1.1.0 (omega (arith, c.unite-f.ensures.inside, c.no_faults-faults.ensures)) (omega (arith, c.unite-t.ensures.inside, c.no_starts-starts.ensures)))
+close-requires c = (c.requires.0, c.requires.1, short-parts c.requires.2.2 c.requires.2.3 c.unite-f.result c.unite-t.result c.unite-f.new.to c.unite-t.new.to (omega (arith, c.unite-f.ensures.inside, c.no_faults-faults.ensures)) (omega (arith, c.unite-t.ensures.inside, c.no_starts-starts.ensures)))
 
 pub returns : goal.returns
 returns c = λ x y p q e.

@@ -1,5 +1,4 @@
-use Rattle.lists.specs.Proving.{rules, ◌-◌, not-false, never}
-use Rattle.mirror.specs.Mirror.{Below, Answered}
+use Rattle.lists.specs.Proving.{never}
 use Rattle.mirror.proofs.OtherLaw.{none_below, more-below, all-below}
 use Rattle.mirror.proofs.exchange.all_answered.Goals as goal
 

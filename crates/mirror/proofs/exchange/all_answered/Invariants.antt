@@ -1,6 +1,5 @@
-use Rattle.lists.specs.Proving.{rules, ◌-◌, not-false, never}
+use Rattle.lists.specs.Proving.{◌-◌}
 use Rattle.mirror.specs.Mirror.{Below, Answered}
-use Rattle.mirror.proofs.OtherLaw.{none_below, more-below, all-below}
 use Rattle.mirror.proofs.exchange.all_answered.Given as goal
 
 abbrev pub invariant-loop-c : goal.invariant-loop-c

@@ -1,4 +1,4 @@
-use Rattle.lists.specs.Proving.{rules, arith, sym, ◌∙◌}
+use Rattle.lists.specs.Proving.{arith, sym, ◌∙◌}
 use Rattle.block.specs.laws.ChoiceLaw.{choices-none, choices-some}
 use Rattle.mirror.proofs.exchange.choices_at.Goals as goal
 

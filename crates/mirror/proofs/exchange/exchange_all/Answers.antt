@@ -1,5 +1,5 @@
-use Rattle.lists.specs.Proving.{rules, ◌+◌, ◌-◌}
-use Rattle.mirror.proofs.ExchangeLaw.{SwapsTo, swaps-none, swaps-more, swaps-all}
+use Rattle.lists.specs.Proving.{◌+◌}
+use Rattle.mirror.proofs.ExchangeLaw.{swaps-none, swaps-more, swaps-all}
 use Rattle.mirror.proofs.exchange.exchange_all.Goals as goal
 
 pub loop-a-init : goal.loop-a-init

@@ -1,5 +1,5 @@
-use Rattle.lists.specs.Proving.{rules, ◌+◌, ◌-◌}
-use Rattle.mirror.proofs.ExchangeLaw.{SwapsTo, swaps-none, swaps-more, swaps-all}
+use Rattle.lists.specs.Proving.{◌-◌}
+use Rattle.mirror.proofs.ExchangeLaw.{SwapsTo}
 use Rattle.mirror.proofs.exchange.exchange_all.Given as goal
 
 abbrev pub invariant-loop-a : goal.invariant-loop-a

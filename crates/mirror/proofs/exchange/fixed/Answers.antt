@@ -1,4 +1,3 @@
-use Rattle.lists.specs.Proving.{rules}
 use Rattle.mirror.proofs.ExchangeLaw.{fixed-all}
 use Rattle.mirror.proofs.exchange.fixed.Goals as goal
 

@@ -1,4 +1,4 @@
-use Rattle.lists.specs.Proving.{rules, eqb-true, never}
+use Rattle.lists.specs.Proving.{eqb-true, never}
 use Rattle.mirror.proofs.ExchangeLaw.{offers}
 use Rattle.mirror.proofs.exchange.is_choice.Goals as goal
 

@@ -1,4 +1,3 @@
-use Rattle.lists.specs.Proving.{rules, arith, not-false}
 use Rattle.mirror.proofs.OtherLaw.{each_none}
 use Rattle.mirror.proofs.ExchangeLaw.{known-partner}
 use Rattle.mirror.proofs.exchange.known_partner.Goals as goal

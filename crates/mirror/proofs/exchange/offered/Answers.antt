@@ -1,4 +1,4 @@
-use Rattle.lists.specs.Proving.{rules, arith, ◌<◌, ◌≤◌, never}
+use Rattle.lists.specs.Proving.{arith, never}
 use Rattle.mirror.proofs.exchange.offered.Goals as goal
 
 pub loop-left-init : goal.loop-left-init

@@ -1,4 +1,4 @@
-use Rattle.lists.specs.Proving.{rules, not-false, never}
+use Rattle.lists.specs.Proving.{never}
 use Rattle.mirror.proofs.ExchangeLaw.{unruled-exchange}
 use Rattle.mirror.proofs.exchange.pair_exchanges.Goals as goal
 
@@ -6,7 +6,7 @@ pub returns-then-not-is_free-2 : goal.returns-then-not-is_free-2
 returns-then-not-is_free-2 c = λ e. never cc
 
 pub returns : goal.returns
-returns c = 
+returns c =
     let p = c.requires in
     let here = c.is_free.ensures c.if-not-is_free.false in
     let there = c.is_free-2.ensures c.if-not-is_free-2.false in

@@ -1,4 +1,3 @@
-use Rattle.lists.specs.Proving.{rules, not-false}
 use Rattle.mirror.proofs.OtherLaw.{each_none, each-one}
 use Rattle.mirror.proofs.ExchangeLaw.{movable}
 use Rattle.mirror.proofs.exchange.partner.Goals as goal
@@ -13,5 +12,5 @@ pub returns-then-not-all_exchange : goal.returns-then-not-all_exchange
 returns-then-not-all_exchange c = each_none
 
 pub returns : goal.returns
-returns c = 
+returns c =
     each-one c.args.b c.one.ensures (record { a-low = c.requires.2; b-low = c.requires.3; a-free = c.requires.4; b-free = movable c.requires.1 (c.holds.ensures.1 c.if-holds.false); rows = c.all_exchange.ensures c.if-not-all_exchange.false })

@@ -1,4 +1,3 @@
-use Rattle.lists.specs.Proving.{rules}
 use Rattle.mirror.proofs.exchange.partner_of.Goals as goal
 
 pub returns-then-b-a : goal.returns-then-b-a

@@ -1,5 +1,3 @@
-use Rattle.lists.specs.Proving.{rules, ◌-◌}
-use Rattle.mirror.specs.Mirror.{Each, Exchangeable}
 use Rattle.mirror.proofs.OtherLaw.{each_none, each_more}
 use Rattle.mirror.proofs.ExchangeLaw.{movable}
 use Rattle.mirror.proofs.exchange.partners.Goals as goal
@@ -14,7 +12,7 @@ pub loop-b-init : goal.loop-b-init
 loop-b-init c = each_none
 
 pub partner_of-requires : goal.partner_of-requires
-partner_of-requires c = 
+partner_of-requires c =
     let formed = c.requires.wf in record { wf = (formed.0, formed.1, rw c.states-end.ensures at c.if-a-end.false, rw c.states-end.ensures at c.loop-b-test.true, movable formed.1 (c.holds.ensures.1 c.if-holds.false)); facts_len = c.requires.facts_len }
 
 pub loop-b-preserved : goal.loop-b-preserved

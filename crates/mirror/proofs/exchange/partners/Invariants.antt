@@ -1,7 +1,5 @@
-use Rattle.lists.specs.Proving.{rules, ◌-◌}
+use Rattle.lists.specs.Proving.{◌-◌}
 use Rattle.mirror.specs.Mirror.{Each, Exchangeable}
-use Rattle.mirror.proofs.OtherLaw.{each_none, each_more}
-use Rattle.mirror.proofs.ExchangeLaw.{movable}
 use Rattle.mirror.proofs.exchange.partners.Given as goal
 
 abbrev pub invariant-loop-b : goal.invariant-loop-b

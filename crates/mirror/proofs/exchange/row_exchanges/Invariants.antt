@@ -1,7 +1,6 @@
-use Rattle.lists.specs.Proving.{rules, arith, ◌-◌, not-false, never}
+use Rattle.lists.specs.Proving.{◌-◌}
 use Rattle.block.specs.Layout.{pair}
 use Rattle.mirror.specs.Mirror.{other, Below, Exchanges}
-use Rattle.mirror.proofs.OtherLaw.{other-low, none_below, more-below, all-below}
 use Rattle.mirror.proofs.exchange.row_exchanges.Given as goal
 
 abbrev pub invariant-loop-x : goal.invariant-loop-x

@@ -1,4 +1,4 @@
-use Rattle.lists.specs.Proving.{rules, not-true}
+use Rattle.lists.specs.Proving.{not-true}
 use Rattle.mirror.proofs.ReflectLaw.{blind-any, blind-some}
 use Rattle.mirror.proofs.reflection.blind.Goals as goal
 

@@ -1,4 +1,4 @@
-use Rattle.lists.specs.Proving.{rules, ◌∙◌}
+use Rattle.lists.specs.Proving.{◌∙◌}
 use Rattle.mirror.proofs.reflection.blind_at.Goals as goal
 
 pub returns-then-j-wide : goal.returns-then-j-wide

@@ -1,6 +1,4 @@
-use Rattle.lists.specs.Proving.{rules, ◌-◌, ◌≡◌, get_or, not-false, never}
-use Rattle.mirror.specs.Mirror.{Below}
-use Rattle.mirror.specs.Reflect.{Blind}
+use Rattle.lists.specs.Proving.{never}
 use Rattle.mirror.proofs.OtherLaw.{none_below, more-below, all-below}
 use Rattle.mirror.proofs.reflection.blind_but.Goals as goal
 

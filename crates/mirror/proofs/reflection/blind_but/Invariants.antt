@@ -1,7 +1,6 @@
-use Rattle.lists.specs.Proving.{rules, ◌-◌, ◌≡◌, get_or, not-false, never}
+use Rattle.lists.specs.Proving.{◌-◌, ◌≡◌, get_or}
 use Rattle.mirror.specs.Mirror.{Below}
 use Rattle.mirror.specs.Reflect.{Blind}
-use Rattle.mirror.proofs.OtherLaw.{none_below, more-below, all-below}
 use Rattle.mirror.proofs.reflection.blind_but.Given as goal
 
 abbrev pub invariant-loop-j : goal.invariant-loop-j

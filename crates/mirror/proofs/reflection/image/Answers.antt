@@ -1,4 +1,3 @@
-use Rattle.lists.specs.Proving.{rules, not-false}
 use Rattle.mirror.proofs.OtherLaw.{each_none, each-one}
 use Rattle.mirror.proofs.reflection.image.Goals as goal
 
@@ -15,5 +14,5 @@ pub returns-then-not-blind_but : goal.returns-then-not-blind_but
 returns-then-not-blind_but c = each_none
 
 pub returns : goal.returns
-returns c = 
+returns c =
     each-one c.args.b c.one.ensures (record { exchange = c.requires.1.at c.args.b (c.holds.ensures.0 c.if-not-holds.false); silent = c.silent.ensures c.if-not-silent.false; blind = c.blind_but.ensures c.if-not-blind_but.false })

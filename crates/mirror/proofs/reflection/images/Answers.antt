@@ -1,6 +1,3 @@
-use Rattle.lists.specs.Proving.{rules, ◌-◌}
-use Rattle.mirror.specs.Mirror.{Each}
-use Rattle.mirror.specs.Reflect.{Mirrors}
 use Rattle.mirror.proofs.OtherLaw.{each_none, each_more}
 use Rattle.mirror.proofs.reflection.images.Goals as goal
 

@@ -1,7 +1,6 @@
-use Rattle.lists.specs.Proving.{rules, ◌-◌}
+use Rattle.lists.specs.Proving.{◌-◌}
 use Rattle.mirror.specs.Mirror.{Each}
 use Rattle.mirror.specs.Reflect.{Mirrors}
-use Rattle.mirror.proofs.OtherLaw.{each_none, each_more}
 use Rattle.mirror.proofs.reflection.images.Given as goal
 
 abbrev pub invariant-loop-b : goal.invariant-loop-b

@@ -1,4 +1,4 @@
-use Rattle.lists.specs.Proving.{rules, arith, sym, ◌∙◌, eqb-true}
+use Rattle.lists.specs.Proving.{arith, sym, ◌∙◌, eqb-true}
 use Rattle.mirror.proofs.reflection.quiet.Goals as goal
 
 pub returns-then-i : goal.returns-then-i

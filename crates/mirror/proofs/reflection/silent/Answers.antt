@@ -1,7 +1,4 @@
-use Rattle.lists.specs.Proving.{rules, arith, ◌-◌, not-false, never}
-use Rattle.block.specs.Layout.{pair}
-use Rattle.mirror.specs.Mirror.{Below}
-use Rattle.mirror.specs.Reflect.{Quiet}
+use Rattle.lists.specs.Proving.{arith, never}
 use Rattle.mirror.proofs.OtherLaw.{none_below, more-below, all-below}
 use Rattle.mirror.proofs.reflection.silent.Goals as goal
 

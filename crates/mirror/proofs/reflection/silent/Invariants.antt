@@ -1,8 +1,7 @@
-use Rattle.lists.specs.Proving.{rules, arith, ◌-◌, not-false, never}
+use Rattle.lists.specs.Proving.{◌-◌}
 use Rattle.block.specs.Layout.{pair}
 use Rattle.mirror.specs.Mirror.{Below}
 use Rattle.mirror.specs.Reflect.{Quiet}
-use Rattle.mirror.proofs.OtherLaw.{none_below, more-below, all-below}
 use Rattle.mirror.proofs.reflection.silent.Given as goal
 
 abbrev pub invariant-loop-x : goal.invariant-loop-x

@@ -1,6 +1,6 @@
 use Rattle.lists.specs.Proving.{rules}
 use Rattle.renaming.specs.Renaming.{met_by}
-use Rattle.renaming.specs.laws.MetLaw.{met-states}
+use Rattle.renaming.proofs.laws.MetLaw.{met-states}
 use Rattle.numbering.proofs.SearchLaw.{look-state, look-met, look-past}
 use Rattle.numbering.proofs.first_reached.look.Goals as goal
 

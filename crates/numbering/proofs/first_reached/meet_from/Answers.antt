@@ -3,8 +3,8 @@ use Rattle.lists.specs.Proving.{rules, arith, ◌-◌, ◌<◌, ◌≤◌, List}
 use Prim.Native.Nat.{ℕ}
 use Rattle.sheet.specs.Sheet.{Sheet}
 use Rattle.renaming.specs.Renaming.{meet_from}
-use Rattle.renaming.specs.laws.MetLaw.{Met}
-use Rattle.renaming.specs.laws.MarkLaw.{Marked}
+use Rattle.renaming.proofs.laws.MetLaw.{Met}
+use Rattle.renaming.proofs.laws.MarkLaw.{Marked}
 use Rattle.numbering.specs.words.Searched.{Searched}
 use Rattle.numbering.proofs.SearchLaw.{read-there, from-none, from-room, from_more, from_all}
 use Rattle.numbering.proofs.first_reached.meet_from.Goals as goal

@@ -2,7 +2,7 @@
 use Rattle.lists.specs.Proving.{rules, arith, ◌-◌, ◌≤◌}
 use Rattle.sheet.specs.Sheet.{Sheet}
 use Rattle.renaming.specs.Renaming.{met_by}
-use Rattle.renaming.specs.laws.MarkLaw.{Marked}
+use Rattle.renaming.proofs.laws.MarkLaw.{Marked}
 use Rattle.numbering.specs.words.Searched.{Searched}
 use Rattle.numbering.proofs.SearchLaw.{look-more, looked-none, looked-all}
 use Rattle.numbering.proofs.first_reached.numbers_of.Given as goal

@@ -1,6 +1,6 @@
 -- A line: its word, its numbers, a line feed.
 use borrow.Author.Rules.{rules}
-use Rattle.writing.specs.laws.SpelledLaw.{spelled-both}
+use Rattle.writing.proofs.laws.SpelledLaw.{spelled-both}
 use Rattle.report.specs.Text.{line}
 use Rattle.report.proofs.text.put_line.Goals as goal
 

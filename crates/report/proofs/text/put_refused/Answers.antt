@@ -1,6 +1,6 @@
 -- The line of a refusal, piece by piece.
 use Rattle.std.proofs.Common.{arith}
-use Rattle.writing.specs.laws.SpelledLaw.{spelled-both}
+use Rattle.writing.proofs.laws.SpelledLaw.{spelled-both}
 use Rattle.report.specs.Text.{refused_line}
 use Rattle.report.specs.laws.TextLaw.{byte-digits, place-digits}
 use Rattle.report.proofs.text.put_refused.Goals as goal

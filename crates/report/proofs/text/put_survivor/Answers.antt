@@ -1,5 +1,5 @@
 -- The lines of a survivor, one after the other.
-use Rattle.writing.specs.laws.SpelledLaw.{spelled-both}
+use Rattle.writing.proofs.laws.SpelledLaw.{spelled-both}
 use Rattle.report.specs.Text.{survivor_lines}
 use Rattle.report.proofs.text.put_survivor.Goals as goal
 

@@ -10,8 +10,6 @@ use Rattle.station.specs.words.Parts.{Walk}
 use Rattle.station.proofs.WalkLaw.{state-low, press-low, walk-on, walk-output, walk_start, walk-out}
 use Rattle.station.proofs.hearing.output_in.Goals as goal
 
-)
-
 reached : (sh : Sheet) (t : List ℕ) (j p s : ℕ) → j ≡ p → after sh.rules 0 (take j t) ≡ some s → after sh.rules 0 (take p t) ≡ some s
 reached sh t j p s e h = rw (← e) h
 
@@ -46,7 +44,8 @@ loop-j-preserved c = (
   omega arith,
   c.loop-j.invariant.1,
   c.loop-j.invariant.2,
-  λ sh t w. rw add-one (walk-on w {j = c.loop-j.j} (c.loop-j.invariant.3 sh t w) (omega (arith, c.if-part-position.false, c.loop-j-test.true)) c.place-at.ensures.value),
+  λ sh t w. rw add-one (walk-on w {j = c.loop-j.j} (c.loop-j.invariant.3 sh t w) (omega (arith, c.if-part-position.false, c.loop-j-test.true)) c.place-at.ensures.value)
+  )
 
 pub overflow_mul-position : goal.overflow_mul-position
 overflow_mul-position c = omega (arith, c.if-part-position.false)

@@ -1,4 +1,3 @@
-use borrow.Author.Rules.{rules}
 use Rattle.usage.proofs.MarkLaw.{marked-slot, marked-none}
 use Rattle.usage.proofs.marks.marked.Goals as goal
 

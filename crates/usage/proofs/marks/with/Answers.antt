@@ -1,4 +1,3 @@
-use borrow.Author.Rules.{rules}
 use Rattle.usage.proofs.MarkLaw.{or-shl}
 use Rattle.usage.proofs.marks.with.Goals as goal
 

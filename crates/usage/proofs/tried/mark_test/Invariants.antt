@@ -1,10 +1,8 @@
 -- `mark_test`: the inputs before `at` are marked.
-use borrow.Author.Rules.{rules}
-use mathlib.Core.Path.{refl}
 use Rattle.model.specs.Used.{mark_from}
 use Rattle.logs.specs.Tests.{inputs_at}
 use Rattle.usage.specs.Marks.{acts_in}
-use Rattle.usage.proofs.TriedLaw.{Marking, marking-more, marking-end}
+use Rattle.usage.proofs.TriedLaw.{Marking}
 use Rattle.usage.proofs.tried.mark_test.Given as goal
 
 abbrev pub invariant-loop-left : goal.invariant-loop-left

@@ -1,11 +1,6 @@
 -- `use_tests`: the tests before t are marked.
-use borrow.Author.Rules.{rules}
-use Prim.Native.Nat.{◌-◌}
 use native.Mathlib.Omega.{arith}
-use Rattle.model.specs.Used.{mark, mark_all}
-use Rattle.logs.specs.Tests.{tests_at}
-use Rattle.usage.specs.Marks.{start_slot_of, acts_in}
-use Rattle.usage.proofs.TriedLaw.{MarkingTests, tests-start, tests-next, tests-end}
+use Rattle.usage.proofs.TriedLaw.{tests-start, tests-next, tests-end}
 use Rattle.usage.proofs.tried.use_tests.Goals as goal
 
 pub loop-t-init : goal.loop-t-init

@@ -1,7 +1,6 @@
 -- `use_tried`: all tests, or those before the failed one and its inputs up to the wrong output.
 use native.Mathlib.Omega.{arith}
 use Rattle.usage.proofs.TriedLaw.{inside-before, tried-marked}
-use borrow.Author.Rules.{rules}
 use Rattle.usage.proofs.tried.use_tried.Goals as goal
 
 pub use_tests-before-requires : goal.use_tests-before-requires

@@ -1,4 +1,3 @@
-use Rattle.lists.specs.Proving.{rules}
 use Rattle.walks.proofs.blame.by_log.Goals as goal
 
 pub returns : goal.returns

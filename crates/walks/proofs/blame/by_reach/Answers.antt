@@ -1,4 +1,4 @@
-use Rattle.lists.specs.Proving.{rules, never}
+use Rattle.lists.specs.Proving.{never}
 use Rattle.walks.proofs.SplitLaw.{none-conforming}
 use Rattle.walks.proofs.blame.by_reach.Goals as goal
 

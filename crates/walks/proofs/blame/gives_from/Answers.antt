@@ -1,4 +1,4 @@
-use Rattle.lists.specs.Proving.{rules, refl}
+use Rattle.lists.specs.Proving.{refl}
 use Rattle.lists.specs.laws.TestLaw.{clash}
 use Rattle.walks.proofs.blame.gives_from.Goals as goal
 

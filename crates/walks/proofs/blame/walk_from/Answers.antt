@@ -1,4 +1,4 @@
-use Rattle.lists.specs.Proving.{rules, arith}
+use Rattle.lists.specs.Proving.{arith}
 use Rattle.walks.proofs.BlameLaw.{stands-before, starts}
 use Rattle.walks.proofs.blame.walk_from.Goals as goal
 

@@ -1,4 +1,4 @@
-use Rattle.lists.specs.Proving.{rules, arith, refl}
+use Rattle.lists.specs.Proving.{arith, refl}
 use Rattle.lists.specs.laws.TestLaw.{clash}
 use Rattle.walks.proofs.effort.spent.Goals as goal
 

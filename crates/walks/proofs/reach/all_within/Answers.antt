@@ -1,5 +1,5 @@
-use Rattle.lists.specs.Proving.{rules, arith, ◌-◌, not-false, never}
-use Rattle.walks.proofs.ReachLaw.{WithinTo, within_none, within_more, within_all}
+use Rattle.lists.specs.Proving.{arith, never}
+use Rattle.walks.proofs.ReachLaw.{within_none, within_more, within_all}
 use Rattle.walks.proofs.reach.all_within.Goals as goal
 
 pub loop-s-init : goal.loop-s-init

@@ -1,5 +1,5 @@
-use Rattle.lists.specs.Proving.{rules, arith, ◌-◌, not-false, never}
-use Rattle.walks.proofs.ReachLaw.{WithinTo, within_none, within_more, within_all}
+use Rattle.lists.specs.Proving.{◌-◌}
+use Rattle.walks.proofs.ReachLaw.{WithinTo}
 use Rattle.walks.proofs.reach.all_within.Given as goal
 
 abbrev pub invariant-loop-s : goal.invariant-loop-s

@@ -1,4 +1,4 @@
-use Rattle.lists.specs.Proving.{rules, arith, ◌<◌, refl}
+use Rattle.lists.specs.Proving.{arith, ◌<◌, refl}
 use Rattle.walks.proofs.ReachLaw.{cell-undefined, cell-stopped, cell-met}
 use Rattle.walks.proofs.StandLaw.{suspect-low, settled-step}
 use Rattle.walks.proofs.reach.cell.Goals as goal
@@ -16,11 +16,11 @@ pub returns-then-step-rule_output : goal.returns-then-step-rule_output
 returns-then-step-rule_output c = cell-stopped c.used_with-used.ensures.more refl (λ z. omega arith)
 
 pub meet-count-requires : goal.meet-count-requires
-meet-count-requires c = 
+meet-count-requires c =
     (c.requires.2, omega (arith, c.rule_target-next.ensures, c.requires.0.few-states, c.requires.0.rules c.place-at.result c.place-at.ensures.1 (rw c.rule_target-next.ensures at c.if-next.false)))
 
 pub returns : goal.returns
-returns c = 
+returns c =
     let low : c.place-pair.result < 257 = omega (arith, c.place-pair.ensures.1) in
     cell-met c.requires.0 c.requires.1 c.place-pair.ensures.0 c.used_with-used.ensures.more
     (settled-step c.requires.0 low c.site-i.ensures c.settled_choice-c.ensures c.if-c-eq256.false c.used_with-used.ensures c.transition-step.ensures)

@@ -1,4 +1,4 @@
-use Rattle.lists.specs.Proving.{rules, arith}
+use Rattle.lists.specs.Proving.{arith}
 use Rattle.walks.proofs.ReachLaw.{met-out, met_has, met-new}
 use Rattle.walks.proofs.reach.meet.Goals as goal
 

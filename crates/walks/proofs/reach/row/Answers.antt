@@ -1,5 +1,4 @@
-use Rattle.lists.specs.Proving.{rules, ◌-◌, ◌∙◌}
-use Rattle.walks.specs.Reaching.{RowReached}
+use Rattle.lists.specs.Proving.{◌∙◌}
 use Rattle.walks.proofs.ReachLaw.{row-none, row_more, row-stopped, row-all}
 use Rattle.walks.proofs.reach.row.Goals as goal
 

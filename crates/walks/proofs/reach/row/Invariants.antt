@@ -1,6 +1,5 @@
-use Rattle.lists.specs.Proving.{rules, ◌-◌, ◌∙◌}
+use Rattle.lists.specs.Proving.{◌-◌}
 use Rattle.walks.specs.Reaching.{RowReached}
-use Rattle.walks.proofs.ReachLaw.{row-none, row_more, row-stopped, row-all}
 use Rattle.walks.proofs.reach.row.Given as goal
 
 abbrev pub invariant-loop-x : goal.invariant-loop-x

@@ -1,5 +1,5 @@
-use Rattle.lists.specs.Proving.{rules, arith, ◌-◌, not-false}
-use Rattle.walks.proofs.ReachLaw.{Spreading, spreading-none, spreading-more, spreading-all}
+use Rattle.lists.specs.Proving.{arith}
+use Rattle.walks.proofs.ReachLaw.{spreading-none, spreading-more, spreading-all}
 use Rattle.walks.proofs.reach.spread.Goals as goal
 
 pub loop-n-init : goal.loop-n-init

@@ -1,5 +1,5 @@
-use Rattle.lists.specs.Proving.{rules, arith, ◌-◌, not-false}
-use Rattle.walks.proofs.ReachLaw.{Spreading, spreading-none, spreading-more, spreading-all}
+use Rattle.lists.specs.Proving.{◌-◌}
+use Rattle.walks.proofs.ReachLaw.{Spreading}
 use Rattle.walks.proofs.reach.spread.Given as goal
 
 abbrev pub invariant-loop-n : goal.invariant-loop-n

@@ -1,4 +1,3 @@
-use Rattle.lists.specs.Proving.{rules}
 use Rattle.walks.proofs.SplitLaw.{none-conforming}
 use Rattle.walks.proofs.refute.by_pairs.Goals as goal
 

@@ -1,4 +1,4 @@
-use Rattle.lists.specs.Proving.{rules, arith, ℕ, subst, not-true, not-false, never}
+use Rattle.lists.specs.Proving.{arith, ℕ, subst, not-true, not-false}
 use Rattle.cubes.specs.Sets.{Has}
 use Rattle.walks.proofs.refute.is_final.Goals as goal
 

@@ -1,4 +1,4 @@
-use Rattle.lists.specs.Proving.{rules, sym, subst}
+use Rattle.lists.specs.Proving.{sym, subst}
 use Rattle.cubes.specs.declared.goal.Goal.{Goal}
 use Rattle.walks.specs.Walks.{Halts}
 use Rattle.walks.proofs.refute.look.Goals as goal

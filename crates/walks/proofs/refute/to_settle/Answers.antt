@@ -1,4 +1,4 @@
-use Rattle.lists.specs.Proving.{rules, arith}
+use Rattle.lists.specs.Proving.{arith}
 use Rattle.walks.proofs.refute.to_settle.Goals as goal
 
 pub returns : goal.returns

@@ -1,4 +1,4 @@
-use Rattle.lists.specs.Proving.{rules, never}
+use Rattle.lists.specs.Proving.{never}
 use Rattle.walks.proofs.refute.told_of.Goals as goal
 
 pub returns-in-Fails : goal.returns-in-Fails

@@ -1,4 +1,3 @@
-use Rattle.lists.specs.Proving.{rules}
 use Rattle.walks.proofs.StandLaw.{joined-has}
 use Rattle.walks.proofs.steps.used_with.Goals as goal
 

@@ -1,6 +1,5 @@
 -- `walk`: it stands where it is.
-use Rattle.lists.specs.Proving.{rules, arith, ◌-◌, ◌<◌, length, sym, ◌∙◌}
-use Rattle.walks.specs.Walks.{Stands}
+use Rattle.lists.specs.Proving.{arith, ◌<◌, sym, ◌∙◌}
 use Rattle.walks.proofs.StandLaw.{suspect-low, settled-step, step-on, step-not}
 use Rattle.walks.proofs.walk.walk.Goals as goal
 
@@ -23,7 +22,7 @@ pub transition-step-requires : goal.transition-step-requires
 transition-step-requires c = omega (arith, c.if-k-gt-WAKING.false)
 
 pub returns-then-step-output_of : goal.returns-then-step-output_of
-returns-then-step-output_of c = 
+returns-then-step-output_of c =
     let wf = c.requires.0 in
     let low : c.pair_at-k.result < 257 = omega (arith, c.if-k-gt-WAKING.false) in
     step-not wf c.loop-at.invariant c.observe-seen.ensures c.pair_at-k.ensures low c.since_reset.ensures c.used_with-used.ensures
@@ -33,7 +32,7 @@ pub loop-at-smaller : goal.loop-at-smaller
 loop-at-smaller c = omega (arith, c.observe-seen.ensures.onward, c.observe-seen.ensures.inside)
 
 pub loop-at-preserved : goal.loop-at-preserved
-loop-at-preserved c = 
+loop-at-preserved c =
     let wf = c.requires.0 in
     let low : c.pair_at-k.result < 257 = omega (arith, c.if-k-gt-WAKING.false) in
     step-on wf c.loop-at.invariant c.observe-seen.ensures c.pair_at-k.ensures low c.since_reset.ensures c.used_with-used.ensures

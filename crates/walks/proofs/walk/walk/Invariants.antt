@@ -1,7 +1,6 @@
 -- `walk`: it stands where it is.
-use Rattle.lists.specs.Proving.{rules, arith, ◌-◌, ◌<◌, length, sym, ◌∙◌}
+use Rattle.lists.specs.Proving.{◌-◌, length}
 use Rattle.walks.specs.Walks.{Stands}
-use Rattle.walks.proofs.StandLaw.{suspect-low, settled-step, step-on, step-not}
 use Rattle.walks.proofs.walk.walk.Given as goal
 
 abbrev pub invariant-loop-at : goal.invariant-loop-at

@@ -1,5 +1,5 @@
 use borrow.Author.Rules.{rules}
-use Rattle.writing.specs.laws.SpelledLaw.{spelled-byte}
+use Rattle.writing.proofs.laws.SpelledLaw.{spelled-byte}
 use Rattle.writing.proofs.spell.byte.Goals as goal
 
 pub returns : goal.returns

@@ -2,7 +2,7 @@
 use Prim.Native.Nat.{◌-◌}
 use native.Mathlib.Omega.{arith}
 use lib.ListN.{length, drop, drop_of_length-le}
-use Rattle.writing.specs.laws.SpelledLaw.{Spelling, spelling-start, spelling-room, spelling-more, spelling-end}
+use Rattle.writing.proofs.laws.SpelledLaw.{Spelling, spelling-start, spelling-room, spelling-more, spelling-end}
 use Rattle.writing.proofs.RestLaw.{bytes_next}
 use Rattle.writing.proofs.spell.bytes.Goals as goal
 

@@ -1,6 +1,6 @@
 -- `command`: its byte, then its operands.
 use native.Mathlib.Omega.{arith}
-use Rattle.writing.specs.laws.SpelledLaw.{spelled-both}
+use Rattle.writing.proofs.laws.SpelledLaw.{spelled-both}
 use Rattle.writing.proofs.spell.command.Goals as goal
 
 pub byte-to-requires : goal.byte-to-requires

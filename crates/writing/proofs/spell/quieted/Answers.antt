@@ -1,7 +1,7 @@
 -- `quieted`: the byte of QUIET, or nothing.
 use native.Mathlib.Omega.{arith}
 use Rattle.sheet.specs.Encode.{quiet_bytes}
-use Rattle.writing.specs.laws.SpelledLaw.{spelled_none}
+use Rattle.writing.proofs.laws.SpelledLaw.{spelled_none}
 use Rattle.writing.proofs.spell.quieted.Goals as goal
 
 pub byte-requires : goal.byte-requires

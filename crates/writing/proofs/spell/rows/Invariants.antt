@@ -4,7 +4,7 @@ use native.Mathlib.Omega.{arith}
 use lib.ListN.{length, drop}
 use Rattle.sheet.specs.Encode.{row_bytes}
 use Rattle.writing.specs.Drawing.{rows_of}
-use Rattle.writing.specs.laws.SpelledLaw.{Spelling, spelling-start, spelling-room, spelling-more, spelling-end}
+use Rattle.writing.proofs.laws.SpelledLaw.{Spelling, spelling-start, spelling-room, spelling-more, spelling-end}
 use Rattle.writing.proofs.RestLaw.{rows_next, rows_none}
 use Rattle.writing.proofs.spell.rows.Given as goal
 

@@ -8,7 +8,7 @@ use Rattle.sheet.specs.Sheet.{Sheet}
 use Rattle.sheet.specs.Encode.{size_bytes, quiet_bytes, row_bytes, start_bytes, test_bytes, encode}
 use Rattle.sheet.specs.laws.InjectiveLaw.{encode-parts, rules_on, faults_on, starts_on, tests_on}
 use Rattle.writing.specs.Drawing.{Drawing, drawing, rows_of, tests_of, sheet_of}
-use Rattle.writing.specs.laws.SpelledLaw.{Spelling, Next, spelling-start, spelling-room, spelling-more, spelling-end}
+use Rattle.writing.proofs.laws.SpelledLaw.{Spelling, Next, spelling-start, spelling-room, spelling-more, spelling-end}
 use Rattle.writing.proofs.spell.spell.Goals as goal
 
 abbrev drawn : Drawing → Sheet

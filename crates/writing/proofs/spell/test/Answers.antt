@@ -1,6 +1,6 @@
 -- `test`: TEST, then its inputs.
 use native.Mathlib.Omega.{arith}
-use Rattle.writing.specs.laws.SpelledLaw.{spelled-both}
+use Rattle.writing.proofs.laws.SpelledLaw.{spelled-both}
 use Rattle.writing.proofs.spell.test.Goals as goal
 
 pub byte-to-requires : goal.byte-to-requires

@@ -1,0 +1,16 @@
+-- `search` and `search_from`: the choices from `from` on and below c at the next slot lead to no wanted mutant.
+use Rattle.lists.specs.Proving.{◌+◌, ◌-◌, ◌*◌}
+use Rattle.search.proofs.SearchLaw.{Trying}
+use Rattle.search.proofs.settle.+search_search_from.Given as goal
+
+abbrev pub decreases-search : goal.decreases-search
+decreases-search l = 2 * (32 - l.i) + 1
+
+abbrev pub decreases-search_from : goal.decreases-search_from
+decreases-search_from l = 2 * (32 - l.i)
+
+abbrev pub invariant-search_from-loop-c : goal.invariant-search_from-loop-c
+invariant-search_from-loop-c l = Trying l.goal l.block l.log l.p l.i l.from l.k l.initial.store l.store l.initial.notes l.notes l.c
+
+abbrev pub decreases-search_from-loop-c : goal.decreases-search_from-loop-c
+decreases-search_from-loop-c l = l.k - l.c
