@@ -1,5 +1,6 @@
 -- `take_read`: 13 and 14, then room for the mutant, then for the sequence, then the next mutant.
-use Rattle.lists.specs.Proving.{rules, arith, ◌*◌, ◌≤◌, ◌≡◌, refl, sym, ◌∙◌, ap, length}
+use Rattle.std.specs.Prelude.{◌*◌, ◌≤◌, ◌≡◌}
+use Rattle.lists.specs.Proving.{rules, arith, refl, sym, ◌∙◌, ap, length}
 use Rattle.sheet.specs.Sheet.{Sheet}
 use Rattle.model.specs.Walk.{Standing}
 use Rattle.block.specs.Layout.{slots_of}

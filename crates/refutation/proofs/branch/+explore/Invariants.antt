@@ -1,4 +1,5 @@
-use Rattle.lists.specs.Proving.{ℕ, ◌+◌, ◌-◌, ◌≤◌, ◌≡◌, List, length}
+use Rattle.std.specs.Prelude.{◌+◌, ◌-◌, ◌≤◌, ◌≡◌}
+use Rattle.lists.specs.Proving.{ℕ, List, length}
 use Rattle.cubes.specs.declared.goal.Goal.{Goal}
 use Rattle.store.specs.Store.{StoreOk, ToldOk}
 use Rattle.store.specs.declared.entries.Told.{Told}

@@ -1,5 +1,6 @@
 -- `search_after`: of the mutants that have the first i choices of the one given none that stands after it is wanted.
-use Rattle.lists.specs.Proving.{rules, arith, ℕ, ◌-◌, ◌≤◌, ◌≡◌, refl, sym, ◌∙◌, List, length, never}
+use Rattle.std.specs.Prelude.{◌-◌, ◌≤◌, ◌≡◌}
+use Rattle.lists.specs.Proving.{rules, arith, ℕ, refl, sym, ◌∙◌, List, length, never}
 use Rattle.sheet.specs.Sheet.{Sheet}
 use Rattle.block.specs.Logged.{observations}
 use Rattle.cubes.specs.declared.goal.Goal.{Goal}
