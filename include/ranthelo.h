@@ -1,17 +1,20 @@
 /* Ranthelo for C: judges whether a test suite for a finite state machine is complete.
  *
- * Link with crates/ranthelo/out/libranthelo.a (made by `rt lib` in crates/ranthelo), or with the archive or the shared library that
- * `make install` has put in its place. They are for x86-64 Linux (any such processor; position-independent code) and need memcpy and
- * memset, which every C library has, and nothing else: no heap is used.
+ * Link with crates/ranthelo/out/libranthelo.a (made by `rt lib` in crates/ranthelo), or with the archive or the shared
+ * library that `make install` has put in its place. They are for x86-64 Linux (any such processor; position-independent
+ * code) and need memcpy and memset, which every C library has, and nothing else: no heap is used.
  *
- * A sheet, a board, presses, tables and buffers are lent for the call only. Each pointer is valid for its length and not null, even at
- * length 0; a buffer that is written, `answer`, `state` and `nodes` overlap nothing else that is lent. Each function fills `answer`, whose
- * first two numbers are the refusal's number (0: none; ranthelo_meaning has it in words) and place; after a refusal the others are 0 (but
- * Merge tells the sheet concerned) and every lent buffer is as it was.
+ * A sheet, a board, presses, tables and buffers are lent for the call only. Each pointer is valid for its length and
+ * not null, even at length 0; a buffer that is written, `answer`, `state` and `nodes` overlap nothing else that is
+ * lent. Each function fills `answer`, whose first two numbers are the refusal's number (0: none; ranthelo_meaning has
+ * it in words) and place; after a refusal the others are 0 (but Merge tells the sheet concerned) and every lent buffer
+ * is as it was.
  *
- * Threads: the library keeps nothing between calls and has no memory of its own, so any number of threads may call it at once.
- * Stack: a thread that calls it has RANTHELO_STACK bytes free, 512 KiB. Judging, taking and making, records, and a station's Begin and
- * Change need about half of that, the other functions a tenth; with less the stack overflows, unchecked. */
+ * Threads: the library keeps nothing between calls and has no memory of its own, so any number of threads may call it
+ * at once.
+ * Stack: a thread that calls it has RANTHELO_STACK bytes free, 512 KiB. Judging, taking and making, records, and a
+ * station's Begin and Change need about half of that, the other functions a tenth; with less the stack overflows,
+ * unchecked. */
 #ifndef RANTHELO_H
 #define RANTHELO_H
 
@@ -45,8 +48,8 @@ RANTHELO_INLINE const char *ranthelo_version(void)
 /* Bytes of stack that are enough for every function. */
 #define RANTHELO_STACK 524288
 
-/* The limits of a sheet. A buffer of RANTHELO_MOST_BYTES takes every sheet, one of RANTHELO_MOST_OPEN_PAIRS every board, one of
- * RANTHELO_MOST_SEQUENCE every shortest departing sequence. */
+/* The limits of a sheet. A buffer of RANTHELO_MOST_BYTES takes every sheet, one of RANTHELO_MOST_OPEN_PAIRS every
+ * board, one of RANTHELO_MOST_SEQUENCE every shortest departing sequence. */
 #define RANTHELO_MOST_BYTES 16384
 #define RANTHELO_MOST_SIZE 16       /* states, presses and sounds, each */
 #define RANTHELO_MOST_FAULTS 256
@@ -55,7 +58,8 @@ RANTHELO_INLINE const char *ranthelo_version(void)
 #define RANTHELO_MOST_OPEN_PAIRS 32 /* choices of a board */
 #define RANTHELO_MOST_SEQUENCE 256  /* the square of the number of states, at most */
 
-/* Refusals: what answer[RANTHELO_NUMBER] says. The place is the offset of the command concerned unless said otherwise. */
+/* Refusals: what answer[RANTHELO_NUMBER] says. The place is the offset of the command concerned unless said
+ * otherwise. */
 enum ranthelo_refusal {
     RANTHELO_ACCEPTED = 0,         /* no refusal */
     RANTHELO_TOO_LONG = 1,         /* the sheet has over 16,384 bytes; place 16,384 */
@@ -83,7 +87,8 @@ enum ranthelo_refusal {
     RANTHELO_NO_PRESS_DUE = 24     /* a sound when no press is due, or one not below the number of sounds; place 0 */
 };
 
-/* What a refusal's number means, in one line without its place; NULL for RANTHELO_ACCEPTED and for a number that no function gives. */
+/* What a refusal's number means, in one line without its place; NULL for RANTHELO_ACCEPTED and for a number that no
+ * function gives. */
 RANTHELO_INLINE const char *ranthelo_meaning(size_t number)
 {
     switch (number) {
@@ -144,8 +149,8 @@ enum ranthelo_answer {
     RANTHELO_PLACE = 1
 };
 
-/* Read. The open pairs are the bytes of a board: with STARTs the first of them says in which state the board wakes (0: state 0, then the
- * STARTs in order), and it counts as an open pair. */
+/* Read. The open pairs are the bytes of a board: with STARTs the first of them says in which state the board wakes (0:
+ * state 0, then the STARTs in order), and it counts as an open pair. */
 enum ranthelo_read_answer {
     RANTHELO_READ_STATES = 2,
     RANTHELO_READ_PRESSES = 3,
@@ -166,36 +171,38 @@ enum ranthelo_test_span_answer {
     RANTHELO_TEST_SPAN_ANSWER = 4
 };
 
-void ranthelo_test_span(const uint8_t *sheet, size_t sheet_len, size_t test, size_t answer[RANTHELO_TEST_SPAN_ANSWER]);
+void ranthelo_test_span(const uint8_t *sheet, size_t sheet_len, size_t test,
+                        size_t answer[RANTHELO_TEST_SPAN_ANSWER]);
 
-/* Write a sheet from tables: how many states, presses and sounds; `quiet`, 0 for a sheet without QUIET; RULEs and FAULTs, four bytes a row
- * (s x o t); the states of the STARTs, one byte each; how many presses each test has, and the presses of all tests end to end.
- * `lengths_len` counts numbers, not bytes. The sheet at the buffer's front, for which RANTHELO_MOST_BYTES are always enough. A refusal
- * has place 0. */
+/* Write a sheet from tables: how many states, presses and sounds; `quiet`, 0 for a sheet without QUIET; RULEs and
+ * FAULTs, four bytes a row (s x o t); the states of the STARTs, one byte each; how many presses each test has, and the
+ * presses of all tests end to end. `lengths_len` counts numbers, not bytes. The sheet at the buffer's front, for which
+ * RANTHELO_MOST_BYTES are always enough. A refusal has place 0. */
 enum ranthelo_write_answer {
     RANTHELO_WRITE_LENGTH = 2, /* the sheet's */
     RANTHELO_WRITE_ANSWER = 3
 };
 
-void ranthelo_write(uint8_t states, uint8_t inputs, uint8_t outputs, uint8_t quiet, const uint8_t *rules, size_t rules_len,
-                    const uint8_t *faults, size_t faults_len, const uint8_t *starts, size_t starts_len, const uint16_t *lengths,
-                    size_t lengths_len, const uint8_t *presses, size_t presses_len, uint8_t *buffer, size_t buffer_len,
-                    size_t answer[RANTHELO_WRITE_ANSWER]);
+void ranthelo_write(uint8_t states, uint8_t inputs, uint8_t outputs, uint8_t quiet, const uint8_t *rules,
+                    size_t rules_len, const uint8_t *faults, size_t faults_len, const uint8_t *starts,
+                    size_t starts_len, const uint16_t *lengths, size_t lengths_len, const uint8_t *presses,
+                    size_t presses_len, uint8_t *buffer, size_t buffer_len, size_t answer[RANTHELO_WRITE_ANSWER]);
 
-/* Write a sheet from a seed: how many states, presses and sounds. A RULE for every state and press, FAULTs to at most 32, no QUIET, no
- * STARTs and no tests; the same bytes for the same numbers everywhere. The buffer has RANTHELO_MOST_BYTES at least. A refusal has place
- * 0. */
+/* Write a sheet from a seed: how many states, presses and sounds. A RULE for every state and press, FAULTs to at most
+ * 32, no QUIET, no STARTs and no tests; the same bytes for the same numbers everywhere. The buffer has
+ * RANTHELO_MOST_BYTES at least. A refusal has place 0. */
 enum ranthelo_generate_answer {
     RANTHELO_GENERATE_LENGTH = 2, /* the sheet's */
     RANTHELO_GENERATE_ANSWER = 3
 };
 
-void ranthelo_generate(uint32_t seed, uint8_t states, uint8_t inputs, uint8_t outputs, uint8_t *buffer, size_t buffer_len,
-                       size_t answer[RANTHELO_GENERATE_ANSWER]);
+void ranthelo_generate(uint32_t seed, uint8_t states, uint8_t inputs, uint8_t outputs, uint8_t *buffer,
+                       size_t buffer_len, size_t answer[RANTHELO_GENERATE_ANSWER]);
 
-/* Convert a sheet to first-reached form: states numbered as breadth-first search from state 0, presses ascending, meets them by RULEs alone;
- * RULEs, FAULTs and STARTs renumbered and put in order, everything else as it is. The sheet at the buffer's front: it is as long as the
- * one it was made from, and a shorter buffer is refused at place 0. Equal bytes for sheets that differ in their states' names alone. */
+/* Convert a sheet to first-reached form: states numbered as breadth-first search from state 0, presses ascending, meets
+ * them by RULEs alone; RULEs, FAULTs and STARTs renumbered and put in order, everything else as it is. The sheet at the
+ * buffer's front: it is as long as the one it was made from, and a shorter buffer is refused at place 0. Equal bytes
+ * for sheets that differ in their states' names alone. */
 enum ranthelo_renumber_answer {
     RANTHELO_RENUMBER_LENGTH = 2, /* the sheet's */
     RANTHELO_RENUMBER_ANSWER = 3
@@ -211,10 +218,12 @@ enum ranthelo_run_answer {
     RANTHELO_RUN_ANSWER = 4
 };
 
-void ranthelo_run(const uint8_t *sheet, size_t sheet_len, const uint8_t *board, size_t board_len, const uint8_t *presses,
-                  size_t presses_len, uint8_t *buffer, size_t buffer_len, size_t answer[RANTHELO_RUN_ANSWER]);
+void ranthelo_run(const uint8_t *sheet, size_t sheet_len, const uint8_t *board, size_t board_len,
+                  const uint8_t *presses, size_t presses_len, uint8_t *buffer, size_t buffer_len,
+                  size_t answer[RANTHELO_RUN_ANSWER]);
 
-/* First failed test. The open pairs used are those of all tests up to and including the wrong sound, of all tests if none is wrong. */
+/* First failed test. The open pairs used are those of all tests up to and including the wrong sound, of all tests if
+ * none is wrong. */
 enum ranthelo_first_failed_answer {
     RANTHELO_FIRST_FAILED_FAILS = 2,    /* 1 if a test fails */
     RANTHELO_FIRST_FAILED_TEST = 3,     /* that test, from 0 */
@@ -237,8 +246,9 @@ enum ranthelo_compare_answer {
 void ranthelo_compare(const uint8_t *sheet, size_t sheet_len, const uint8_t *board, size_t board_len, uint8_t *buffer,
                       size_t buffer_len, size_t answer[RANTHELO_COMPARE_ANSWER]);
 
-/* Judge: the first departing board that passes the list, and its shortest departing sequence, at the buffers' fronts. The one has as many
- * bytes as there are open pairs (RANTHELO_READ_OPEN_PAIRS) or more, the other n * n, for a complete list too. */
+/* Judge: the first departing board that passes the list, and its shortest departing sequence, at the buffers' fronts.
+ * The one has as many bytes as there are open pairs (RANTHELO_READ_OPEN_PAIRS) or more, the other n * n, for a complete
+ * list too. */
 enum ranthelo_judge_answer {
     RANTHELO_JUDGE_SURVIVES = 2, /* 0 for complete, 1 for a survivor */
     RANTHELO_JUDGE_LENGTH = 3,   /* the sequence's */
@@ -248,15 +258,17 @@ enum ranthelo_judge_answer {
 void ranthelo_judge(const uint8_t *sheet, size_t sheet_len, uint8_t *board, size_t board_len, uint8_t *sequence,
                     size_t sequence_len, size_t answer[RANTHELO_JUDGE_ANSWER]);
 
-/* Judge, and in `nodes` how many nodes its search looked at: a measurement, as it was on a refusal and otherwise free. */
-void ranthelo_judge_counting(const uint8_t *sheet, size_t sheet_len, uint8_t *board, size_t board_len, uint8_t *sequence,
-                             size_t sequence_len, size_t answer[RANTHELO_JUDGE_ANSWER], uint32_t *nodes);
+/* Judge, and in `nodes` how many nodes its search looked at: a measurement, as it was on a refusal and otherwise
+ * free. */
+void ranthelo_judge_counting(const uint8_t *sheet, size_t sheet_len, uint8_t *board, size_t board_len,
+                             uint8_t *sequence, size_t sequence_len, size_t answer[RANTHELO_JUDGE_ANSWER],
+                             uint32_t *nodes);
 
-/* Take the next board of a walk over the boards that pass the list, in dictionary order: the first that stands after the walk's place. The
- * caller keeps the place: the walk's start, the last board taken, which is lent as `last`, or its end. `last` is looked at only with
- * RANTHELO_PLACE_LAST. The board and, if it departs, its shortest departing sequence at the buffers' fronts, which are as long as for
- * Judge; at the end neither is touched, nor is the sequence buffer for a board that conforms. A refusal of `last` (13, 14) comes before
- * one of the buffers (16). */
+/* Take the next board of a walk over the boards that pass the list, in dictionary order: the first that stands after
+ * the walk's place. The caller keeps the place: the walk's start, the last board taken, which is lent as `last`, or its
+ * end. `last` is looked at only with RANTHELO_PLACE_LAST. The board and, if it departs, its shortest departing sequence
+ * at the buffers' fronts, which are as long as for Judge; at the end neither is touched, nor is the sequence buffer for
+ * a board that conforms. A refusal of `last` (13, 14) comes before one of the buffers (16). */
 enum ranthelo_place {
     RANTHELO_PLACE_START = 0,
     RANTHELO_PLACE_LAST = 1,
@@ -270,33 +282,36 @@ enum ranthelo_take_answer {
     RANTHELO_TAKE_ANSWER = 5
 };
 
-void ranthelo_take(const uint8_t *sheet, size_t sheet_len, uint8_t place, const uint8_t *last, size_t last_len, uint8_t *board,
-                   size_t board_len, uint8_t *sequence, size_t sequence_len, size_t answer[RANTHELO_TAKE_ANSWER]);
+void ranthelo_take(const uint8_t *sheet, size_t sheet_len, uint8_t place, const uint8_t *last, size_t last_len,
+                   uint8_t *board, size_t board_len, uint8_t *sequence, size_t sequence_len,
+                   size_t answer[RANTHELO_TAKE_ANSWER]);
 
-/* Add a test: the sheet with that test last, at the buffer's front, for which RANTHELO_MOST_BYTES are always enough. A walk goes on over
- * it from whatever place. Refused after reading: 8 at place 0 with 256 tests already; then press by press, the place its index, 5, 8 for
- * the 257th, 9; then 1, place 0, for over 16,384 bytes; then 16. */
+/* Add a test: the sheet with that test last, at the buffer's front, for which RANTHELO_MOST_BYTES are always enough. A
+ * walk goes on over it from whatever place. Refused after reading: 8 at place 0 with 256 tests already; then press by
+ * press, the place its index, 5, 8 for the 257th, 9; then 1, place 0, for over 16,384 bytes; then 16. */
 enum ranthelo_add_test_answer {
     RANTHELO_ADD_TEST_LENGTH = 2, /* the longer sheet's */
     RANTHELO_ADD_TEST_ANSWER = 3
 };
 
-void ranthelo_add_test(const uint8_t *sheet, size_t sheet_len, const uint8_t *presses, size_t presses_len, uint8_t *buffer,
-                       size_t buffer_len, size_t answer[RANTHELO_ADD_TEST_ANSWER]);
+void ranthelo_add_test(const uint8_t *sheet, size_t sheet_len, const uint8_t *presses, size_t presses_len,
+                       uint8_t *buffer, size_t buffer_len, size_t answer[RANTHELO_ADD_TEST_ANSWER]);
 
-/* Make the list complete: while it is not, the sequence that Judge tells is appended as a test. The made sheet at the buffer's front: the
- * sheet's own tests, then the appended ones. The buffer has RANTHELO_MOST_BYTES at least. */
+/* Make the list complete: while it is not, the sequence that Judge tells is appended as a test. The made sheet at the
+ * buffer's front: the sheet's own tests, then the appended ones. The buffer has RANTHELO_MOST_BYTES at least. */
 enum ranthelo_make_answer {
     RANTHELO_MAKE_LENGTH = 2,   /* the made sheet's */
     RANTHELO_MAKE_APPENDED = 3, /* how many tests were appended */
     RANTHELO_MAKE_ANSWER = 4
 };
 
-void ranthelo_make(const uint8_t *sheet, size_t sheet_len, uint8_t *buffer, size_t buffer_len, size_t answer[RANTHELO_MAKE_ANSWER]);
+void ranthelo_make(const uint8_t *sheet, size_t sheet_len, uint8_t *buffer, size_t buffer_len,
+                   size_t answer[RANTHELO_MAKE_ANSWER]);
 
-/* A tray of boards: how many they are, and their choices end to end. The first failed test of each, from 0, or RANTHELO_TRAY_NONE, at the
- * front of the results; `results_len` counts numbers, not bytes, and is `boards` or more. The sheet is read once. RANTHELO_BOARD_LENGTH: the
- * choices are not `boards` times the open pairs; RANTHELO_BAD_CHOICE: place the choice's index in the tray. */
+/* A tray of boards: how many they are, and their choices end to end. The first failed test of each, from 0, or
+ * RANTHELO_TRAY_NONE, at the front of the results; `results_len` counts numbers, not bytes, and is `boards` or more.
+ * The sheet is read once. RANTHELO_BOARD_LENGTH: the choices are not `boards` times the open pairs;
+ * RANTHELO_BAD_CHOICE: place the choice's index in the tray. */
 #define RANTHELO_TRAY_NONE 65535 /* no test fails */
 
 enum ranthelo_tray_answer {
@@ -306,11 +321,12 @@ enum ranthelo_tray_answer {
 void ranthelo_tray(const uint8_t *sheet, size_t sheet_len, size_t boards, const uint8_t *choices, size_t choices_len,
                    uint16_t *results, size_t results_len, size_t answer[RANTHELO_TRAY_ANSWER]);
 
-/* A lock's own record: 0x10 PULSE for a fresh start, 0x11 SEEN x o for a press and its sound, of any length. Refused with 20 at the first
- * command that is cut, unknown, out of range, or a SEEN before any PULSE; the place is the command's offset in the record. */
+/* A lock's own record: 0x10 PULSE for a fresh start, 0x11 SEEN x o for a press and its sound, of any length. Refused
+ * with 20 at the first command that is cut, unknown, out of range, or a SEEN before any PULSE; the place is the
+ * command's offset in the record. */
 enum ranthelo_record_answer {
-    RANTHELO_RECORD_DIFFERS = 2, /* 1 if a SEEN's sound differs from the specification's; nothing is compared from an undefined press
-                                    to the next PULSE */
+    RANTHELO_RECORD_DIFFERS = 2, /* 1 if a SEEN's sound differs from the specification's; nothing is compared from an
+                                    undefined press to the next PULSE */
     RANTHELO_RECORD_AT = 3,      /* the place of the first such SEEN in the record */
     RANTHELO_RECORD_GIVEN = 4,   /* 1 if some single board gives every sound */
     RANTHELO_RECORD_ANSWER = 5
@@ -319,8 +335,8 @@ enum ranthelo_record_answer {
 void ranthelo_record(const uint8_t *sheet, size_t sheet_len, const uint8_t *log, size_t log_len,
                      size_t answer[RANTHELO_RECORD_ANSWER]);
 
-/* The first board in dictionary order that gives a record, and its shortest departing sequence if it departs, at the buffers' fronts,
- * which are as long as for Judge. */
+/* The first board in dictionary order that gives a record, and its shortest departing sequence if it departs, at the
+ * buffers' fronts, which are as long as for Judge. */
 enum ranthelo_record_board_answer {
     RANTHELO_RECORD_BOARD_FOUND = 2,   /* 1 if some board gives the record */
     RANTHELO_RECORD_BOARD_DEPARTS = 3, /* 1 if that board departs */
@@ -332,10 +348,11 @@ void ranthelo_record_board(const uint8_t *sheet, size_t sheet_len, const uint8_t
                            size_t board_len, uint8_t *sequence, size_t sequence_len,
                            size_t answer[RANTHELO_RECORD_BOARD_ANSWER]);
 
-/* Merge two sheets of one machine: the sheet with the faults and STARTs of both, each once, in order, and the first sheet's tests followed by
- * the second's, at the buffer's front, which has RANTHELO_MOST_BYTES at least. If its list is judged complete, each departing board of either
- * sheet fails some test in it. Refused, in this order: as reading refuses the first sheet, then the second; 16; 21; 8 for over 256 FAULTs or
- * tests, 12, 1. All but those of reading have place 0. The two sheets may be the same bytes. */
+/* Merge two sheets of one machine: the sheet with the faults and STARTs of both, each once, in order, and the first
+ * sheet's tests followed by the second's, at the buffer's front, which has RANTHELO_MOST_BYTES at least. If its list is
+ * judged complete, each departing board of either sheet fails some test in it. Refused, in this order: as reading
+ * refuses the first sheet, then the second; 16; 21; 8 for over 256 FAULTs or tests, 12, 1. All but those of reading
+ * have place 0. The two sheets may be the same bytes. */
 enum ranthelo_merge_answer {
     RANTHELO_MERGE_SHEET = 2,  /* the sheet that a refusal on reading concerns, 1 or 2; otherwise 0 */
     RANTHELO_MERGE_LENGTH = 3, /* the merged sheet's */
@@ -345,18 +362,21 @@ enum ranthelo_merge_answer {
 void ranthelo_merge(const uint8_t *first, size_t first_len, const uint8_t *second, size_t second_len, uint8_t *buffer,
                     size_t buffer_len, size_t answer[RANTHELO_MERGE_ANSWER]);
 
-/* The bench station drives one lock through a sheet's list: Begin, then Next for each pulse and press, Sound for each sound. The caller
- * keeps the state, four numbers, and the sheet, and lends both to each call; a refusal leaves the state as it was. If each call gets the
- * sheet and the state that the one before left, the lock gets each pulse and press once, in order and nothing else, and its sounds are
- * those taken, then a lock that is passed and behaves as a board of the last sheet gives every specified sound on every list of fresh
- * starts and presses. Any four numbers are a state: a press that is due is any number but 0, a failure any verdict but 0 and 1, and a
- * verdict goes before a press that is due. A press that the sheet does not have counts as none: Next goes on, and Sound gets 24, as it
- * does after a verdict. A failure with no test begun is told as test 0. Next and Sound read the lent sheet first. */
+/* The bench station drives one lock through a sheet's list: Begin, then Next for each pulse and press, Sound for each
+ * sound. The caller keeps the state, four numbers, and the sheet, and lends both to each call; a refusal leaves the
+ * state as it was. If each call gets the sheet and the state that the one before left, the lock gets each pulse and
+ * press once, in order and nothing else, and its sounds are those taken, then a lock that is passed and behaves as a
+ * board of the last sheet gives every specified sound on every list of fresh starts and presses. Any four numbers are a
+ * state: a press that is due is any number but 0, a failure any verdict but 0 and 1, and a verdict goes before a press
+ * that is due. A press that the sheet does not have counts as none: Next goes on, and Sound gets 24, as it does after a
+ * verdict. A failure with no test begun is told as test 0. Next and Sound read the lent sheet first. */
 enum ranthelo_station_state {
     RANTHELO_STATION_BEGUN = 0,    /* how many tests have begun; the current one is the last of them */
-    RANTHELO_STATION_POSITION = 1, /* how many sounds of it were taken: the position of the press that is due, or of the next */
+    RANTHELO_STATION_POSITION = 1, /* how many sounds of it were taken: the position of the press that is due, or of the
+                                      next */
     RANTHELO_STATION_DUE = 2,      /* 1 if a press is due */
-    RANTHELO_STATION_VERDICT = 3,  /* 0 for none, 1 for pass, 2 for a failure, whose test and position the first two tell */
+    RANTHELO_STATION_VERDICT = 3,  /* 0 for none, 1 for pass, 2 for a failure, whose test and position the first two
+                                      tell */
     RANTHELO_STATION_STATE = 4     /* how many numbers `state` has */
 };
 
@@ -376,19 +396,22 @@ enum ranthelo_station_kind {
     RANTHELO_STATION_FAILURE = 3
 };
 
-/* Next: the verdict, if there is one; the press that is due once more; the next press of the current test, which is then due; the pulse
- * that begins the next test; or pass. The lock gets a press that is given again only once. */
+/* Next: the verdict, if there is one; the press that is due once more; the next press of the current test, which is
+ * then due; the pulse that begins the next test; or pass. The lock gets a press that is given again only once. */
 enum ranthelo_station_next_answer {
     RANTHELO_STATION_NEXT_KIND = 2,  /* RANTHELO_STATION_PULSE and so on */
-    RANTHELO_STATION_NEXT_FIRST = 3, /* of a pulse the test, from 0; of a press the press; of a failure its test; of pass 0 */
-    RANTHELO_STATION_NEXT_PLACE = 4, /* of a press its position, from 0; of a failure the position of the wrong sound; else 0 */
+    RANTHELO_STATION_NEXT_FIRST = 3, /* of a pulse the test, from 0; of a press the press; of a failure its test; of
+                                        pass 0 */
+    RANTHELO_STATION_NEXT_PLACE = 4, /* of a press its position, from 0; of a failure the position of the wrong sound;
+                                        else 0 */
     RANTHELO_STATION_NEXT_ANSWER = 5
 };
 
 void ranthelo_station_next(const uint8_t *sheet, size_t sheet_len, size_t state[RANTHELO_STATION_STATE],
                            size_t answer[RANTHELO_STATION_NEXT_ANSWER]);
 
-/* Sound: the sound of the press that is due (24 if none is, or the sound is not below the number of sounds). As specified it is taken; otherwise it is the failure, at once. */
+/* Sound: the sound of the press that is due (24 if none is, or the sound is not below the number of sounds). As
+ * specified it is taken; otherwise it is the failure, at once. */
 enum ranthelo_station_sound_answer {
     RANTHELO_STATION_SOUND_KIND = 2,     /* 0 for taken, RANTHELO_STATION_FAILURE */
     RANTHELO_STATION_SOUND_TEST = 3,     /* of the failure, from 0 */
@@ -396,19 +419,20 @@ enum ranthelo_station_sound_answer {
     RANTHELO_STATION_SOUND_ANSWER = 5
 };
 
-void ranthelo_station_sound(const uint8_t *sheet, size_t sheet_len, size_t state[RANTHELO_STATION_STATE], uint8_t sound,
-                            size_t answer[RANTHELO_STATION_SOUND_ANSWER]);
+void ranthelo_station_sound(const uint8_t *sheet, size_t sheet_len, size_t state[RANTHELO_STATION_STATE],
+                            uint8_t sound, size_t answer[RANTHELO_STATION_SOUND_ANSWER]);
 
-/* Change: whether the station goes on at the same press with a changed sheet, which is read first. Its list is complete (22); no verdict
- * was given, the station's own sheet is one, and SIZE,
- * QUIET, the RULEs and every test up to and including the current one are those of the station's sheet (23). From then on the caller
- * lends the changed sheet; after a refusal the old one. */
+/* Change: whether the station goes on at the same press with a changed sheet, which is read first. Its list is complete
+ * (22); no verdict was given, the station's own sheet is one, and SIZE, QUIET, the RULEs and every test up to and
+ * including the current one are those of the station's sheet (23). From then on the caller lends the changed sheet;
+ * after a refusal the old one. */
 enum ranthelo_station_change_answer {
     RANTHELO_STATION_CHANGE_ANSWER = 2
 };
 
 void ranthelo_station_change(const uint8_t *sheet, size_t sheet_len, const uint8_t *changed, size_t changed_len,
-                             const size_t state[RANTHELO_STATION_STATE], size_t answer[RANTHELO_STATION_CHANGE_ANSWER]);
+                             const size_t state[RANTHELO_STATION_STATE],
+                             size_t answer[RANTHELO_STATION_CHANGE_ANSWER]);
 
 #ifdef __cplusplus
 }

@@ -1,6 +1,9 @@
 //! Answers as the command prints them.
 
-use crate::{Comparison, Failure, Names, Passing, Recorded, Run, Step, Summary, Trial, Verdict};
+use crate::score::Walked;
+use crate::{
+    Comparison, Failure, Made, Names, Passing, Recorded, Run, Step, Summary, Trial, Verdict,
+};
 use std::fmt::{self, Display, Formatter};
 
 /// A name and what follows it, with one blank between: `board 0 1`.
@@ -38,6 +41,7 @@ impl Display for Summary {
 
 impl Run {
     /// `sound 1 1 0` and `used 0`, in the words of names.
+    #[must_use]
     pub fn named(&self, names: &Names) -> String {
         let sounds = fields("sound", self.sounds.iter().map(|&sound| names.sound(sound)));
         format!("{sounds}\n{}", fields("used", self.used.pairs()))
@@ -66,6 +70,7 @@ impl Display for Trial {
 
 impl Comparison {
     /// `conforms`, or `departs` and `press 0 1 0`, in the words of names.
+    #[must_use]
     pub fn named(&self, names: &Names) -> String {
         match self {
             Comparison::Conforms => "conforms".to_string(),
@@ -83,6 +88,7 @@ impl Display for Comparison {
 
 impl Verdict {
     /// `complete`, or `survivor`, `board 1` and `press 0 1 0`, in the words of names.
+    #[must_use]
     pub fn named(&self, names: &Names) -> String {
         match self {
             Verdict::Complete => "complete".to_string(),
@@ -94,6 +100,31 @@ impl Verdict {
                 )
             }
         }
+    }
+}
+
+/// `1 test appended`
+impl Display for Made {
+    fn fmt(&self, f: &mut Formatter) -> fmt::Result {
+        let tests = if self.appended == 1 { "test" } else { "tests" };
+        write!(f, "{} {tests} appended", self.appended)
+    }
+}
+
+/// `passing 2`, `conforming 1` and `departing 1`, each on a line.
+impl Display for Walked {
+    fn fmt(&self, f: &mut Formatter) -> fmt::Result {
+        let (
+            passing,
+            Walked {
+                conforming,
+                departing,
+            },
+        ) = (self.passing(), self);
+        write!(
+            f,
+            "passing {passing}\nconforming {conforming}\ndeparting {departing}"
+        )
     }
 }
 
@@ -118,6 +149,7 @@ impl Display for Passing {
 
 impl Passing {
     /// `board 0 1 conforms`, or `board 0 2 departs 0 1 0`, in the words of names.
+    #[must_use]
     pub fn named(&self, names: &Names) -> String {
         let board = fields("board", &self.board);
         let told = match &self.comparison {

@@ -1,9 +1,10 @@
-//! Why an operation refuses what it was asked, with the figures. That it refuses, and with which number and place, the library
-//! said; this module says what stands there.
+//! Why an operation refuses what it was asked, with the figures. That it refuses, and with which number and place, the
+//! library said; this module says what stands there.
 
 mod joined;
 mod records;
 
+use crate::answers::fields;
 use crate::explain::reason_named;
 use crate::machine::Machine;
 use crate::{
@@ -13,7 +14,7 @@ use crate::{
 use std::time::{Duration, Instant};
 
 /// How long is looked for the figures of a refusal that the library gave.
-const PATIENCE: Duration = Duration::from_secs(3);
+const PATIENCE: Duration = Duration::from_secs(30);
 
 /// What an operation took beside the sheet.
 #[derive(Clone, Copy, Debug)]
@@ -80,6 +81,7 @@ pub enum Asked<'a> {
 /// assert_eq!(why, "choice 2 at open pair 0 (state 0, press 0), which has 2");
 /// # Ok::<(), Box<dyn std::error::Error>>(())
 /// ```
+#[must_use]
 pub fn why(sheet: &[u8], asked: &Asked, refusal: Refusal, names: &Names) -> String {
     let general = || {
         meaning(refusal.number)
@@ -140,8 +142,10 @@ impl Asking<'_> {
             (18, Asked::Made) => full(self.sheet),
             (_, Asked::NewTest(presses)) => self.new_test(presses),
             (20, Asked::Record(record)) => records::why(&self.machine, record, place),
-            (_, Asked::Second(other)) => joined::merged(&self.machine, other, self.refusal.number),
-            (22, Asked::Station | Asked::Changed { .. }) => incomplete(self.sheet),
+            (_, Asked::Second(other)) => {
+                joined::merged(&self.machine, other, self.refusal.number, self.names)
+            }
+            (22, Asked::Station | Asked::Changed { .. }) => incomplete(self.sheet, self.names),
             (
                 23,
                 Asked::Changed {
@@ -149,7 +153,7 @@ impl Asking<'_> {
                     begun,
                     over,
                 },
-            ) => joined::changed(before, &self.machine, begun, over),
+            ) => joined::changed(before, &self.machine, begun, over, self.names),
             (24, Asked::Sound { sound, due }) => Some(match due {
                 false => "no press is due".to_string(),
                 true => format!("sound {sound} is not below {}", self.machine.sounds),
@@ -205,7 +209,7 @@ impl Asking<'_> {
             8 => Some(format!("{MOST_PRESSES} presses stand before it")),
             9 => {
                 let (state, press) = (
-                    self.machine.reached(&presses[..place])?,
+                    self.machine.reached(presses.get(..place)?)?,
                     self.names.press(*press()?),
                 );
                 let state = self.names.state(state);
@@ -225,12 +229,6 @@ fn many(number: usize, thing: &str) -> String {
         (_, "press") => format!("{number} presses"),
         _ => format!("{number} {thing}s"),
     }
-}
-
-/// `0 1 0`
-fn spaced(numbers: &[u8]) -> String {
-    let list: Vec<String> = numbers.iter().map(u8::to_string).collect();
-    list.join(" ")
 }
 
 /// Which limit keeps the next test from being appended: the tests are made once more, one after the other. None if that
@@ -265,12 +263,16 @@ fn no_room(sheet: &[u8], sequence: &[u8], own: usize, refusal: Refusal) -> Strin
 }
 
 /// What a list lacks.
-fn incomplete(sheet: &[u8]) -> Option<String> {
+fn incomplete(sheet: &[u8], names: &Names) -> Option<String> {
     let Verdict::Survivor { board, sequence } = judge(sheet).ok()? else {
         return None;
     };
-    let (board, presses) = (spaced(&board), spaced(&sequence));
+    let (board, presses) = (
+        fields("board", board),
+        sequence.iter().map(|&x| names.press(x)),
+    );
     Some(format!(
-        "the list is not complete: board {board} passes it and departs on {presses}"
+        "the list is not complete: {board} passes it and {}",
+        fields("departs on", presses)
     ))
 }

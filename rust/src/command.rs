@@ -48,9 +48,10 @@ const PURPOSE: &str =
 
 /// What its arguments are.
 const USAGE: &str = "\
-SHEET is a file, or - for standard input: the bytes of a sheet, or its text form. Without it a sheet that comes by a pipe
-is taken. SHEET.. is one or several; with several each answer begins with a line that names the file, and the greatest
-status of all ends the command.";
+SHEET is a file, or - for standard input: the bytes of a sheet, or its text form. Without it a sheet that comes by a
+pipe is taken. SHEET.. is one or several; with several each answer begins with a line that names the file, and the
+greatest status of all ends the command. Words of one file take several with --json; words that write take several into
+the folder that -o names, under each file's own name.";
 
 /// How it ends.
 const STATUS: &str = "\
@@ -78,10 +79,12 @@ pub fn perform(arguments: Vec<OsString>) -> Result<Status, Failure> {
         return output::print(word.help().as_bytes()).map(|()| Status::Good);
     }
     let arguments = Arguments::parse(word, rest)?;
-    match word.does {
+    let done = match word.does {
         Does::Answers(answer) => answer::on_sheets(&arguments, answer),
+        Does::Writes(make) => output::on_files(&arguments, make),
         Does::Performs(perform) => perform(&arguments),
-    }
+    };
+    Ok(done.unwrap_or_else(|failure| failure.settle(&arguments)))
 }
 
 /// The word of a name.

@@ -52,11 +52,13 @@ const fn kind(byte: u8, word: &'static str, operands: &'static [&'static str]) -
 
 impl Kind {
     /// The kind of a command byte, if there is one.
+    #[must_use]
     pub fn of(byte: u8) -> Option<&'static Kind> {
         KINDS.iter().find(|kind| kind.byte == byte)
     }
 
     /// The kind of a word, in capital or small letters.
+    #[must_use]
     pub fn named(word: &str) -> Option<&'static Kind> {
         KINDS
             .iter()
@@ -75,30 +77,35 @@ pub struct Command<'a> {
 }
 
 impl<'a> Command<'a> {
-    /// Its first byte.
+    /// Its first byte; 0 if it has none.
+    #[must_use]
     pub fn byte(self) -> u8 {
-        self.bytes[0]
+        self.bytes.first().copied().unwrap_or(0)
     }
 
     /// The operands that are there.
+    #[must_use]
     pub fn operands(self) -> &'a [u8] {
-        &self.bytes[1..]
+        self.bytes.get(1..).unwrap_or_default()
     }
 
     /// Its kind, if that is known.
+    #[must_use]
     pub fn kind(self) -> Option<&'static Kind> {
         Kind::of(self.byte())
     }
 
     /// Its kind, if that is known and all of its operands are there.
+    #[must_use]
     pub fn whole(self) -> Option<&'static Kind> {
         self.kind()
             .filter(|kind| kind.operands.len() == self.operands().len())
     }
 
     /// The offset after its last byte.
+    #[must_use]
     pub fn end(self) -> usize {
-        self.place + self.bytes.len()
+        self.place.saturating_add(self.bytes.len())
     }
 }
 

@@ -152,7 +152,8 @@ impl Picture {
         });
     }
 
-    /// The arrows, each with its labels: one for each press, none for a fresh start.
+    /// The arrows between its states, each with its labels: one for each press, none for a fresh start.
+    #[must_use]
     pub fn arrows(&self) -> BTreeMap<Arrow, Vec<String>> {
         let mut arrows: BTreeMap<Arrow, Vec<String>> = BTreeMap::new();
         for waking in &self.wakings {
@@ -168,6 +169,14 @@ impl Picture {
             let labels = arrows.entry(transition.arrow()).or_default();
             labels.push(transition.label(&self.names));
         }
+        let has = |state: u8| state < self.states;
+        arrows.retain(|arrow, _| {
+            let leads = match arrow.to {
+                Target::State(state) => has(state),
+                Target::Any => true,
+            };
+            leads && arrow.from.is_none_or(has)
+        });
         arrows
     }
 
@@ -218,6 +227,7 @@ impl Line {
 /// );
 /// # Ok::<(), Box<dyn std::error::Error>>(())
 /// ```
+#[must_use]
 pub fn machine(machine: &Machine, names: &Names, unspecified: bool) -> Picture {
     let mut picture = Picture::new(machine, names);
     picture.add_waking(0, Line::Rule, false);
@@ -237,7 +247,8 @@ pub fn machine(machine: &Machine, names: &Names, unspecified: bool) -> Picture {
 /// What the choices at a pair do; an unspecified pair leads to any state.
 fn transitions(machine: &Machine, pair: Pair) -> Vec<(Option<Move>, Line)> {
     let choices = machine.choices(pair);
-    if choices[0].origin == Origin::Unspecified && choices.len() > 1 {
+    let any = |choice: &Choice| choice.origin == Origin::Unspecified;
+    if choices.len() > 1 && choices.iter().all(any) {
         return vec![(None, Line::Unspecified)];
     }
     let transition = |Choice { origin, to }| (Some(to), Line::of(origin));

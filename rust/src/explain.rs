@@ -1,4 +1,5 @@
-//! Answers in words. What is said to be refused, sounded or departing, the library said; this module says where and how.
+//! Answers in words. What is said to be refused, sounded or departing, the library said; this module says where and
+//! how.
 
 mod answers;
 
@@ -17,11 +18,13 @@ pub use answers::{board, comparison, sequence, trial, verdict};
 /// let refusal = ranthelo::read(&sheet).unwrap_err();
 /// assert_eq!(ranthelo::explain::reason(&sheet, refusal), "press 3 is not below 1");
 /// ```
+#[must_use]
 pub fn reason(sheet: &[u8], refusal: Refusal) -> String {
     reason_named(sheet, refusal, &Names::NUMBERS)
 }
 
 /// The same with names.
+#[must_use]
 pub fn reason_named(sheet: &[u8], refusal: Refusal, names: &Names) -> String {
     let Refusal { number, place } = refusal;
     let command = commands(sheet).find(|command| command.place == place);

@@ -1,4 +1,5 @@
-//! Machines that come from elsewhere: Mealy machines in Graphviz's DOT, as learners and benchmarks write them, and KISS2.
+//! Machines that come from elsewhere: Mealy machines in Graphviz's DOT, as learners and benchmarks write them, and
+//! KISS2.
 
 mod dot;
 mod kiss;
@@ -11,7 +12,8 @@ use crate::text::{Mistake, Mistakes};
 use std::collections::{BTreeMap, BTreeSet};
 use symbols::Symbols;
 
-/// A machine as a sheet without tests, whatever reading makes of it, and what its states, presses and sounds were called.
+/// A machine as a sheet without tests, whatever reading makes of it, and what its states, presses and sounds were
+/// called.
 #[derive(Clone, Debug, PartialEq, Eq)]
 pub struct Imported {
     /// The sheet's bytes.
@@ -51,7 +53,8 @@ struct Found {
 /// ```
 /// use ranthelo::{import, text::disassemble_named};
 ///
-/// let imported = import::machine(br#"digraph { __start0 -> s0; s0 -> s1 [label="a/0"]; s1 -> s0 [label="a/1"]; }"#).unwrap();
+/// let dot = br#"digraph { __start0 -> s0; s0 -> s1 [label="a/0"]; s1 -> s0 [label="a/1"]; }"#;
+/// let imported = import::machine(dot).unwrap();
 /// assert_eq!(
 ///     disassemble_named(&imported.sheet, &imported.names),
 ///     "SIZE 2 1 2\nSTATES s0 s1\nPRESSES a\nRULE s0 a 0 s1\nRULE s1 a 1 s0\n",

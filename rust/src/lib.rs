@@ -34,7 +34,7 @@
 //! [`asked`], [`faults`], [`import`], [`records`] and [`draw`] are plain Rust: they spell and show, and decide nothing
 //! of a sheet.
 
-#![warn(missing_docs)]
+#![deny(missing_docs)]
 
 mod answers;
 pub mod asked;

@@ -8,8 +8,8 @@ use crate::text::{spelled, words};
 use crate::{Refusal, read};
 use std::ops::Range;
 
-/// Each command with its offset, bytes and words. Of an accepted sheet then the open pairs and their choices; of a refused one
-/// the refused place is marked with `>`, and the line below it says why.
+/// Each command with its offset, bytes and words. Of an accepted sheet then the open pairs and their choices; of a
+/// refused one the refused place is marked with `>`, and the line below it says why.
 ///
 /// ```
 /// let listing = ranthelo::list::list(&[1, 1, 1, 1, 9]);
@@ -21,11 +21,13 @@ use std::ops::Range;
 /// ",
 /// );
 /// ```
+#[must_use]
 pub fn list(sheet: &[u8]) -> String {
     named(sheet, &Names::NUMBERS)
 }
 
 /// The same with names in what it says beside the commands.
+#[must_use]
 pub fn named(sheet: &[u8], names: &Names) -> String {
     match read(sheet) {
         Ok(_) => {
@@ -101,8 +103,8 @@ fn many(number: u8, thing: &str) -> String {
     }
 }
 
-/// The commands up to the refused place, that place with its mark and the reason, and the rest in words alone. Of a sheet
-/// that is too long no command has been looked at; it is shown as far as a sheet may go.
+/// The commands up to the refused place, that place with its mark and the reason, and the rest in words alone. Of a
+/// sheet that is too long no command has been looked at; it is shown as far as a sheet may go.
 fn refused(sheet: &[u8], refusal: Refusal, names: &Names) -> String {
     let Refusal { number, place } = refusal;
     let marked = marked(sheet, refusal);
@@ -113,6 +115,7 @@ fn refused(sheet: &[u8], refusal: Refusal, names: &Names) -> String {
 }
 
 /// The refused place, with its mark, and why it is refused.
+#[must_use]
 pub fn marked(sheet: &[u8], refusal: Refusal) -> String {
     let Refusal { number, place } = refusal;
     let command = commands(sheet).find(|command| command.place == place && number != 1);

@@ -141,12 +141,14 @@ impl Machine {
     }
 
     /// The state that the RULEs lead to from state 0, if there is one at each press.
+    #[must_use]
     pub fn reached(&self, presses: &[u8]) -> Option<u8> {
         let step = |state, &press: &u8| self.rules.get(&(state, press)).map(|to| to.next);
         presses.iter().try_fold(0, step)
     }
 
     /// The choices at a pair, by their numbers.
+    #[must_use]
     pub fn choices(&self, pair: Pair) -> Vec<Choice> {
         let choice = |origin| move |to| Choice { origin, to };
         match self.rules.get(&pair) {
@@ -181,6 +183,7 @@ impl Machine {
     }
 
     /// The open pairs, in the order of a board's choices. If the sheet has STARTs, the first is the waking.
+    #[must_use]
     pub fn open_pairs(&self) -> Vec<OpenPair> {
         let waking = [(Site::Waking, self.waking())].into_iter();
         let pairs = self
@@ -202,6 +205,7 @@ impl Machine {
     /// assert!(machine.with(&[2]).is_none() && machine.with(&[]).is_none());
     /// # Ok::<(), Box<dyn std::error::Error>>(())
     /// ```
+    #[must_use]
     pub fn with<'a>(&'a self, board: &'a [u8]) -> Option<Board<'a>> {
         let open_pairs = self.open_pairs();
         let fits = |(pair, &choice): (&OpenPair, &u8)| usize::from(choice) < pair.choices.len();
@@ -229,24 +233,36 @@ impl Board<'_> {
         self.open_pairs.iter().zip(choices)
     }
 
-    fn step_at(&self, site: Site, only: impl FnOnce() -> Choice) -> Step {
+    /// What is taken at a site: at an open pair the board's choice, elsewhere the only one. Where a machine that no
+    /// sheet has gives none, the state stays.
+    fn step_at(&self, site: Site, only: Option<Choice>, state: u8) -> Step {
         let open_pair = self.open_pairs.iter().position(|pair| pair.site == site);
         let choice = match open_pair {
-            Some(i) => self.open_pairs[i].choices[usize::from(self.choices[i])],
-            None => only(),
+            Some(i) => self
+                .taken()
+                .nth(i)
+                .and_then(|(pair, number)| pair.choices.get(number).copied()),
+            None => only,
         };
-        let to = choice.to;
+        let stays = Move {
+            sound: 0,
+            next: state,
+        };
+        let to = choice.map_or(stays, |choice| choice.to);
         Step { to, open_pair }
     }
 
     /// The state after a fresh start; its sound means nothing.
+    #[must_use]
     pub fn wake(&self) -> Step {
-        self.step_at(Site::Waking, || self.machine.waking()[0])
+        self.step_at(Site::Waking, self.machine.waking().first().copied(), 0)
     }
 
     /// What a press does at a state.
+    #[must_use]
     pub fn step(&self, state: u8, press: u8) -> Step {
         let pair = (state, press);
-        self.step_at(Site::Pair(pair), || self.machine.choices(pair)[0])
+        let only = self.machine.choices(pair).first().copied();
+        self.step_at(Site::Pair(pair), only, state)
     }
 }

@@ -27,6 +27,7 @@ impl Named {
     }
 
     /// One of them, in words.
+    #[must_use]
     pub fn one(self) -> &'static str {
         match self {
             Named::State => "state",
@@ -74,6 +75,7 @@ impl Names {
     };
 
     /// The names of one kind.
+    #[must_use]
     pub fn of(&self, kind: Named) -> &[String] {
         match kind {
             Named::State => &self.states,
@@ -91,17 +93,20 @@ impl Names {
     }
 
     /// Whether there are none.
+    #[must_use]
     pub fn is_empty(&self) -> bool {
         Named::ALL.iter().all(|&kind| self.of(kind).is_empty())
     }
 
     /// A name, or the number where there is none.
+    #[must_use]
     pub fn called(&self, kind: Named, number: u8) -> String {
         let name = self.of(kind).get(usize::from(number)).cloned();
         name.unwrap_or_else(|| number.to_string())
     }
 
     /// The number that has a name.
+    #[must_use]
     pub fn number(&self, kind: Named, name: &str) -> Option<u8> {
         let number = self.of(kind).iter().position(|other| other == name)?;
         u8::try_from(number).ok()
@@ -128,21 +133,25 @@ impl Names {
     }
 
     /// What a state is called.
+    #[must_use]
     pub fn state(&self, state: u8) -> String {
         self.called(Named::State, state)
     }
 
     /// What a press is called.
+    #[must_use]
     pub fn press(&self, press: u8) -> String {
         self.called(Named::Press, press)
     }
 
     /// What a sound is called.
+    #[must_use]
     pub fn sound(&self, sound: u8) -> String {
         self.called(Named::Sound, sound)
     }
 
     /// `state 1, press 0`, or `waking`.
+    #[must_use]
     pub fn site(&self, site: Site) -> String {
         match site {
             Site::Waking => "waking".to_string(),
@@ -153,6 +162,7 @@ impl Names {
     }
 
     /// `sound 0, next state 1`
+    #[must_use]
     pub fn to(&self, to: Move) -> String {
         format!(
             "sound {}, next state {}",

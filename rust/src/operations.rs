@@ -244,8 +244,9 @@ pub fn generate(seed: u32, size: [u8; 3]) -> Result<Vec<u8>, Refusal> {
     })
 }
 
-/// The sheet in first-reached form: states numbered as breadth-first search from state 0, presses ascending, meets them by RULEs
-/// alone, and the commands put in order again. Two sheets have one such form exactly when they differ in their states' names alone.
+/// The sheet in first-reached form: states numbered as breadth-first search from state 0, presses ascending, meets them
+/// by RULEs alone, and the commands put in order again. Two sheets have one such form exactly when they differ in their
+/// states' names alone.
 ///
 /// ```
 /// let sheet = ranthelo::text::assemble(b"SIZE 3 1 2\n RULE 0 0 0 2\n RULE 1 0 1 0\n RULE 2 0 0 1\n TEST 0 0 0")?;
@@ -355,8 +356,8 @@ pub fn judge(sheet: &[u8]) -> Result<Verdict, Refusal> {
     }
 }
 
-/// Takes the next board that passes the list: the first in dictionary order after a place, none at the end. The thread needs
-/// [`STACK`](crate::STACK) bytes of stack.
+/// Takes the next board that passes the list: the first in dictionary order after a place, none at the end. The thread
+/// needs [`STACK`](crate::STACK) bytes of stack.
 ///
 /// ```
 /// use ranthelo::{Comparison, Place};
@@ -396,8 +397,8 @@ pub fn take(sheet: &[u8], place: &Place) -> Result<Option<Passing>, Refusal> {
     Ok(Some(Passing { board, comparison }))
 }
 
-/// The sheet with one test more, the last. A refusal is reading's, 8 at 0 for the 257th test, 5, 8 or 9 at the index of a press,
-/// or 1 at 0 for over 16,384 bytes.
+/// The sheet with one test more, the last. A refusal is reading's, 8 at 0 for the 257th test, 5, 8 or 9 at the index of
+/// a press, or 1 at 0 for over 16,384 bytes.
 ///
 /// ```
 /// let sheet = ranthelo::text::assemble(b"SIZE 1 1 2\n RULE 0 0 0 0\n TEST")?;
@@ -416,15 +417,16 @@ pub fn add_test(sheet: &[u8], presses: &[u8]) -> Result<Vec<u8>, Refusal> {
     })
 }
 
-/// Makes the sheet's list of tests complete: while it is not, the sequence of the verdict's survivor is appended as a test. A
-/// refusal is reading's, or 18 where the next test does not fit. The thread needs [`STACK`](crate::STACK) bytes of stack.
+/// Makes the sheet's list of tests complete: while it is not, the sequence of the verdict's survivor is appended as a
+/// test. A refusal is reading's, or 18 where the next test does not fit. The thread needs [`STACK`](crate::STACK) bytes
+/// of stack.
 ///
 /// ```
 /// use ranthelo::Verdict;
 ///
 /// let sheet = ranthelo::text::assemble(b"SIZE 1 1 2\n RULE 0 0 0 0\n FAULT 0 0 1 0\n TEST")?;
 /// let made = ranthelo::make(&sheet)?;
-/// assert_eq!(made.appended, 1);
+/// assert_eq!((made.appended, made.to_string().as_str()), (1, "1 test appended"));
 /// assert_eq!(ranthelo::test_part(&made.sheet, 1)?, [5, 0]);
 /// assert_eq!(ranthelo::judge(&made.sheet)?, Verdict::Complete);
 /// # Ok::<(), Box<dyn std::error::Error>>(())
@@ -441,6 +443,7 @@ pub fn make(sheet: &[u8]) -> Result<Made, Refusal> {
 }
 
 /// The first test that each board of a tray fails, none where it fails none. The boards' choices stand end to end.
+/// Refused with 16 if there are more boards than memory holds.
 ///
 /// ```
 /// let sheet = ranthelo::text::assemble(b"SIZE 1 1 2\n RULE 0 0 0 0\n FAULT 0 0 1 0\n TEST\n TEST 0")?;
@@ -454,7 +457,11 @@ pub fn tray(sheet: &[u8], boards: usize, choices: &[u8]) -> Result<Vec<Option<us
         0 => 0,
         open_pairs => boards.min(choices.len() / open_pairs),
     };
-    let (mut results, mut answer) = (vec![0; room], [0; 2]);
+    // For more boards than memory holds there is no room at all: the library refuses them with 16.
+    let (mut results, mut answer) = (Vec::new(), [0; 2]);
+    if results.try_reserve_exact(room).is_ok() {
+        results.resize(room, 0);
+    }
     raw::tray(sheet, boards, choices, &mut results, &mut answer);
     rest(&answer)?;
     let test = |result: u16| (result != u16::MAX).then_some(usize::from(result));
@@ -464,15 +471,15 @@ pub fn tray(sheet: &[u8], boards: usize, choices: &[u8]) -> Result<Vec<Option<us
 /// What a lock's own record tells.
 #[derive(Clone, Copy, Debug, PartialEq, Eq)]
 pub struct Recorded {
-    /// The place in the record of the first SEEN whose sound differs from the specification's. From an undefined press to the
-    /// next PULSE nothing is compared.
+    /// The place in the record of the first SEEN whose sound differs from the specification's. From an undefined press
+    /// to the next PULSE nothing is compared.
     pub differs: Option<usize>,
     /// Whether some single board of the sheet gives every sound.
     pub given: bool,
 }
 
-/// Checks a lock's own record: `0x10` for a pulse, `0x11 x o` for a press and its sound, of any length. The thread needs
-/// [`STACK`](crate::STACK) bytes of stack.
+/// Checks a lock's own record: `0x10` for a pulse, `0x11 x o` for a press and its sound, of any length. The thread
+/// needs [`STACK`](crate::STACK) bytes of stack.
 ///
 /// ```
 /// let sheet = ranthelo::text::assemble(b"SIZE 1 1 2\n RULE 0 0 0 0\n FAULT 0 0 1 0")?;
@@ -492,8 +499,8 @@ pub fn check_record(sheet: &[u8], log: &[u8]) -> Result<Recorded, Refusal> {
     })
 }
 
-/// The first board in dictionary order that gives a record, if there is one. The thread needs [`STACK`](crate::STACK) bytes
-/// of stack.
+/// The first board in dictionary order that gives a record, if there is one. The thread needs [`STACK`](crate::STACK)
+/// bytes of stack.
 pub fn explain_record(sheet: &[u8], log: &[u8]) -> Result<Option<Passing>, Refusal> {
     let (mut board, mut sequence) = ([0; MOST_OPEN_PAIRS], [0; MOST_SEQUENCE]);
     let mut answer = [0; 5];
@@ -510,8 +517,9 @@ pub fn explain_record(sheet: &[u8], log: &[u8]) -> Result<Option<Passing>, Refus
     Ok(Some(Passing { board, comparison }))
 }
 
-/// The sheet with the faults and STARTs of two sheets of one machine, each once, in order, and the first sheet's tests followed by the
-/// second's. If its list is judged complete, each departing board of either sheet fails some test in it.
+/// The sheet with the faults and STARTs of two sheets of one machine, each once, in order, and the first sheet's tests
+/// followed by the second's. If its list is judged complete, each departing board of either sheet fails some test in
+/// it.
 ///
 /// ```
 /// let plastics = ranthelo::text::assemble(b"SIZE 1 1 3\n RULE 0 0 0 0\n FAULT 0 0 1 0\n TEST 0")?;

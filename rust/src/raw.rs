@@ -247,7 +247,8 @@ pub fn write(tables: Tables, buffer: &mut [u8], answer: &mut [usize; 3]) {
     }
 }
 
-/// Generate: states, presses and sounds are the size. Number, place, the sheet's length; the sheet at the buffer's front.
+/// Generate: states, presses and sounds are the size. Number, place, the sheet's length; the sheet at the buffer's
+/// front.
 pub fn generate(seed: u32, size: [u8; 3], buffer: &mut [u8], answer: &mut [usize; 3]) {
     let [states, inputs, outputs] = size;
     // SAFETY: the buffer and the answer are valid for their lengths throughout the call.
@@ -311,8 +312,8 @@ pub fn first_failed(sheet: &[u8], board: &[u8], answer: &mut [usize; 7]) {
     }
 }
 
-/// Compare. Number, place, 1 if the board departs, the length of the shortest departing sequence, which is written to the
-/// buffer's front.
+/// Compare. Number, place, 1 if the board departs, the length of the shortest departing sequence, which is written to
+/// the buffer's front.
 pub fn compare(sheet: &[u8], board: &[u8], buffer: &mut [u8], answer: &mut [usize; 4]) {
     // SAFETY: all slices and the answer are valid for their lengths throughout the call.
     unsafe {
@@ -328,8 +329,8 @@ pub fn compare(sheet: &[u8], board: &[u8], buffer: &mut [u8], answer: &mut [usiz
     }
 }
 
-/// Judge. Number, place, 1 if there is a survivor, the length of its sequence; the survivor's board and its sequence at the
-/// buffers' fronts.
+/// Judge. Number, place, 1 if there is a survivor, the length of its sequence; the survivor's board and its sequence at
+/// the buffers' fronts.
 pub fn judge(sheet: &[u8], board: &mut [u8], sequence: &mut [u8], answer: &mut [usize; 4]) {
     // SAFETY: all slices and the answer are valid for their lengths throughout the call.
     unsafe {
@@ -368,8 +369,9 @@ pub fn judge_counting(
     }
 }
 
-/// Take. `place` is 0 for the walk's start, 1 for the board `last`, any other number for the end. Number, place, 1 if a board is
-/// taken (0 at the end), 1 if it departs, the length of its sequence; the board and its sequence at the buffers' fronts.
+/// Take. `place` is 0 for the walk's start, 1 for the board `last`, any other number for the end. Number, place, 1 if a
+/// board is taken (0 at the end), 1 if it departs, the length of its sequence; the board and its sequence at the
+/// buffers' fronts.
 pub fn take(
     sheet: &[u8],
     place: u8,
@@ -411,8 +413,8 @@ pub fn add_test(sheet: &[u8], presses: &[u8], buffer: &mut [u8], answer: &mut [u
     }
 }
 
-/// Make the list complete. Number, place, the made sheet's length, how many tests were appended; the made sheet at the buffer's
-/// front.
+/// Make the list complete. Number, place, the made sheet's length, how many tests were appended; the made sheet at the
+/// buffer's front.
 pub fn make(sheet: &[u8], buffer: &mut [u8], answer: &mut [usize; 4]) {
     // SAFETY: both slices and the answer are valid for their lengths throughout the call.
     unsafe {
@@ -426,8 +428,8 @@ pub fn make(sheet: &[u8], buffer: &mut [u8], answer: &mut [usize; 4]) {
     }
 }
 
-/// A tray of boards, their choices end to end. Number, place; the first failed test of each board, 65,535 for none, at the front of
-/// the results.
+/// A tray of boards, their choices end to end. Number, place; the first failed test of each board, 65,535 for none, at
+/// the front of the results.
 pub fn tray(
     sheet: &[u8],
     boards: usize,
@@ -450,8 +452,8 @@ pub fn tray(
     }
 }
 
-/// A lock's own record. Number, place, 1 if a SEEN differs from the specification, its place in the record, 1 if some board
-/// gives every sound.
+/// A lock's own record. Number, place, 1 if a SEEN differs from the specification, its place in the record, 1 if some
+/// board gives every sound.
 pub fn record(sheet: &[u8], log: &[u8], answer: &mut [usize; 5]) {
     // SAFETY: all slices and the answer are valid for their lengths throughout the call.
     unsafe {
@@ -465,8 +467,8 @@ pub fn record(sheet: &[u8], log: &[u8], answer: &mut [usize; 5]) {
     }
 }
 
-/// The first board that gives a record. Number, place, 1 if there is one, 1 if it departs, the length of its sequence; the board
-/// and its sequence at the buffers' fronts.
+/// The first board that gives a record. Number, place, 1 if there is one, 1 if it departs, the length of its sequence;
+/// the board and its sequence at the buffers' fronts.
 pub fn record_board(
     sheet: &[u8],
     log: &[u8],
@@ -490,8 +492,8 @@ pub fn record_board(
     }
 }
 
-/// Merge. Number, place, the sheet that a refusal on reading concerns (1 or 2; 0 otherwise), the merged sheet's length; the merged
-/// sheet at the buffer's front. The two sheets may be the same bytes.
+/// Merge. Number, place, the sheet that a refusal on reading concerns (1 or 2; 0 otherwise), the merged sheet's length;
+/// the merged sheet at the buffer's front. The two sheets may be the same bytes.
 pub fn merge(first: &[u8], second: &[u8], buffer: &mut [u8], answer: &mut [usize; 4]) {
     // SAFETY: all slices and the answer are valid for their lengths throughout the call.
     unsafe {
@@ -521,8 +523,8 @@ pub fn station_begin(sheet: &[u8], state: &mut [usize; 4], answer: &mut [usize; 
     }
 }
 
-/// The station's next step. Number, place, kind (0 pulse, 1 press, 2 pass, 3 failure); of a pulse the test and 0, of a press
-/// that and its position, of a failure its test and position.
+/// The station's next step. Number, place, kind (0 pulse, 1 press, 2 pass, 3 failure); of a pulse the test and 0, of a
+/// press that and its position, of a failure its test and position.
 pub fn station_next(sheet: &[u8], state: &mut [usize; 4], answer: &mut [usize; 5]) {
     // SAFETY: the slice, the state and the answer are valid for their lengths throughout the call.
     unsafe {

@@ -67,9 +67,10 @@ impl Record {
     }
 
     /// The presses between the last PULSE and an offset.
+    #[must_use]
     pub fn presses_before(&self, offset: usize) -> Vec<u8> {
         let (mut presses, mut at) = (Vec::new(), 0);
-        while at < offset {
+        while at < offset.min(self.bytes.len()) {
             match self.bytes.get(at..) {
                 Some([PULSE, ..]) => presses.clear(),
                 Some([SEEN, press, ..]) => presses.push(*press),
@@ -85,9 +86,10 @@ impl Record {
     }
 
     /// Where the command at an offset stands.
+    #[must_use]
     pub fn place(&self, offset: usize) -> Place {
         let (mut pulses, mut position, mut at) = (0_usize, 0, 0);
-        while at < offset {
+        while at < offset.min(self.bytes.len()) {
             match self.bytes.get(at) {
                 Some(&PULSE) => (pulses, position, at) = (pulses + 1, 0, at + 1),
                 Some(&SEEN) => (position, at) = (position + 1, at + 3),
@@ -150,6 +152,7 @@ fn spell(words: &Words, names: &Names) -> Result<Vec<u8>, String> {
 /// let bytes = [0x10, 0x11, 0, 0, 0x11, 1, 1, 0x10, 0x12];
 /// assert_eq!(spelled(&bytes, &Names::default()), "PULSE 0/0 1/1\nPULSE\nHEX 12\n");
 /// ```
+#[must_use]
 pub fn spelled(bytes: &[u8], names: &Names) -> String {
     let (mut lines, mut left): (Vec<String>, &[u8]) = (Vec::new(), bytes);
     loop {

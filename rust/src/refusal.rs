@@ -8,7 +8,8 @@ use std::fmt;
 pub struct Refusal {
     /// Which rule is broken; see [`meaning`].
     pub number: usize,
-    /// The offset of the command concerned, for 1 to 12; the index of the byte concerned, for 14 and 15; otherwise 0 or 1.
+    /// The offset of the command concerned, for 1 to 12; the index of the byte concerned, for 14 and 15; otherwise 0 or
+    /// 1.
     pub place: usize,
 }
 

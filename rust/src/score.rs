@@ -64,6 +64,7 @@ impl fmt::Display for Count {
 /// assert_eq!(score::boards(&Machine::of(&sheet)?).to_string(), "4");
 /// # Ok::<(), Box<dyn std::error::Error>>(())
 /// ```
+#[must_use]
 pub fn boards(machine: &Machine) -> Count {
     let pairs = machine.open_pairs();
     pairs.iter().fold(Count(vec![1]), |count, pair| {
@@ -72,6 +73,17 @@ pub fn boards(machine: &Machine) -> Count {
 }
 
 /// What a whole walk over the boards that pass comes to.
+///
+/// ```
+/// use ranthelo::{machine::Machine, score::Walked, text::assemble};
+///
+/// let sheet = assemble(b"SIZE 1 1 3\n RULE 0 0 0 0\n FAULT 0 0 1 0\n FAULT 0 0 2 0")?;
+/// let walked = Walked { conforming: 1, departing: 1 };
+/// assert_eq!(walked.to_string(), "passing 2\nconforming 1\ndeparting 1");
+/// let (found, all) = walked.score(&Machine::of(&sheet)?);
+/// assert_eq!((found.to_string(), all.to_string()), ("1".to_string(), "2".to_string()));
+/// # Ok::<(), Box<dyn std::error::Error>>(())
+/// ```
 #[derive(Clone, Copy, Debug, Default, PartialEq, Eq)]
 pub struct Walked {
     /// How many conform.
@@ -82,12 +94,14 @@ pub struct Walked {
 
 impl Walked {
     /// How many pass.
+    #[must_use]
     pub fn passing(&self) -> u64 {
-        self.conforming + self.departing
+        self.conforming.saturating_add(self.departing)
     }
 
-    /// The mutation score: of the departing boards those that fail the list, and how many depart. A conforming board fails no list, so the
-    /// walk has met all of them.
+    /// The mutation score: of the departing boards those that fail the list, and how many depart. A conforming board
+    /// fails no list, so the walk has met all of them.
+    #[must_use]
     pub fn score(&self, machine: &Machine) -> (Count, Count) {
         let all = boards(machine);
         (all.clone().less(self.passing()), all.less(self.conforming))

@@ -12,7 +12,8 @@ pub enum Step {
         /// Its number.
         test: usize,
     },
-    /// Press, and tell the sound. The press is due until then; given again, it is the same one, which the lock gets once.
+    /// Press, and tell the sound. The press is due until then; given again, it is the same one, which the lock gets
+    /// once.
     Press {
         /// Which press.
         press: u8,
@@ -27,9 +28,9 @@ pub enum Step {
 
 /// A station that drives one lock through the list of a sheet, which is complete.
 ///
-/// If the lock gets each pulse and press once, in order and nothing else, and gives the sounds that are told, then a lock
-/// that is passed and behaves as a board of the station's sheet gives every specified sound on every list of fresh starts and
-/// presses.
+/// If the lock gets each pulse and press once, in order and nothing else, and gives the sounds that are told, then a
+/// lock that is passed and behaves as a board of the station's sheet gives every specified sound on every list of fresh
+/// starts and presses.
 ///
 /// ```
 /// use ranthelo::{Station, Step};
@@ -60,8 +61,8 @@ impl Station {
         Ok(Station { sheet, state })
     }
 
-    /// Goes on with a sheet and a state that a station left, as [`sheet`](Self::sheet) and [`state`](Self::state) tell them. Any
-    /// four numbers are a state; what pass means is told only of those that a station of this sheet left.
+    /// Goes on with a sheet and a state that a station left, as [`sheet`](Self::sheet) and [`state`](Self::state) tell
+    /// them. Any four numbers are a state; what pass means is told only of those that a station of this sheet left.
     pub fn resume(sheet: &[u8], state: [usize; 4]) -> Result<Self, Refusal> {
         read(sheet)?;
         let sheet = sheet.to_vec();
@@ -84,8 +85,8 @@ impl Station {
         }
     }
 
-    /// Takes the sound of the press that is due: none if it is the specified one, or the failure. Refused with 24 if no press is
-    /// due or the sound is not one of the sheet's.
+    /// Takes the sound of the press that is due: none if it is the specified one, or the failure. Refused with 24 if no
+    /// press is due or the sound is not one of the sheet's.
     pub fn sound(&mut self, sound: u8) -> Result<Option<Failure>, Refusal> {
         let mut answer = [0; 5];
         raw::station_sound(&self.sheet, &mut self.state, sound, &mut answer);
@@ -93,9 +94,9 @@ impl Station {
         Ok((numbers[0] != 0).then(|| failure(numbers[1], numbers[2])))
     }
 
-    /// Goes on at the same press with a changed sheet. A refusal is reading's; 22 for a list that is not complete; 23 after the
-    /// verdict, or if SIZE, QUIET, the RULEs or a test up to and including the current one differ. It leaves the station as it
-    /// was. The thread needs [`STACK`](crate::STACK) bytes of stack.
+    /// Goes on at the same press with a changed sheet. A refusal is reading's; 22 for a list that is not complete; 23
+    /// after the verdict, or if SIZE, QUIET, the RULEs or a test up to and including the current one differ. It leaves
+    /// the station as it was. The thread needs [`STACK`](crate::STACK) bytes of stack.
     pub fn change(&mut self, changed: &[u8]) -> Result<(), Refusal> {
         let mut answer = [0; 2];
         raw::station_change(&self.sheet, changed, &self.state, &mut answer);
@@ -105,11 +106,13 @@ impl Station {
     }
 
     /// The station's sheet: the first, or the last changed one that was accepted.
+    #[must_use]
     pub fn sheet(&self) -> &[u8] {
         &self.sheet
     }
 
     /// Tests begun, position, 1 if a press is due, verdict (0 none, 1 pass, 2 failure).
+    #[must_use]
     pub fn state(&self) -> [usize; 4] {
         self.state
     }

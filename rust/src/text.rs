@@ -12,12 +12,13 @@
 //! TEST knock 1 0         # a test with its presses
 //! ```
 //!
-//! Words may be in capital or small letters; operands are decimal, 0 to 255, or names; `#` begins a comment. END is added at the
-//! end. Every string of bytes has a text, also one that no sheet has: `PRESS 0` stands for a press outside a test's line, `END`
-//! for an END before the end, and `HEX 07 1f` for any bytes. After a last line that is `END` or `HEX` no END is added.
+//! Words may be in capital or small letters; operands are decimal, 0 to 255, or names; `#` begins a comment. END is
+//! added at the end. Every string of bytes has a text, also one that no sheet has: `PRESS 0` stands for a press outside
+//! a test's line, `END` for an END before the end, and `HEX 07 1f` for any bytes. After a last line that is `END` or
+//! `HEX` no END is added.
 //!
-//! A name is any word without `#`, a number too: where names are given, a word that is one of them is that name. Names are no part
-//! of the bytes.
+//! A name is any word without `#`, a number too: where names are given, a word that is one of them is that name. Names
+//! are no part of the bytes.
 
 mod joining;
 mod lines;
@@ -36,8 +37,9 @@ use crate::commands::{Command, commands};
 /// Bytes in hexadecimal, for what has no words.
 const HEX: &str = "HEX";
 
-/// Whether some input is a text: it has few bytes that no text has. A sheet that is accepted never is one, for every fifth of its
-/// bytes at least begins a command.
+/// Whether some input is a text: it has few bytes that no text has. A sheet that is accepted never is one, for every
+/// fifth of its bytes at least begins a command.
+#[must_use]
 pub fn is_text(input: &[u8]) -> bool {
     let control = input.iter().filter(|&&byte| mistakes::is_control(byte));
     !input.is_empty() && control.count() * 8 <= input.len() || mistakes::is_utf16(input)
@@ -78,6 +80,7 @@ pub fn assemble(text: &[u8]) -> Result<Vec<u8>, Mistakes> {
 /// assert_eq!(ranthelo::text::line_at(text, 4), Some(4));
 /// assert_eq!(ranthelo::text::line_at(text, 5), None);
 /// ```
+#[must_use]
 pub fn line_at(text: &[u8], place: usize) -> Option<usize> {
     Text::read(text).ok()?.line_at(place)
 }
@@ -91,6 +94,7 @@ pub fn line_at(text: &[u8], place: usize) -> Option<usize> {
 /// let ordered = assemble(b"SIZE 1 2 2\nRULE 0 0 0 0\nRULE 0 1 0 0\nFAULT 0 1 1 0\nTEST 0").unwrap();
 /// assert_eq!(sorted(&mixed), ordered);
 /// ```
+#[must_use]
 pub fn sorted(bytes: &[u8]) -> Vec<u8> {
     let mut rows: Vec<&[u8]> = commands(bytes).map(|command| command.bytes).collect();
     rows.sort_by_key(|row| order::key(row));
@@ -105,12 +109,13 @@ pub fn sorted(bytes: &[u8]) -> Vec<u8> {
 /// assert_eq!(disassemble(&[1, 1, 1, 1, 4, 5, 0, 6]), "SIZE 1 1 1\nTEST 0\n");
 /// assert_eq!(disassemble(&[1, 2, 0]), "HEX 01 02 00\n");
 /// ```
+#[must_use]
 pub fn disassemble(bytes: &[u8]) -> String {
     disassemble_named(bytes, &Names::default())
 }
 
-/// The text that spells some bytes with names. Those are as many as the sizes say, or none at all; each is a word without `#`, and no
-/// two of one kind are the same.
+/// The text that spells some bytes with names. Those are as many as the sizes say, or none at all; each is a word
+/// without `#`, and no two of one kind are the same.
 ///
 /// ```
 /// use ranthelo::{Names, text::disassemble_named};
@@ -118,6 +123,7 @@ pub fn disassemble(bytes: &[u8]) -> String {
 /// let names = Names { presses: vec!["knock".to_string()], ..Names::default() };
 /// assert_eq!(disassemble_named(&[1, 1, 1, 1, 4, 5, 0, 6], &names), "SIZE 1 1 1\nPRESSES knock\nTEST knock\n");
 /// ```
+#[must_use]
 pub fn disassemble_named(bytes: &[u8], names: &Names) -> String {
     let mut lines = command_lines(bytes, names);
     finish(&mut lines);
@@ -133,6 +139,7 @@ pub fn disassemble_named(bytes: &[u8], names: &Names) -> String {
 /// ```
 /// assert_eq!(ranthelo::text::lines_of(&[4, 5, 1], &ranthelo::Names::default()), "TEST 1\n");
 /// ```
+#[must_use]
 pub fn lines_of(bytes: &[u8], names: &Names) -> String {
     let lines = command_lines(bytes, names);
     lines.iter().map(|line| format!("{line}\n")).collect()
@@ -164,6 +171,7 @@ fn finish(lines: &mut Vec<String>) {
 }
 
 /// A command in words.
+#[must_use]
 pub fn words(command: Command) -> String {
     words_named(command, &Names::default())
 }
@@ -180,6 +188,7 @@ fn words_named(command: Command, names: &Names) -> String {
 }
 
 /// Bytes in hexadecimal.
+#[must_use]
 pub fn spelled(bytes: &[u8]) -> String {
     let list: Vec<String> = bytes.iter().map(|byte| format!("{byte:02x}")).collect();
     list.join(" ")

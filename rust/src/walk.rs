@@ -2,9 +2,9 @@
 
 use crate::{Passing, Place, Refusal, add_test, run, take};
 
-/// The boards that pass a sheet's list, in dictionary order, each with what it is beside the specification. It can be resumed from
-/// its place, and a test may be added at any time: the rest of the walk is then the later boards that pass the longer list. The
-/// thread needs [`STACK`](crate::STACK) bytes of stack.
+/// The boards that pass a sheet's list, in dictionary order, each with what it is beside the specification. It can be
+/// resumed from its place, and a test may be added at any time: the rest of the walk is then the later boards that pass
+/// the longer list. The thread needs [`STACK`](crate::STACK) bytes of stack.
 ///
 /// ```
 /// use ranthelo::{Comparison, Walk};
@@ -44,11 +44,13 @@ impl Walk {
     }
 
     /// Where it is: its start, the last board taken, or its end.
+    #[must_use]
     pub fn place(&self) -> &Place {
         &self.place
     }
 
     /// The sheet, with the tests that were added.
+    #[must_use]
     pub fn sheet(&self) -> &[u8] {
         &self.sheet
     }

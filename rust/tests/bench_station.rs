@@ -2,6 +2,7 @@
 
 mod common;
 
+use common::json::{Value, parse};
 use common::{command, examples, file, gives, output, output_on, status, text};
 use ranthelo::machine::Machine;
 use ranthelo::{Failure, first_failed, make};
@@ -37,7 +38,8 @@ fn pass_and_failure() {
 
 #[test]
 fn refusals_and_mistakes() {
-    let lines = "sound 0\nnext\nnext\nsound 2\nsound x\npress 0\nsheet P1.txt\nsheet P6.txt\nsheet no.txt\n\nsheet P2.sheet\n";
+    let lines = "sound 0\nnext\nnext\nsound 2\nsound x\npress 0\nsheet P1.txt\nsheet P6.txt\nsheet no.txt\n\n\
+                 sheet P2.sheet\n";
     let answers = "\
 refused 24 at 0: no press is due
 pulse
@@ -145,7 +147,8 @@ fn lock() {
         &["lock", "--board", "1", "P1.txt"],
         b"pulse\npress 0\ntaken\npress 1\npress 0\nhello\npulse\npress 0\n",
     );
-    let expected = "next\nnext\nsound 1\nnext\nsound 1\nsound 0\nmistake: a line is pulse, press X, taken, pass or fails\nnext\nsound 1\n";
+    let expected = "next\nnext\nsound 1\nnext\nsound 1\nsound 0\n\
+                    mistake: a line is pulse, press X, taken, pass or fails\nnext\nsound 1\n";
     assert_eq!(
         (status(&answered), text(&answered.stdout)),
         (0, expected.to_string())
@@ -166,6 +169,62 @@ fn lock() {
     assert_eq!(
         (status(&pressed), text(&pressed.stdout)),
         (2, "next\n".to_string())
+    );
+}
+
+/// With `--json` the same in objects, with tests, positions and names.
+#[test]
+fn objects() {
+    let named = fs::read_to_string(examples().join("P2.txt")).unwrap();
+    let named = named.replace(
+        "SIZE 2 2 2\n",
+        "SIZE 2 2 2\nPRESSES knock handle\nSOUNDS click bolt\n",
+    );
+    let named = file("station-named.txt", named.as_bytes());
+    let lines = "next\nnext\nsound 2\nsound bolt\nknock\nnext\nsound click\nnext\n";
+    let (ended, told, _) = driven(&["--json", &named], lines);
+    let told: Vec<Value> = told.lines().map(parse).collect();
+    let answers: Vec<&str> = told.iter().map(|one| one.text("answer")).collect();
+    let expected = [
+        "pulse", "press", "refused", "taken", "mistake", "press", "fails", "fails",
+    ];
+    assert_eq!((ended, &answers[..]), (1, &expected[..]));
+    assert_eq!(told[0].number("test"), 0);
+    assert_eq!(
+        (
+            told[1].number("press"),
+            told[1].number("position"),
+            told[1].text("name")
+        ),
+        (0, 0, "knock")
+    );
+    assert_eq!(
+        (told[2].number("number"), told[2].text("why")),
+        (24, "sound 2 is not below 2")
+    );
+    assert_eq!(told[4].text("why"), "a line is next, sound O or sheet FILE");
+    assert_eq!(
+        (
+            told[5].number("press"),
+            told[5].number("position"),
+            told[5].text("name")
+        ),
+        (1, 1, "handle")
+    );
+    assert_eq!((told[6].number("test"), told[6].number("position")), (0, 1));
+    let lock = output_on(
+        &["lock", "--json", "--board", "1", &named],
+        b"pulse\npress handle\nsay\npass\n",
+    );
+    let told: Vec<Value> = text(&lock.stdout).lines().map(parse).collect();
+    let answers: Vec<&str> = told.iter().map(|one| one.text("answer")).collect();
+    assert_eq!(
+        (status(&lock), &answers[..]),
+        (0, &["next", "next", "sound", "mistake"][..])
+    );
+    assert_eq!(
+        (told[2].number("sound"), told[2].text("name")),
+        (0, "click")
     );
 }
 

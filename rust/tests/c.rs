@@ -243,7 +243,11 @@ fn staged() {
     assert!(package.starts_with(
         "prefix=/opt/locks\nincludedir=/opt/locks/include\nlibdir=/opt/locks/lib\nName: ranthelo\n"
     ));
-    assert!(!["stage", "target", "crates"].iter().any(|part| package.contains(part)));
+    assert!(
+        !["stage", "target", "crates"]
+            .iter()
+            .any(|part| package.contains(part))
+    );
 
     let output = install("uninstall", "PREFIX=/opt/locks").unwrap();
     assert!(output.status.success(), "{}", text(&output.stderr));

@@ -1,4 +1,4 @@
-//! Every word of the command on good, damaged and missing input: status and both outputs.
+//! The words of the command that take a sheet, one by one: what they print, refuse and write.
 
 mod common;
 
@@ -82,7 +82,8 @@ fn judge_explains_completeness_and_refusals() {
 #[test]
 fn make() {
     let told = "ranthelo: P1.sheet: 1 test appended\n";
-    let made = "SIZE 2 2 2\nRULE 0 0 1 1\nRULE 0 1 0 0\nRULE 1 0 0 1\nRULE 1 1 1 0\nFAULT 1 1 1 1\nTEST 0 1\nTEST 0 1 0\n";
+    let made = "SIZE 2 2 2\nRULE 0 0 1 1\nRULE 0 1 0 0\nRULE 1 0 0 1\nRULE 1 1 1 0\nFAULT 1 1 1 1\nTEST 0 1\n\
+                TEST 0 1 0\n";
     gives(&["make", "--text", "P1.sheet"], 0, made, told);
     let bytes = ranthelo::text::assemble(made.as_bytes()).expect("a text");
     let output = output(&["make", "P1.sheet"]);

@@ -3,7 +3,7 @@
 mod common;
 
 use common::json::{Value, lines, parse};
-use common::{command, examples, file, gives, output, output_on, status, text};
+use common::{all_words, command, examples, file, gives, options, output, output_on, status, text};
 use std::fs;
 use std::process::{Command, Stdio};
 use std::thread::sleep;
@@ -20,8 +20,8 @@ fn several_files() {
     gives(
         &["read", "P6.txt", "empty.sheet", "no.sheet", "P6.txt"],
         3,
-        "file P6.txt\nstates 1\npresses 1\nsounds 1\nrules 0\nfaults 0\ntests 0\nopen pairs 0\nfile empty.sheet\nfile no.sheet\n\
-         file P6.txt\nstates 1\npresses 1\nsounds 1\nrules 0\nfaults 0\ntests 0\nopen pairs 0\n",
+        "file P6.txt\nstates 1\npresses 1\nsounds 1\nrules 0\nfaults 0\ntests 0\nopen pairs 0\nfile empty.sheet\n\
+         file no.sheet\nfile P6.txt\nstates 1\npresses 1\nsounds 1\nrules 0\nfaults 0\ntests 0\nopen pairs 0\n",
         "ranthelo: empty.sheet: refused 2 at 0: the sheet ends without END\n\
          ranthelo: no.sheet: No such file or directory (os error 2)\n",
     );
@@ -204,6 +204,81 @@ fn json_of_written_sheets() {
     assert_eq!(imported.text("answer"), "imported");
 }
 
+/// What a picture shows is what the machine or the board does; the picture itself is the one that is drawn without
+/// JSON.
+#[test]
+fn json_of_pictures() {
+    for form in [&[][..], &["--svg"], &["--table"], &["--mealy"]] {
+        let drawn = json(&[&["draw", "--json", "P4.txt"], form].concat(), 0);
+        let plain = output(&[&["draw", "P4.txt"], form].concat());
+        assert_eq!(drawn.text("picture"), text(&plain.stdout), "{form:?}");
+        assert_eq!(drawn.text("answer"), "drawn");
+    }
+    let rows = |drawn: &Value, line: &str| -> Vec<[u64; 4]> {
+        let own = drawn.list("transitions").iter();
+        let own = own.filter(|one| one.text("line") == line);
+        own.map(|one| ["state", "press", "sound", "next"].map(|name| one.number(name)))
+            .collect()
+    };
+    let machine = json(&["draw", "--json", "--unspecified", "P4.txt"], 0);
+    let sizes = ["states", "presses", "sounds"].map(|name| machine.number(name));
+    assert_eq!(sizes, [2, 2, 2]);
+    assert_eq!(
+        rows(&machine, "rule"),
+        [[0, 0, 1, 1], [1, 0, 0, 1], [1, 1, 1, 0]]
+    );
+    assert_eq!(rows(&machine, "fault"), [[1, 1, 1, 1]]);
+    let free = machine.list("transitions").iter();
+    let free: Vec<&Value> = free
+        .filter(|one| one.text("line") == "unspecified")
+        .collect();
+    assert_eq!(free.len(), 1);
+    assert_eq!((free[0].number("state"), free[0].number("press")), (0, 1));
+    assert_eq!((free[0].get("sound"), free[0].get("next")), (None, None));
+    let board = json(&["draw", "--json", "--board", "1", "P1.txt"], 0);
+    assert_eq!(board.text("title"), "board 1 departs on 0 1 0");
+    assert_eq!(rows(&board, "fault"), [[1, 1, 1, 1]]);
+    assert_eq!(rows(&board, "specified"), [[1, 1, 1, 0]]);
+    let mut met: Vec<u8> = board
+        .list("transitions")
+        .iter()
+        .flat_map(|one| one.bytes("positions"))
+        .collect();
+    met.sort();
+    assert_eq!(met, [0, 1, 2]);
+    let waking = json(&["draw", "--json", "P1-start.txt"], 0);
+    let wakings = waking.list("wakings").iter();
+    let wakings: Vec<(u64, &str)> = wakings
+        .map(|one| (one.number("state"), one.text("line")))
+        .collect();
+    assert_eq!(wakings, [(0, "rule"), (1, "fault")]);
+}
+
+/// A failure of any word is an object too, with the file that it is about; and so is a refusal.
+#[test]
+fn json_of_failures() {
+    let merged = json(&["merge", "--json", "P1.txt", "empty.sheet"], 2);
+    assert_eq!(
+        (
+            merged.text("file"),
+            merged.text("answer"),
+            merged.number("number")
+        ),
+        ("empty.sheet", "refused", 2)
+    );
+    let made = json(&["make", "--json", "full-list.txt"], 2);
+    assert_eq!((made.number("number"), made.number("place")), (18, 0));
+    let walked = json(&["walk", "--json", "no.txt"], 3);
+    assert_eq!(
+        (walked.text("file"), walked.text("answer")),
+        ("no.txt", "failed")
+    );
+    let started = json(&["station", "--json", "P1.txt"], 2);
+    assert_eq!(started.number("number"), 22);
+    let unwritten = json(&["write", "--json", "P1.txt", "-o", "no/where"], 3);
+    assert_eq!(unwritten.text("file"), "no/where");
+}
+
 /// The answer is not printed, and the status tells it; what went wrong is still told.
 #[test]
 fn quiet() {
@@ -227,14 +302,6 @@ fn quiet() {
         (status(&made), made.stdout.is_empty(), made.stderr.len()),
         (0, false, 0)
     );
-}
-
-fn all_words() -> Vec<String> {
-    let overview = text(&output(&["help"]).stdout);
-    let lines = overview.lines().filter_map(|line| line.strip_prefix("  "));
-    lines
-        .map(|line| line.split(' ').next().expect("a word").to_string())
-        .collect()
 }
 
 #[test]
@@ -270,15 +337,6 @@ fn help() {
         "",
         "ranthelo: judge has no option --explian; --explain is near; see ranthelo help judge\n",
     );
-}
-
-/// Every word and every option that its help names.
-fn options(word: &str) -> Vec<String> {
-    let help = text(&output(&["help", word]).stdout);
-    let lines = help.lines().filter_map(|line| line.strip_prefix("  -"));
-    lines
-        .map(|line| format!("-{}", line.split(' ').next().expect("a name")))
-        .collect()
 }
 
 #[test]
@@ -387,8 +445,8 @@ fn closed_pipes() {
     }
 }
 
-/// Where no thread can be started: one line. With too little memory the program does not even begin; the first limit with which
-/// it does leaves no room for a thread.
+/// Where no thread can be started: one line. With too little memory the program does not even begin; the first limit
+/// with which it does leaves no room for a thread.
 #[cfg(target_os = "linux")]
 #[test]
 fn no_thread() {

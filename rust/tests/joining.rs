@@ -17,7 +17,8 @@ FAULT 1 0 2 0   # rare
 # the list
 TEST 0
 ";
-const ELECTRONICS: &str = "SIZE 2 1 3\nRULE 0 0 0 1\nRULE 1 0 1 0\nFAULT 0 0 2 1\nFAULT 1 0 2 0\nSTART 1\nTEST 0 0\nTEST\n";
+const ELECTRONICS: &str = "SIZE 2 1 3\nRULE 0 0 0 1\nRULE 1 0 1 0\nFAULT 0 0 2 1\nFAULT 1 0 2 0\nSTART 1\nTEST 0 0\n\
+                           TEST\n";
 
 #[test]
 fn merge() {
@@ -46,7 +47,8 @@ fn merge() {
             .as_bytes(),
     );
     let told = format!(
-        "ranthelo: {one}: refused 21 at 0: the RULEs differ at state 1, press 0: sound 1, next state 0 and sound 0, next state 0\n"
+        "ranthelo: {one}: refused 21 at 0: the RULEs differ at state 1, press 0: sound 1, next state 0 and sound 0, \
+         next state 0\n"
     );
     gives(&["merge", &one, &other], 2, "", &told);
     gives(
@@ -71,8 +73,10 @@ fn merge() {
     );
 }
 
-const RING: &str = "SIZE 3 1 2\nSTATES a b c\nRULE a 0 0 c\nRULE b 0 1 a\nRULE c 0 0 b\nFAULT c 0 1 b\nSTART b\nTEST 0 0 0\n";
-const RENUMBERED: &str = "SIZE 3 1 2\nSTATES a c b\nRULE a 0 0 c\nRULE c 0 0 b\nRULE b 0 1 a\nFAULT c 0 1 b\nSTART b\nTEST 0 0 0\n";
+const RING: &str = "SIZE 3 1 2\nSTATES a b c\nRULE a 0 0 c\nRULE b 0 1 a\nRULE c 0 0 b\nFAULT c 0 1 b\nSTART b\n\
+                    TEST 0 0 0\n";
+const RENUMBERED: &str = "SIZE 3 1 2\nSTATES a c b\nRULE a 0 0 c\nRULE c 0 0 b\nRULE b 0 1 a\nFAULT c 0 1 b\nSTART b\n\
+                          TEST 0 0 0\n";
 
 #[test]
 fn renumber() {

@@ -80,7 +80,8 @@ fn at_most_so_many() {
         );
     }
     let full = output(&["make", "--most", "3", "full-list.txt"]);
-    let told = "ranthelo: full-list.txt: refused 18 at 0: the next test does not fit: 256 tests stand, 256 of them its own\n";
+    let told = "ranthelo: full-list.txt: refused 18 at 0: the next test does not fit: 256 tests stand, 256 of them its \
+                own\n";
     assert_eq!(
         (status(&full), full.stdout.len(), text(&full.stderr)),
         (2, 0, told.to_string())
@@ -99,8 +100,8 @@ fn which_limit() {
     let length = ranthelo::text::assemble(source.as_bytes()).unwrap().len();
     assert_eq!(length, ranthelo::MOST_BYTES - 2);
     let told = format!(
-        "ranthelo: {name}: refused 18 at 0: the next test does not fit: with its 1 press the sheet would have {} bytes, \
-         over 16384; 32 tests stand, 32 of them its own\n",
+        "ranthelo: {name}: refused 18 at 0: the next test does not fit: with its 1 press the sheet would have {} \
+         bytes, over 16384; 32 tests stand, 32 of them its own\n",
         length + 3
     );
     gives(&["make", &name], 2, "", &told);

@@ -2,7 +2,7 @@
 
 mod common;
 
-use common::{file, gives, output, status, text};
+use common::{file, gives, output, output_on, status, text};
 
 const LOCK: &str = "\
 # a lock
@@ -21,8 +21,9 @@ FAULT open handle click open
 TEST knock knock handle knock # the list
 ";
 
-fn lock() -> String {
-    file("named-lock.txt", LOCK.as_bytes())
+/// The lock's text in a file of one test's own: tests run at once.
+fn lock(test: &str) -> String {
+    file(&format!("named-lock-{test}.txt"), LOCK.as_bytes())
 }
 
 #[test]
@@ -35,7 +36,7 @@ fn names_stand_for_numbers() {
 
 #[test]
 fn lines_have_numbers_by_default() {
-    let lock = lock();
+    let lock = lock("lines");
     gives(
         &["judge", &lock],
         1,
@@ -86,7 +87,7 @@ fn lines_have_numbers_by_default() {
 
 #[test]
 fn answers_in_words_have_names() {
-    let lock = lock();
+    let lock = lock("words");
     let explained = text(&output(&["judge", "--explain", &lock]).stdout);
     assert!(
         explained.starts_with("survivor\nboard 0 1\npress 0 1 1 0 1\n"),
@@ -125,10 +126,39 @@ fn answers_in_words_have_names() {
     assert_eq!((status(&refused), text(&refused.stderr)), (2, told));
 }
 
+/// Why two sheets are not merged, and why a list does for no station: in names; so is a lock's sound if that is asked
+/// for.
+#[test]
+fn reasons_have_names() {
+    let lock = lock("reasons");
+    let other = LOCK.replace("RULE open handle 0 0", "RULE open handle 0 1");
+    assert_ne!(other, LOCK);
+    let other = file("named-other.txt", other.as_bytes());
+    let told = format!(
+        "ranthelo: {lock}: refused 21 at 0: the RULEs differ at state open, press handle: sound click, next state \
+         locked and sound click, next state half\n"
+    );
+    gives(&["merge", &lock, &other], 2, "", &told);
+    let told = format!(
+        "ranthelo: {lock}: refused 22 at 0: the list is not complete: board 0 1 passes it and departs on knock handle \
+         handle knock handle\n"
+    );
+    gives(&["station", &lock], 2, "", &told);
+    let sounds = |more: &[&str]| {
+        let arguments = [&["lock", "--board", "0,1", &lock], more].concat();
+        text(&output_on(&arguments, b"pulse\npress knock\npress handle\n").stdout)
+    };
+    assert_eq!(sounds(&[]), "next\nnext\nsound 0\nsound 1\n");
+    assert_eq!(
+        sounds(&["--names"]),
+        "next\nnext\nsound click\nsound bolt\n"
+    );
+}
+
 /// The text form of a named sheet has its names, and spells it again.
 #[test]
 fn text_form_keeps_names() {
-    let spelled = output(&["list", "--text", &lock()]);
+    let spelled = output(&["list", "--text", &lock("text")]);
     let spelled = text(&spelled.stdout);
     assert!(spelled.starts_with(
         "SIZE 3 2 2\nSTATES locked half open\nPRESSES knock handle\nSOUNDS click bolt\n"

@@ -48,9 +48,17 @@ fn refusals_name_the_option() {
     assert_eq!(status(&output(&["read", "--sort", &rules])), 0);
     let late = file("late.txt", b"SIZE 1 2 2\nTEST\nRULE 0 0 0 0\n");
     let told = format!(
-        "ranthelo: {late}: refused 3 at 5 (line 3): RULE can't follow TEST; --sort puts RULEs, FAULTs and STARTs in order\n"
+        "ranthelo: {late}: refused 3 at 5 (line 3): RULE can't follow TEST; --sort puts RULEs, FAULTs and STARTs in \
+         order\n"
     );
     gives(&["read", &late], 2, "", &told);
+    let first = file("first.txt", b"TEST\nSIZE 1 2 2\nRULE 0 0 0 0\n");
+    let told = format!(
+        "ranthelo: {first}: refused 3 at 0 (line 1): TEST can't stand before SIZE; --sort puts RULEs, FAULTs and \
+         STARTs in order\n"
+    );
+    gives(&["read", &first], 2, "", &told);
+    assert_eq!(status(&output(&["read", "--sort", &first])), 0);
     let twice = file("twice.txt", b"SIZE 1 2 2\nRULE 0 0 0 0\nRULE 0 0 1 0\n");
     let told = format!(
         "ranthelo: {twice}: refused 6 at 9 (line 3): it does not ascend after RULE 0 0 0 0\n"
@@ -131,7 +139,8 @@ digraph g {
 #[test]
 fn import_dot() {
     let machine = file("machine.dot", DOT.as_bytes());
-    let spelled = "SIZE 2 2 2\nSTATES s0 s1\nPRESSES in_put b\nRULE s0 in_put 1 s1\nRULE s1 in_put 1 s1\nRULE s1 b 0 s0\n";
+    let spelled = "SIZE 2 2 2\nSTATES s0 s1\nPRESSES in_put b\nRULE s0 in_put 1 s1\nRULE s1 in_put 1 s1\n\
+                   RULE s1 b 0 s0\n";
     gives(&["import", &machine], 0, spelled, "");
     let piped = output_on(&["import"], DOT.as_bytes());
     assert_eq!(text(&piped.stdout), spelled);

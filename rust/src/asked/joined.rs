@@ -1,12 +1,12 @@
 //! Why two sheets do not go together.
 
 use super::many;
-use crate::machine::{Machine, Pair};
+use crate::machine::{Machine, Pair, Site};
 use crate::{MOST_BYTES, MOST_FAULTS, MOST_OPEN_PAIRS, MOST_TESTS, Names};
 use std::collections::BTreeSet;
 
 /// Where two machines differ: in their sizes, in being quiet, or at which pair.
-fn difference(one: &Machine, two: &Machine) -> Option<String> {
+fn difference(one: &Machine, two: &Machine, names: &Names) -> Option<String> {
     let size = |machine: &Machine| {
         format!(
             "SIZE {} {} {}",
@@ -26,21 +26,21 @@ fn difference(one: &Machine, two: &Machine) -> Option<String> {
         .find(|pair| one.rules.get(pair) != two.rules.get(pair))?;
     let at = |machine: &Machine| {
         let rule = machine.rules.get(pair);
-        rule.map_or("no RULE".to_string(), |&to| Names::default().to(to))
+        rule.map_or("no RULE".to_string(), |&to| names.to(to))
     };
-    let (state, press) = pair;
     Some(format!(
-        "the RULEs differ at state {state}, press {press}: {} and {}",
+        "the RULEs differ at {}: {} and {}",
+        names.site(Site::Pair(*pair)),
         at(one),
         at(two)
     ))
 }
 
 /// Why two sheets are not merged.
-pub fn merged(one: &Machine, other: &[u8], number: usize) -> Option<String> {
+pub fn merged(one: &Machine, other: &[u8], number: usize, names: &Names) -> Option<String> {
     let two = Machine::of(other).ok()?;
     match number {
-        21 => difference(one, &two),
+        21 => difference(one, &two, names),
         8 => {
             let all = one
                 .faults
@@ -61,15 +61,22 @@ pub fn merged(one: &Machine, other: &[u8], number: usize) -> Option<String> {
 }
 
 /// Why a station does not go on with a changed sheet.
-pub fn changed(before: &[u8], changed: &Machine, begun: usize, over: bool) -> Option<String> {
+pub fn changed(
+    before: &[u8],
+    changed: &Machine,
+    begun: usize,
+    over: bool,
+    names: &Names,
+) -> Option<String> {
     if over {
         return Some("the verdict is given".to_string());
     }
     let before = Machine::of(before).ok()?;
-    if let Some(difference) = difference(&before, changed) {
+    if let Some(difference) = difference(&before, changed, names) {
         return Some(difference);
     }
-    let differs = (0..begun).find(|&test| before.tests.get(test) != changed.tests.get(test))?;
+    let mut tests = (0..before.tests.len()).take(begun);
+    let differs = tests.find(|&test| before.tests.get(test) != changed.tests.get(test))?;
     let begun = many(begun, "test");
     Some(match changed.tests.get(differs) {
         None => format!("{begun} begun, and the changed sheet has no test {differs}"),

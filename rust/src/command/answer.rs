@@ -1,13 +1,14 @@
-//! What a word answers on a sheet, and how it is printed.
+//! What a word answers on a file, and how it is printed.
 
 use super::Status;
 use super::arguments::Arguments;
 use super::failure::Failure;
-use super::input::Input;
+use super::input::{Input, called};
 use super::json::{Fields, Json, list};
 use super::output::print;
 use super::words::{JSON, QUIET};
 use ranthelo::{Named, Names};
+use std::ffi::{OsStr, OsString};
 
 /// An answer in lines and as JSON.
 pub struct Answer {
@@ -36,33 +37,44 @@ impl Answer {
     }
 }
 
-/// Answers on each of the sheets. With several each answer begins with a line that names the file.
+/// Answers on each of some files. With several a line before each answer names the file; what fails on one is told, and
+/// the others are answered all the same. The greatest status of all.
+pub fn on_each(
+    arguments: &Arguments,
+    files: &[OsString],
+    answer: impl Fn(&OsStr) -> Result<Status, Failure>,
+) -> Result<Status, Failure> {
+    let names_files = files.len() > 1 && !arguments.has(JSON.name) && !arguments.has(QUIET.name);
+    let mut status = Status::Good;
+    for path in files {
+        if names_files {
+            print(format!("file {}\n", called(path)).as_bytes())?;
+        }
+        let answered = answer(path).unwrap_or_else(|failure| failure.settle(arguments));
+        status = status.max(answered);
+    }
+    Ok(status)
+}
+
+/// Answers on each of the sheets.
 pub fn on_sheets(
     arguments: &Arguments,
     answer: fn(&Arguments, &Input) -> Result<Answer, Failure>,
 ) -> Result<Status, Failure> {
-    let (files, mut status) = (arguments.all(), Status::Good);
-    for path in files {
-        let name = path.to_string_lossy();
-        let opened = Input::open(path, arguments);
-        let answered = opened.and_then(|input| Ok((answer(arguments, &input)?, input.names)));
-        let (one, names) = answered.unwrap_or_else(|failure| (failed(failure), Names::default()));
-        let heading = if files.len() > 1 {
-            format!("file {name}\n")
-        } else {
-            String::new()
-        };
-        if arguments.has(JSON.name) {
-            print_json(&name, &names, one.fields)?;
-        } else if !arguments.has(QUIET.name) && (files.len() > 1 || !one.lines.is_empty()) {
-            print((heading + &one.lines).as_bytes())?;
-        }
-        if let Some(failure) = &one.failure {
+    on_each(arguments, arguments.all(), |path| {
+        let input = Input::open(path, arguments)?;
+        let Answer {
+            status,
+            lines,
+            fields,
+            failure,
+        } = answer(arguments, &input)?;
+        print_answer(arguments, &input, &lines, fields)?;
+        if let Some(failure) = &failure {
             failure.tell();
         }
-        status = status.max(one.status);
-    }
-    Ok(status)
+        Ok(status)
+    })
 }
 
 /// Prints the answer on one sheet: its lines, or an object if that is asked for, or nothing.
@@ -73,28 +85,15 @@ pub fn print_answer(
     fields: Fields,
 ) -> Result<(), Failure> {
     match arguments {
-        arguments if arguments.has(JSON.name) => print_json(&input.name, &input.names, fields),
+        arguments if arguments.has(JSON.name) => {
+            print(json_line(&input.name, &input.names, fields).as_bytes())
+        }
         arguments if arguments.has(QUIET.name) => Ok(()),
         _ => print(lines.as_bytes()),
     }
 }
 
-/// The answer where there is none.
-fn failed(failure: Failure) -> Answer {
-    Answer {
-        status: failure.status(),
-        lines: String::new(),
-        fields: failure.fields(),
-        failure: Some(failure),
-    }
-}
-
-/// Prints an object on a line of its own: the file, the names that its text gives, and the answer.
-pub fn print_json(file: &str, names: &Names, fields: Fields) -> Result<(), Failure> {
-    print(json_line(file, names, fields).as_bytes())
-}
-
-/// An object on a line.
+/// An object on a line of its own: the file, the answer, and the names that its text gives.
 pub fn json_line(file: &str, names: &Names, fields: Fields) -> String {
     let mut all: Fields = vec![("file", file.into())];
     all.extend(fields);

@@ -4,6 +4,7 @@ use super::failure::Failure;
 use super::input::is_piped;
 use super::near::near;
 use super::table::Word;
+use super::words::{JSON, OUTPUT};
 use ranthelo::{Named, Names};
 use std::collections::BTreeMap;
 use std::ffi::{OsStr, OsString};
@@ -85,16 +86,24 @@ impl Arguments {
         Ok(())
     }
 
-    /// As many arguments as the word takes, the last of them from a pipe if it is not named; and the options that it needs.
+    /// As many arguments as the word takes, the last of them from a pipe if it is not named; and the options that it
+    /// needs.
     fn check(&mut self) -> Result<(), Failure> {
         let takes = &self.word.takes;
         let (given, due) = (self.rest.len(), takes.names.len());
-        let enough = given == due || takes.several && given > due;
+        let several =
+            takes.several || takes.gathers && (self.has(JSON.name) || self.has(OUTPUT.name));
+        let enough = given == due || several && given > due;
         if !enough && takes.piped && given + 1 == due && is_piped() {
             self.rest.push("-".into());
-        } else if !enough && given < takes.least || given > due && !takes.several {
-            let shown = takes.shown();
-            return Err(self.wrong(format!("takes {shown} and options, {given} given")));
+        } else if !enough && given < takes.least || given > due && !several {
+            let (shown, options) = (takes.shown(), !self.word.options.is_empty());
+            let takes = match (shown.is_empty(), options) {
+                (true, _) => "nothing",
+                (false, true) => &format!("{shown} and options"),
+                (false, false) => &shown,
+            };
+            return Err(self.wrong(format!("takes {takes}, {given} given")));
         }
         let missing = self.word.needs.iter().find(|option| !self.has(option.name));
         match missing {

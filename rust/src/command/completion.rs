@@ -55,7 +55,7 @@ _ranthelo() {{
         *) if [ -n "$instead" ]; then
                COMPREPLY=($(compgen -W "$instead" -- "$now"))
            else
-               COMPREPLY=($(compgen -f -- "$now"))
+               mapfile -t COMPREPLY < <(compgen -f -- "$now")
            fi ;;
     esac
 }}
@@ -64,6 +64,9 @@ complete -o filenames -F _ranthelo ranthelo
         all_words()
     )
 }
+
+/// What the option does that all words have.
+const HELP: &str = "what there is to say of the word";
 
 /// Text between single quotes.
 fn quoted(text: &str) -> String {
@@ -83,10 +86,12 @@ pub fn zsh() -> String {
         .collect();
     let cases: String = WORDS.iter().map(zsh_case).collect();
     format!(
-        "#compdef ranthelo\n# Completion of ranthelo for zsh.\n_ranthelo() {{\n    local -a words_of_it\n    words_of_it=(\n\
-         {words}    )\n    if (( CURRENT == 2 )); then\n        _describe word words_of_it\n        return\n    fi\n    \
+        "#compdef ranthelo\n# Completion of ranthelo for zsh.\n\
+         _ranthelo() {{\n    local -a words_of_it\n    words_of_it=(\n{words}    )\n    \
+         if (( CURRENT == 2 )); then\n        _describe word words_of_it\n        return\n    fi\n    \
          local word=${{words[2]}}\n    shift words\n    (( CURRENT-- ))\n    case $word in\n{cases}    esac\n}}\n\
-         compdef _ranthelo ranthelo\n"
+         if [[ ${{funcstack[1]}} == _ranthelo ]]; then\n    _ranthelo \"$@\"\n\
+         else\n    compdef _ranthelo ranthelo\nfi\n"
     )
 }
 
@@ -104,13 +109,17 @@ fn zsh_case(word: &Word) -> String {
         };
         format!(" {}", quoted(&format!("{}[{does}]{value}", option.name)))
     };
-    let options: String = word.options.iter().map(|choice| option(choice)).collect();
+    let options: String = word.options.iter().map(option).collect();
     let rest = match instead(word) {
         Some(words) if words.is_empty() => String::new(),
         Some(words) => format!(" '*:word:({words})'"),
         None => " '*:file:_files'".to_string(),
     };
-    format!("        {}) _arguments{options}{rest} ;;\n", word.name)
+    let help = quoted(&format!("--help[{HELP}]"));
+    format!(
+        "        {}) _arguments{options} {help}{rest} ;;\n",
+        word.name
+    )
 }
 
 /// The script for fish.
@@ -133,6 +142,7 @@ pub fn fish() -> String {
             };
             script += &format!("{seen} {form}{value} -d {}\n", quoted(option.does));
         }
+        script += &format!("{seen} -l help -d {}\n", quoted(HELP));
         if let Some(words) = instead(word) {
             script += &format!("{seen} -f -a {}\n", quoted(&words));
         }

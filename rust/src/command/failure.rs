@@ -1,17 +1,20 @@
 //! What keeps the command from an answer: told on standard error, in a line, or a line for each mistake of a text.
 
 use super::Status;
+use super::arguments::Arguments;
 use super::json::{Fields, Json, list};
 use super::output;
+use super::words::JSON;
 use ranthelo::text::{Mistake, Mistakes};
 use std::io;
 
 /// So many mistakes of a text are told.
 const MOST: usize = 20;
 
-/// Lines for standard error, the status that goes with them, and the same as JSON.
+/// Lines for standard error, the status that goes with them, and the same as JSON with the file that it is about.
 pub struct Failure {
     status: Status,
+    file: Option<String>,
     told: Vec<String>,
     fields: Fields,
 }
@@ -22,6 +25,7 @@ impl Failure {
         let fields = vec![("answer", "failed".into()), ("why", told.clone().into())];
         Failure {
             status: Status::Failed,
+            file: None,
             told: vec![told],
             fields,
         }
@@ -31,6 +35,7 @@ impl Failure {
     pub fn unusable(name: &str, what: impl std::fmt::Display) -> Self {
         let what = what.to_string();
         let mut failure = Failure::usage(format!("{name}: {what}"));
+        failure.file = Some(name.to_string());
         failure.fields[1].1 = what.into();
         failure
     }
@@ -65,9 +70,9 @@ impl Failure {
             ("answer", "mistakes".into()),
             ("mistakes", list(mistakes.iter().map(field))),
         ];
-        let status = Status::Failed;
         Failure {
-            status,
+            status: Status::Failed,
+            file: Some(name.to_string()),
             told,
             fields,
         }
@@ -81,9 +86,9 @@ impl Failure {
         let mut fields = refused_fields(refusal);
         fields.extend(line.map(|line| ("line", line.into())));
         fields.push(("why", why.into()));
-        let status = Status::Refused;
         Failure {
-            status,
+            status: Status::Refused,
+            file: Some(name.to_string()),
             told,
             fields,
         }
@@ -107,6 +112,18 @@ impl Failure {
         for line in &self.told {
             output::tell(line);
         }
+    }
+
+    /// Tells it, as an object too if that is asked for, and leaves the status. So it does where even that can't be
+    /// written.
+    pub fn settle(&self, arguments: &Arguments) -> Status {
+        if arguments.has(JSON.name) {
+            let file = self.file.as_deref().map(|file| ("file", file.into()));
+            let fields: Fields = file.into_iter().chain(self.fields()).collect();
+            let _ = output::print(format!("{}\n", Json::from(fields)).as_bytes());
+        }
+        self.tell();
+        self.status
     }
 }
 

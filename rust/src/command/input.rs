@@ -4,9 +4,8 @@ use super::arguments::Arguments;
 use super::failure::Failure;
 use super::words::SORT;
 use ranthelo::asked::{Asked, why};
-use ranthelo::commands::{FAULT, RULE, START};
 use ranthelo::text::{self, Text};
-use ranthelo::{Names, Refusal};
+use ranthelo::{Names, Refusal, RefusalKind};
 use std::ffi::OsStr;
 use std::fs::File;
 use std::io::{self, IsTerminal, Read};
@@ -87,20 +86,15 @@ impl Input {
         Failure::refused(&self.name, refusal, line, &reason)
     }
 
-    /// Whether a refused row would be accepted in its order.
+    /// Whether a command that is refused at its point would not be in order.
     fn sorting_helps(&self, refusal: Refusal) -> bool {
-        let row = self
-            .sheet
-            .get(refusal.place)
-            .is_some_and(|byte| [RULE, FAULT, START].contains(byte));
-        let misplaced = row && [3, 6].contains(&refusal.number);
-        let still =
-            || ranthelo::read(&text::sorted(&self.sheet)).map_or_else(|other| other.number, |_| 0);
-        self.may_sort && misplaced && still() != refusal.number
+        let misplaced = [RefusalKind::Misplaced, RefusalKind::Order].contains(&refusal.kind());
+        let still = || ranthelo::read(&text::sorted(&self.sheet)).map_err(|other| other.number);
+        self.may_sort && misplaced && still() != Err(refusal.number)
     }
 
-    /// The text form of a sheet that this one was made into by putting in some commands: the text as it came with their lines, or, if
-    /// there is none, all spelled anew.
+    /// The text form of a sheet that this one was made into by putting in some commands: the text as it came with their
+    /// lines, or, if there is none, all spelled anew.
     pub fn text_with(&self, more: &[u8], whole: &[u8]) -> String {
         match &self.spelled {
             Some(Spelled { source, text }) => text.joined(source, more, whole),
@@ -109,13 +103,22 @@ impl Input {
     }
 }
 
+/// What a source is called in answers.
+pub fn called(path: &OsStr) -> String {
+    match path == "-" {
+        true => "standard input".to_string(),
+        false => path.to_string_lossy().into_owned(),
+    }
+}
+
 /// The name of a source and its bytes, or so many and one more of them.
 pub fn open(path: &OsStr, most: u64) -> Result<(String, Vec<u8>), Failure> {
-    let (name, bytes) = if path == "-" {
-        ("standard input".to_string(), read(io::stdin(), most))
-    } else {
-        let name = path.to_string_lossy().into_owned();
-        (name, File::open(path).and_then(|file| read(file, most)))
+    let (name, bytes) = match path == "-" {
+        true => (called(path), read(io::stdin(), most)),
+        false => (
+            called(path),
+            File::open(path).and_then(|file| read(file, most)),
+        ),
     };
     let content = bytes.map_err(|error| Failure::unusable(&name, error))?;
     Ok((name, content))

@@ -15,8 +15,8 @@ pub struct Tests {
     pub complete: bool,
 }
 
-/// The sheet with its list made complete, or with so many tests appended at most. Where nothing limits the number, the library's
-/// make does it at once; beside it, for whoever waits at a terminal, the tests are counted as they come.
+/// The sheet with its list made complete, or with so many tests appended at most. Where nothing limits the number, the
+/// library's make does it at once; beside it, for whoever waits at a terminal, the tests are counted as they come.
 pub fn tests(input: &Input, most: Option<usize>) -> Result<Tests, Failure> {
     let (sheet, name) = (&input.sheet, &input.name);
     let count = Arc::new(AtomicUsize::new(0));

@@ -9,7 +9,8 @@ pub fn page() -> String {
     let version = env!("CARGO_PKG_VERSION");
     let words: String = WORDS.iter().map(section).collect();
     format!(
-        ".TH RANTHELO 1 \"\" \"ranthelo {version}\" \"\"\n.SH NAME\nranthelo \\- judges whether a list of tests is complete\n\
+        ".TH RANTHELO 1 \"\" \"ranthelo {version}\" \"\"\n\
+         .SH NAME\nranthelo \\- judges whether a list of tests is complete\n\
          .SH SYNOPSIS\n.B ranthelo\n.I WORD\n[OPTIONS]\n.IR SHEET ..\n.SH DESCRIPTION\n{}\n.PP\n{}\n.SH WORDS\n{words}\
          .SH \"EXIT STATUS\"\n{}\n",
         escaped(PURPOSE),

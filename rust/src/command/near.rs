@@ -1,6 +1,7 @@
 //! The near word for a mistyped one.
 
-/// The known word that takes the fewest steps to come from a given one, if that is at most two, and fewer than it has letters.
+/// The known word that takes the fewest steps to come from a given one, if that is at most two, and fewer than it has
+/// letters.
 pub fn near<'a>(given: &str, known: impl IntoIterator<Item = &'a str>) -> Option<&'a str> {
     let most = 2.min(given.chars().count().saturating_sub(1));
     let distances = known.into_iter().map(|word| (distance(given, word), word));

@@ -5,6 +5,8 @@ use super::answer::Answer;
 use super::arguments::Arguments;
 use super::failure::Failure;
 use super::input::Input;
+use super::output::Written;
+use std::ffi::OsStr;
 
 /// An option, with the name of its value if it takes one.
 pub struct Choice {
@@ -30,6 +32,8 @@ pub struct Takes {
     pub least: usize,
     /// The last may be followed by more of its kind.
     pub several: bool,
+    /// So it may with `--json`, or where `-o` names a folder for what is written.
+    pub gathers: bool,
     /// The last may come from a pipe.
     pub piped: bool,
 }
@@ -41,6 +45,7 @@ impl Takes {
             names,
             least: names.len(),
             several: false,
+            gathers: false,
             piped: false,
         }
     }
@@ -51,6 +56,22 @@ impl Takes {
         Takes {
             piped: true,
             ..these
+        }
+    }
+
+    /// The last of them once or more.
+    pub const fn several(self) -> Self {
+        Takes {
+            several: true,
+            ..self
+        }
+    }
+
+    /// The last of them once; with `--json`, or into a folder, more often.
+    pub const fn gathering(self) -> Self {
+        Takes {
+            gathers: true,
+            ..self
         }
     }
 
@@ -74,6 +95,8 @@ impl Takes {
 pub enum Does {
     /// It answers on each of its sheets.
     Answers(fn(&Arguments, &Input) -> Result<Answer, Failure>),
+    /// It writes something of each of its files.
+    Writes(fn(&Arguments, &OsStr) -> Result<Written, Failure>),
     /// It reads and writes by itself.
     Performs(fn(&Arguments) -> Result<Status, Failure>),
 }

@@ -18,11 +18,8 @@ use super::table::{Choice, Does, Takes, Word};
 
 pub use options::*;
 
-const SHEET: Takes = Takes::piped(&["SHEET"]);
-const SHEETS: Takes = Takes {
-    several: true,
-    ..SHEET
-};
+const SHEETS: Takes = Takes::piped(&["SHEET"]).several();
+const SHEET: Takes = Takes::piped(&["SHEET"]).gathering();
 
 /// A word that answers on each of its sheets.
 const fn answering(
@@ -50,8 +47,8 @@ pub static WORDS: &[Word] = &[
         &[&EXPLAIN, &NAMES, &SORT, &JSON, &QUIET],
         Does::Answers(judging::judge),
         "\
-Prints what the program judge prints: complete; or survivor, the board and the presses of its shortest departing sequence,
-which is the test to add; or refused with number and place. Status 0, 1 or 2.",
+Prints what the program judge prints: complete; or survivor, the board and the presses of its shortest departing
+sequence, which is the test to add; or refused with number and place. Status 0, 1 or 2.",
     ),
     Word {
         name: "make",
@@ -60,11 +57,11 @@ which is the test to add; or refused with number and place. Status 0, 1 or 2.",
         options: &[&OUTPUT, &TEXT, &TESTS, &MOST, &SORT, &JSON, &QUIET],
         needs: &[],
         details: "\
-Writes the sheet with tests after its own: while the list is incomplete, the departing sequence that judge tells is appended.
-With --text a text stays as it is, comments too, and the new lines follow; with --tests these lines are all. How many there
-were is told on standard error. Status 0; 1 if --most tests were appended and the list is not complete yet; 2 if the sheet
-is refused, or if the next test does not fit: then nothing is written.",
-        does: Does::Performs(judging::make),
+Writes the sheet with tests after its own: while the list is incomplete, the departing sequence that judge tells is
+appended. With --text a text stays as it is, comments too, and the new lines follow; with --tests these lines are all.
+How many there were is told on standard error. Status 0; 1 if --most tests were appended and the list is not complete
+yet; 2 if the sheet is refused, or if the next test does not fit: then nothing is written.",
+        does: Does::Writes(judging::make),
     },
     answering(
         "read",
@@ -72,7 +69,8 @@ is refused, or if the next test does not fit: then nothing is written.",
         &[&TEST, &NAMES, &SORT, &JSON, &QUIET],
         Does::Answers(sheets::read),
         "\
-Prints the numbers of states, presses, sounds, RULEs, FAULTs, TESTs and open pairs. Status 0, or 2 if the sheet is refused.",
+Prints the numbers of states, presses, sounds, RULEs, FAULTs, TESTs and open pairs. Status 0, or 2 if the sheet is
+refused.",
     ),
     Word {
         needs: &[&BOARD, &PRESS],
@@ -93,8 +91,8 @@ Prints one sound for each press, and which open pairs were used, by their number
             &[&BOARD, &EXPLAIN, &SORT, &JSON, &QUIET],
             Does::Answers(boards::first_failed),
             "\
-Prints passes, or fails with the test and the position of its first wrong sound, both from 0; and which open pairs were used
-until then. Status 0 or 1.",
+Prints passes, or fails with the test and the position of its first wrong sound, both from 0; and which open pairs were
+used until then. Status 0 or 1.",
         )
     },
     Word {
@@ -114,21 +112,21 @@ until then. Status 0 or 1.",
         options: &[&AFTER, &MOST_BOARDS, &DEPARTING, &COUNT, &NAMES, &SORT, &JSON, &QUIET],
         needs: &[],
         details: "\
-Prints a line for each board in dictionary order, as it is found: board, its choices, and conforms, or departs and the presses
-of its shortest departing sequence; then end, or more if --most boards were told and others are left. With --count how many
-pass, conform and depart; of a whole walk also the mutation score: of the departing boards those that fail the list, and how
-many depart. Status 0; 1 if a departing board was met; 2.",
+Prints a line for each board in dictionary order, as it is found: board, its choices, and conforms, or departs and the
+presses of its shortest departing sequence; then end, or more if --most boards were told and others are left. With
+--count how many pass, conform and depart; of a whole walk also the mutation score: of the departing boards those that
+fail the list, and how many depart. Status 0; 1 if a departing board was met; 2.",
         does: Does::Performs(walking::walk),
     },
     Word {
         name: "tray",
         purpose: "the first failed test of each of many boards",
-        takes: Takes::piped(&["SHEET", "BOARDS"]),
+        takes: Takes::piped(&["SHEET", "BOARDS"]).gathering(),
         options: &[&SORT, &JSON, &QUIET],
         needs: &[],
         details: "\
-BOARDS has a board a line, as 0 1 or 0,1, or as walk prints them; # begins a comment. Prints a line for each board: board, its
-choices, and passes, or fails and the test. Status 0; 1 if one fails; 2.",
+BOARDS has a board a line, as 0 1 or 0,1, or as walk prints them; # begins a comment. Prints a line for each board:
+board, its choices, and passes, or fails and the test. Status 0; 1 if one fails; 2.",
         does: Does::Performs(trays::tray),
     },
     Word {
@@ -140,20 +138,20 @@ choices, and passes, or fails and the test. Status 0; 1 if one fails; 2.",
         details: "\
 Writes the sheet with the test after its own. With --text a text stays as it is, comments too, and the new line follows.
 Status 0 or 2.",
-        does: Does::Performs(walking::add),
+        does: Does::Writes(walking::add),
     },
     Word {
         name: "log",
         purpose: "whether a lock's record is as specified, and whether some board gives it",
-        takes: Takes::piped(&["SHEET", "RECORD"]),
+        takes: Takes::piped(&["SHEET", "RECORD"]).gathering(),
         options: &[&EXPLAIN, &SORT, &JSON, &QUIET],
         needs: &[],
         details: "\
-RECORD is bytes, 10 for a fresh start and 11 x o for a press and its sound, or a text: PULSE 0/0 1/1 with presses and sounds, and
-SEEN 0 1 for one of them on a line of its own; presses and sounds may be names of the sheet's text. Prints differs and the place
-of the first sound that is not the specified one, or as specified; and given by a board, or given by no board. With --explain
-the pulse, the position and the line, and the first board that gives the record. Status 0; 1 if it differs or no board gives
-it; 2.",
+RECORD is bytes, 10 for a fresh start and 11 x o for a press and its sound, or a text: PULSE 0/0 1/1 with presses and
+sounds, and SEEN 0 1 for one of them on a line of its own; presses and sounds may be names of the sheet's text. Prints
+differs and the place of the first sound that is not the specified one, or as specified; and given by a board, or given
+by no board. With --explain the pulse, the position and the line, and the first board that gives the record. Status 0; 1
+if it differs or no board gives it; 2.",
         does: Does::Performs(recording::log),
     },
     Word {
@@ -163,8 +161,8 @@ it; 2.",
         options: &[&OUTPUT, &TEXT, &SORT, &JSON],
         needs: &[],
         details: "\
-Writes the sheet with the FAULTs and STARTs of both, each once, and the first sheet's tests followed by the second's. With
---text the first text stays as it is, comments too, and the lines of the second are put in. Status 0 or 2.",
+Writes the sheet with the FAULTs and STARTs of both, each once, and the first sheet's tests followed by the second's.
+With --text the first text stays as it is, comments too, and the lines of the second are put in. Status 0 or 2.",
         does: Does::Performs(joining::merge),
     },
     Word {
@@ -174,9 +172,9 @@ Writes the sheet with the FAULTs and STARTs of both, each once, and the first sh
         options: &[&OUTPUT, &TEXT, &SORT, &JSON],
         needs: &[],
         details: "\
-Writes the sheet with states numbered as breadth-first search meets them, from state 0, presses ascending, by RULEs alone.
-Names go with their states. Status 0 or 2.",
-        does: Does::Performs(renumbering::renumber),
+Writes the sheet with states numbered as breadth-first search meets them, from state 0, presses ascending, by RULEs
+alone. Names go with their states. Status 0 or 2.",
+        does: Does::Writes(renumbering::renumber),
     },
     Word {
         name: "same",
@@ -191,24 +189,26 @@ Names go with their states. Status 0 or 2.",
         name: "station",
         purpose: "drives a lock through a complete list",
         takes: Takes::these(&["SHEET"]),
-        options: &[&STATE, &NAMES, &SORT],
+        options: &[&STATE, &NAMES, &SORT, &JSON],
         needs: &[],
         details: "\
-Reads lines from standard input and answers each with a line. next: pulse, press X, pass, or fails test T position P. sound O:
-taken, fails .., or refused .. and why. sheet FILE: taken, and the station goes on with that sheet at the same press, or
-refused ... With --state it goes on where it was stopped, with the sheet that it had. Status 0 if the lock passes, 1 if it
-fails, 2 if the sheet is refused, 3 if the input ends before the verdict.",
+Reads lines from standard input and answers each with a line. next: pulse, press X, pass, or fails test T position P.
+sound O: taken, fails .., or refused .. and why. sheet FILE: taken, and the station goes on with that sheet at the same
+press, or refused ... With --state it goes on where it was stopped, with the sheet that it had. --json makes objects of
+the answers; what is read stays lines. Status 0 if the lock passes, 1 if it fails, 2 if the sheet is refused, 3 if the
+input ends before the verdict.",
         does: Does::Performs(stations::station),
     },
     Word {
         name: "lock",
         purpose: "a board that answers a station, for a bench without a lock",
         takes: Takes::these(&["SHEET"]),
-        options: &[&BOARD, &SORT],
+        options: &[&BOARD, &NAMES, &SORT, &JSON],
         needs: &[&BOARD],
         details: "\
-Prints next, then answers each line of standard input: pulse and taken with next, press X with the sound that the board gives.
-It ends at pass or fails. Joined to a station by two pipes both end with the verdict: status 0, or 1 for a failure.",
+Prints next, then answers each line of standard input: pulse and taken with next, press X with the sound that the board
+gives. It ends at pass or fails. Joined to a station by two pipes both end with the verdict: status 0, or 1 for a
+failure. --json makes objects of its answers, for a program that stands between; what is read stays lines.",
         does: Does::Performs(stations::lock),
     },
     Word {
@@ -218,13 +218,13 @@ It ends at pass or fails. Joined to a station by two pipes both end with the ver
         options: &[&OUTPUT, &SORT, &JSON],
         needs: &[],
         details: "\
-Writes the bytes that the text spells. Mistakes in the text are told by their lines, with status 3. If reading refuses the
-sheet, its bytes are written all the same; the refusal is told, with status 2.
+Writes the bytes that the text spells. Mistakes in the text are told by their lines, with status 3. If reading refuses
+the sheet, its bytes are written all the same; the refusal is told, with status 2.
 
-One command a line: SIZE n k m, QUIET, RULE s x o t, FAULT s x o t, START t, TEST x x .. with the presses of the test. END
-is added. # begins a comment. HEX 07 1f spells any bytes; after a last line END or HEX no END is added. STATES, PRESSES and
-SOUNDS with as many names as SIZE says give names, which may then stand for the numbers.",
-        does: Does::Performs(sheets::assemble),
+One command a line: SIZE n k m, QUIET, RULE s x o t, FAULT s x o t, START t, TEST x x .. with the presses of the test.
+END is added. # begins a comment. HEX 07 1f spells any bytes; after a last line END or HEX no END is added. STATES,
+PRESSES and SOUNDS with as many names as SIZE says give names, which may then stand for the numbers.",
+        does: Does::Writes(sheets::assemble),
     },
     Word {
         name: "write",
@@ -233,9 +233,9 @@ SOUNDS with as many names as SIZE says give names, which may then stand for the 
         options: &[&OUTPUT, &TEXT, &SORT, &JSON],
         needs: &[],
         details: "\
-Takes the sizes, RULEs, FAULTs, STARTs and tests of the sheet, in either form, and has the library write the sheet from these
-tables. Nothing is written that reading refuses; such a refusal has place 0. Status 0 or 2.",
-        does: Does::Performs(sheets::write),
+Takes the sizes, RULEs, FAULTs, STARTs and tests of the sheet, in either form, and has the library write the sheet from
+these tables. Nothing is written that reading refuses; such a refusal has place 0. Status 0 or 2.",
+        does: Does::Writes(sheets::write),
     },
     Word {
         name: "generate",
@@ -253,22 +253,22 @@ tables. Nothing is written that reading refuses; such a refusal has place 0. Sta
         options: &[&OUTPUTS, &TRANSFERS, &ALL, &OUTPUT, &SORT, &JSON],
         needs: &[],
         details: "\
-Writes a FAULT line for each RULE and each way to differ from it that the options name, but for those that the sheet has. Put
-them into the text and give --sort. A sheet has at most 256 FAULTs and 32 open pairs. Status 0 or 2.",
-        does: Does::Performs(rows::faults),
+Writes a FAULT line for each RULE and each way to differ from it that the options name, but for those that the sheet
+has. Put them into the text and give --sort. A sheet has at most 256 FAULTs and 32 open pairs. Status 0 or 2.",
+        does: Does::Writes(rows::faults),
     },
     Word {
         name: "import",
         purpose: "the text of a machine in DOT or KISS2",
-        takes: Takes::piped(&["FILE"]),
+        takes: Takes::piped(&["FILE"]).gathering(),
         options: &[&OUTPUT, &JSON],
         needs: &[],
         details: "\
-Takes a Mealy machine in Graphviz's DOT (s0 -> s1 [label=\"a/0\"], with __start0 -> s0 before the first state) or in KISS2, and
-writes its text, with the names of its states, presses and sounds. The first state gets number 0, the others as they are
-met. In KISS2 a - in the inputs stands for 0 and 1, and what leads to * has no RULE. Status 0; 2 if reading refuses the sheet,
-which is written all the same; 3 if the file can't be taken for a machine.",
-        does: Does::Performs(rows::import),
+Takes a Mealy machine in Graphviz's DOT (s0 -> s1 [label=\"a/0\"], with __start0 -> s0 before the first state) or in
+KISS2, and writes its text, with the names of its states, presses and sounds. The first state gets number 0, the others
+as they are met. In KISS2 a - in the inputs stands for 0 and 1, and what leads to * has no RULE. Status 0; 2 if reading
+refuses the sheet, which is written all the same; 3 if the file can't be taken for a machine.",
+        does: Does::Writes(rows::import),
     },
     answering(
         "list",
@@ -276,22 +276,23 @@ which is written all the same; 3 if the file can't be taken for a machine.",
         &[&TEXT, &SORT, &JSON, &QUIET],
         Does::Answers(showing::list),
         "\
-Lists any bytes. In a refused sheet the refused place is marked with >, and the line below says why. With --text: the text
-form alone. Status 0, or 2 if the sheet is refused.",
+Lists any bytes. In a refused sheet the refused place is marked with >, and the line below says why. With --text: the
+text form alone. Status 0, or 2 if the sheet is refused.",
     ),
     Word {
         name: "draw",
         purpose: "a picture: Graphviz's DOT, SVG, or a table",
         takes: SHEET,
-        options: &[&BOARD, &UNSPECIFIED, &SVG, &TABLE, &MEALY, &OUTPUT, &SORT],
+        options: &[&BOARD, &UNSPECIFIED, &SVG, &TABLE, &MEALY, &OUTPUT, &SORT, &JSON],
         needs: &[],
         details: "\
 Draws the machine: RULEs solid, FAULTs and STARTs dashed, arrows labelled press/sound. With --board that board, with its
 departing sequence thick and red, each press with its positions, and with what is specified in grey beside each fault.
 
---table writes states by presses, each cell with sound and next state and with its faults: also for machines that are too
-large for a picture. --mealy writes the specified machine, or the board, as learners read and write them.",
-        does: Does::Performs(showing::draw),
+--table writes states by presses, each cell with sound and next state and with its faults: also for machines that are
+too large for a picture. --mealy writes the specified machine, or the board, as learners read and write them. --json has
+the transitions, and the picture as a text.",
+        does: Does::Writes(showing::draw),
     },
     Word {
         name: "help",

@@ -3,6 +3,7 @@
 use super::{Arrow, Line, Picture, Target};
 
 /// The picture in DOT.
+#[must_use]
 pub fn dot(picture: &Picture) -> String {
     let mut text =
         "digraph {\n  rankdir=LR\n  node [shape=circle]\n  start [shape=point]\n".to_string();

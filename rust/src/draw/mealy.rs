@@ -25,6 +25,7 @@ use super::{Line, Picture, Transition};
 /// );
 /// # Ok::<(), Box<dyn std::error::Error>>(())
 /// ```
+#[must_use]
 pub fn mealy(picture: &Picture) -> String {
     let mut text = "digraph {\n  __start0 [label=\"\" shape=\"none\"];\n".to_string();
     for state in 0..picture.states {

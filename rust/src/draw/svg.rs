@@ -19,7 +19,10 @@ const MARGIN: f64 = 14.0;
 
 /// How much the room between states grows where it is not enough, and how often.
 const GROWTH: f64 = 1.12;
-const TRIES: i32 = 80;
+const TRIES: i32 = 40;
+
+/// The room between states where no room is enough: more kinds of arrows between two states than a sheet has.
+const CROWDED: f64 = 4.0;
 
 /// What may speak against the worst place of a label, and how many sizes are tried for that.
 const CLEAR: f64 = 9.0;
@@ -48,28 +51,32 @@ impl Drawn {
             .iter()
             .map(|(arrow, labels)| block(arrow, labels))
             .collect();
-        let drawn = |scale: f64| {
-            let layout = Layout::new(picture.states, state, scale);
+        let drawn = |scale: f64, loose: bool| {
+            let mut layout = Layout::new(picture.states, state, scale);
+            layout.loose = loose;
             let routes = layout.routes(arrows.keys())?;
             let placed = place(&layout, &routes, &blocks)?;
             Some((layout, routes, placed))
         };
         let scales = (0..TRIES).map(|i| GROWTH.powi(i));
-        let mut fitting = scales.filter_map(drawn).take(BETTER);
-        let mut best = fitting.next().expect("room, where all is far apart");
-        while best.2.cost > CLEAR
+        let mut fitting = scales.filter_map(|scale| drawn(scale, false)).take(BETTER);
+        let mut best = fitting.next();
+        while best.as_ref().is_some_and(|best| best.2.cost > CLEAR)
             && let Some(next) = fitting.next()
         {
-            if next.2.cost < best.2.cost {
-                best = next;
-            }
+            best = best
+                .filter(|best| best.2.cost <= next.2.cost)
+                .or(Some(next));
         }
-        let (layout, routes, placed) = best;
+        let (layout, routes, areas) = match best.or_else(|| drawn(CROWDED, true)) {
+            Some((layout, routes, placed)) => (layout, routes, placed.areas),
+            None => (Layout::new(picture.states, state, 1.0), vec![], vec![]),
+        };
         Drawn {
             layout,
             routes,
             blocks,
-            areas: placed.areas,
+            areas,
         }
     }
 
@@ -85,7 +92,7 @@ impl Drawn {
             .chain(routes)
             .chain(areas)
             .reduce(|one, other| one.with(&other))
-            .expect("there is a state")
+            .unwrap_or_else(|| around(Point::new(0.0, 0.0), 0.0))
     }
 }
 
@@ -98,6 +105,7 @@ fn block(arrow: &Arrow, labels: &[String]) -> Block {
 }
 
 /// The picture in SVG.
+#[must_use]
 pub fn svg(picture: &Picture) -> String {
     let arrows = picture.arrows();
     let drawn = Drawn::of(picture, &arrows);

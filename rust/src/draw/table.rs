@@ -25,6 +25,7 @@ use crate::columns::columns;
 /// );
 /// # Ok::<(), Box<dyn std::error::Error>>(())
 /// ```
+#[must_use]
 pub fn table(picture: &Picture) -> String {
     let title = match picture.title.as_str() {
         "" => String::new(),

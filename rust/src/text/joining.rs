@@ -6,8 +6,9 @@ use super::{command_lines, disassemble_named};
 use crate::commands::{PRESS, commands};
 
 impl Text {
-    /// The text with the lines of some commands: FAULTs and STARTs after the line that they follow in order, all else at the end. Comments
-    /// and everything else of the source stay. If the lines so joined would spell other bytes than `whole`, that is spelled anew.
+    /// The text with the lines of some commands: FAULTs and STARTs after the line that they follow in order, all else
+    /// at the end. Comments and everything else of the source stay. If the lines so joined would spell other bytes than
+    /// `whole`, that is spelled anew.
     ///
     /// ```
     /// use ranthelo::text::{Text, assemble};
@@ -17,6 +18,7 @@ impl Text {
     /// let text = Text::read(source).unwrap();
     /// assert_eq!(text.joined(source, &[4], &whole), "SIZE 1 1 1 # small\nTEST # nothing yet\nTEST\n");
     /// ```
+    #[must_use]
     pub fn joined(&self, source: &[u8], more: &[u8], whole: &[u8]) -> String {
         let joined = self.join(&String::from_utf8_lossy(source), more);
         match Text::read(joined.as_bytes()) {

@@ -73,6 +73,7 @@ impl Text {
     }
 
     /// The bytes that it spells, whatever reading makes of them.
+    #[must_use]
     pub fn bytes(&self) -> Vec<u8> {
         let lines = self.lines.iter().flat_map(|line| &line.bytes);
         let end = (!self.ended).then_some(&END);
@@ -80,11 +81,13 @@ impl Text {
     }
 
     /// The names that it gives.
+    #[must_use]
     pub fn names(&self) -> &Names {
         &self.names
     }
 
     /// The number of the line that spells the byte at a place, if one does.
+    #[must_use]
     pub fn line_at(&self, place: usize) -> Option<usize> {
         let mut end = 0;
         let line = self.lines.iter().find(|line| {
@@ -94,8 +97,9 @@ impl Text {
         line.map(|line| line.number)
     }
 
-    /// The text with SIZE and QUIET first, then its RULEs, FAULTs and STARTs, each kind ascending, then the rest as it stands. Lines keep
-    /// their numbers.
+    /// The text with SIZE and QUIET first, then its RULEs, FAULTs and STARTs, each kind ascending, then the rest as it
+    /// stands. Lines keep their numbers.
+    #[must_use]
     pub fn sorted(mut self) -> Self {
         self.lines.sort_by_key(|line| order::key(&line.bytes));
         self

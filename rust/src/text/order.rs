@@ -3,7 +3,8 @@
 use super::HEX;
 use crate::commands::{END, FAULT, QUIET, RULE, SIZE, START};
 
-/// What rows are sorted by: SIZE, QUIET, RULEs, FAULTs and STARTs, these three ascending; the rest stays as it is, after them.
+/// What rows are sorted by: SIZE, QUIET, RULEs, FAULTs and STARTs, these three ascending; the rest stays as it is,
+/// after them.
 pub type Key = (u8, Vec<u8>);
 
 /// The kind of a row that stands where it stands.

@@ -8,6 +8,7 @@ use std::fs;
 use std::io::Write;
 use std::path::PathBuf;
 use std::process::{Command, Output, Stdio};
+use std::sync::atomic::{AtomicUsize, Ordering};
 
 pub fn root() -> PathBuf {
     PathBuf::from(env!("CARGO_MANIFEST_DIR")).join("..")
@@ -58,9 +59,31 @@ pub fn gives(arguments: &[&str], expected: i32, stdout: &str, stderr: &str) {
     assert_eq!(status(&output), expected, "{arguments:?}");
 }
 
-/// A file with some content, in a folder of the tests' own.
+/// A file with some content, in a folder of the tests' own. It is there at once: another test may write the same one.
 pub fn file(name: &str, content: &[u8]) -> String {
+    static FILES: AtomicUsize = AtomicUsize::new(0);
     let path = PathBuf::from(env!("CARGO_TARGET_TMPDIR")).join(name);
-    fs::write(&path, content).expect("the file is written");
+    let number = FILES.fetch_add(1, Ordering::Relaxed);
+    let beside = path.with_file_name(format!("{name}.{}.{number}", std::process::id()));
+    fs::write(&beside, content).expect("the file is written");
+    fs::rename(&beside, &path).expect("the file gets its name");
     path.to_str().expect("a path in UTF-8").to_string()
+}
+
+/// The words of the command's table, as its help lists them.
+pub fn all_words() -> Vec<String> {
+    let overview = text(&output(&["help"]).stdout);
+    let lines = overview.lines().filter_map(|line| line.strip_prefix("  "));
+    lines
+        .map(|line| line.split(' ').next().expect("a word").to_string())
+        .collect()
+}
+
+/// The options that a word's help names.
+pub fn options(word: &str) -> Vec<String> {
+    let help = text(&output(&["help", word]).stdout);
+    let lines = help.lines().filter_map(|line| line.strip_prefix("  -"));
+    lines
+        .map(|line| format!("-{}", line.split(' ').next().expect("a name")))
+        .collect()
 }

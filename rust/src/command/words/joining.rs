@@ -4,7 +4,7 @@ use crate::command::Status;
 use crate::command::arguments::Arguments;
 use crate::command::failure::Failure;
 use crate::command::input::Input;
-use crate::command::output::Written;
+use crate::command::output::{Content, Written, deliver};
 use ranthelo::MergeRefusal;
 use ranthelo::asked::Asked;
 use ranthelo::commands::{FAULT, START, TEST, commands};
@@ -24,14 +24,14 @@ pub fn merge(arguments: &Arguments) -> Result<Status, Failure> {
         _ => first.refused(refusal, &Asked::Second(&second.sheet)),
     })?;
     let more = rows_of_second(&first.sheet, &second.sheet);
-    Written {
-        name: &first.name,
-        names: &first.names,
-        sheet: &sheet,
-        text: first.text_with(&more, &sheet),
-        fields: vec![("answer", "merged".into())],
-    }
-    .deliver(arguments)
+    let text = first.text_with(&more, &sheet);
+    let content = Content::Sheet { bytes: sheet, text };
+    let fields = vec![
+        ("second", second.name.as_str().into()),
+        ("answer", "merged".into()),
+    ];
+    let written = Written::new(&first.name, &first.names, content, fields);
+    deliver(arguments, arguments.argument(0), written)
 }
 
 /// The FAULTs and STARTs of the second sheet that the first has not, and its tests.

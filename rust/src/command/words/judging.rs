@@ -9,12 +9,13 @@ use crate::command::failure::Failure;
 use crate::command::input::Input;
 use crate::command::json::{Fields, bytes, list as json_list};
 use crate::command::making::{self, Tests};
-use crate::command::output::{Written, deliver, note};
+use crate::command::output::{Content, Written};
 use crate::command::words::JSON;
 use crate::command::work::at_work;
 use ranthelo::asked::Asked;
 use ranthelo::text::lines_of;
 use ranthelo::{Refusal, Verdict, explain, list};
+use std::ffi::OsStr;
 
 pub fn judge(arguments: &Arguments, input: &Input) -> Result<Answer, Failure> {
     let sheet = &input.sheet;
@@ -57,77 +58,39 @@ fn judged(verdict: &Verdict) -> (Status, Fields) {
     }
 }
 
-pub fn make(arguments: &Arguments) -> Result<Status, Failure> {
+pub fn make(arguments: &Arguments, path: &OsStr) -> Result<Written, Failure> {
     let most = arguments.option_number(MOST.name)?;
-    let input = Input::open(arguments.argument(0), arguments)?;
+    let input = Input::open(path, arguments)?;
     let Tests { sheet, complete } = making::tests(&input, most)?;
     let more = sheet
         .get(input.sheet.len() - 1..sheet.len() - 1)
         .unwrap_or_default();
-    let appended = ranthelo::read(&sheet).map_or(0, |summary| summary.tests)
-        - ranthelo::read(&input.sheet).map_or(0, |summary| summary.tests);
-    let made = Made {
-        input: &input,
-        sheet: &sheet,
-        more,
-        complete,
+    let appended = tests(more);
+    let fields = vec![
+        ("answer", "made".into()),
+        ("tests", json_list(appended.iter().map(|test| bytes(test)))),
+        ("complete", complete.into()),
+    ];
+    let alone = arguments.has(TESTS.name) && !arguments.has(JSON.name);
+    let content = match alone {
+        true => Content::Lines {
+            text: lines_of(more, &input.names),
+            extension: "txt",
+        },
+        false => Content::Sheet {
+            text: input.text_with(more, &sheet),
+            bytes: sheet,
+        },
     };
-    made.deliver(arguments)?;
+    let (name, appended) = (&input.name, appended.len());
+    let (left, status) = match complete {
+        true => ("", Status::Good),
+        false => ("; the list is not complete yet", Status::Wanting),
+    };
     let tests = if appended == 1 { "test" } else { "tests" };
-    let left = if complete {
-        ""
-    } else {
-        "; the list is not complete yet"
-    };
-    note(
-        arguments,
-        &format!("{}: {appended} {tests} appended{left}", input.name),
-    );
-    Ok(if complete {
-        Status::Good
-    } else {
-        Status::Wanting
+    Ok(Written {
+        status,
+        note: Some(format!("{name}: {appended} {tests} appended{left}")),
+        ..Written::new(name, &input.names, content, fields)
     })
-}
-
-/// A sheet with tests appended, and the commands of these.
-struct Made<'a> {
-    input: &'a Input,
-    sheet: &'a [u8],
-    more: &'a [u8],
-    complete: bool,
-}
-
-impl Made<'_> {
-    fn deliver(&self, arguments: &Arguments) -> Result<Status, Failure> {
-        let Made {
-            input,
-            sheet,
-            more,
-            complete,
-        } = *self;
-        if arguments.has(TESTS.name) && !arguments.has(JSON.name) {
-            return deliver(arguments, self.lines().as_bytes());
-        }
-        let tests = json_list(tests(more).iter().map(|test| bytes(test)));
-        let fields = vec![
-            ("answer", "made".into()),
-            ("tests", tests),
-            ("complete", complete.into()),
-        ];
-        let (name, names, text) = (&input.name, &input.names, input.text_with(more, sheet));
-        Written {
-            name,
-            names,
-            sheet,
-            text,
-            fields,
-        }
-        .deliver(arguments)
-    }
-
-    /// The new TEST lines.
-    fn lines(&self) -> String {
-        lines_of(self.more, &self.input.names)
-    }
 }

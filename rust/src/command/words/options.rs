@@ -57,7 +57,11 @@ pub static TEST: Choice = valued(
     "NUMBER",
     "tell where this test stands in the sheet, and its presses",
 );
-pub static OUTPUT: Choice = valued("-o", "FILE", "write to this file; - is standard output");
+pub static OUTPUT: Choice = valued(
+    "-o",
+    "FILE",
+    "write to this file, or into this folder; - is standard output",
+);
 pub static TEXT: Choice = flag("--text", "write the text form and not the bytes");
 pub static TESTS: Choice = flag("--tests", "write the new TEST lines alone");
 pub static MOST_BOARDS: Choice = valued("--most", "NUMBER", "tell at most so many boards");

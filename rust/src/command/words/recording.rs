@@ -2,7 +2,7 @@
 
 use super::EXPLAIN;
 use crate::command::Status;
-use crate::command::answer::print_answer;
+use crate::command::answer::{on_each, print_answer};
 use crate::command::arguments::Arguments;
 use crate::command::failure::Failure;
 use crate::command::input::{Input, open};
@@ -12,17 +12,25 @@ use ranthelo::asked::{Asked, why};
 use ranthelo::machine::Machine;
 use ranthelo::records::{Place, Record};
 use ranthelo::{Comparison, Names, Passing, Recorded, Refusal};
+use std::ffi::OsStr;
 
 /// Any record that fits into memory.
 const MOST: u64 = 1 << 32;
 
 pub fn log(arguments: &Arguments) -> Result<Status, Failure> {
     let input = Input::open(arguments.argument(0), arguments)?;
-    let (name, source) = open(arguments.argument(1), MOST)?;
+    on_each(arguments, &arguments.all()[1..], |path| {
+        log_of(arguments, &input, path)
+    })
+}
+
+/// What one record tells.
+fn log_of(arguments: &Arguments, input: &Input, path: &OsStr) -> Result<Status, Failure> {
+    let (name, source) = open(path, MOST)?;
     let record = Record::read(&source, &input.names)
         .map_err(|mistakes| Failure::mistaken(&name, &mistakes))?;
     let logged = Logged {
-        input: &input,
+        input,
         name: &name,
         record: &record,
     };
@@ -44,7 +52,7 @@ pub fn log(arguments: &Arguments) -> Result<Status, Failure> {
         fields.push(("explained", told.into()));
         fields.extend(board.map(|found| ("board", bytes(&found.board))));
     }
-    print_answer(arguments, &input, &lines, fields)?;
+    print_answer(arguments, input, &lines, fields)?;
     Ok(match recorded.differs.is_none() && recorded.given {
         true => Status::Good,
         false => Status::Wanting,
@@ -137,7 +145,8 @@ impl Logged<'_> {
             names.sound(rule.sound),
         );
         Some(format!(
-            "Pulse {pulse}, position {position}{line}: press {press} gave sound {sound}; specified: sound {specified}.\n"
+            "Pulse {pulse}, position {position}{line}: press {press} gave sound {sound}; \
+             specified: sound {specified}.\n"
         ))
     }
 }

@@ -6,24 +6,21 @@ use crate::command::answer::print_answer;
 use crate::command::arguments::Arguments;
 use crate::command::failure::Failure;
 use crate::command::input::Input;
-use crate::command::output::Written;
+use crate::command::output::{Content, Written};
 use ranthelo::Names;
 use ranthelo::asked::Asked;
 use ranthelo::machine::Machine;
 use ranthelo::text::disassemble_named;
+use std::ffi::OsStr;
 
-pub fn renumber(arguments: &Arguments) -> Result<Status, Failure> {
-    let input = Input::open(arguments.argument(0), arguments)?;
+pub fn renumber(arguments: &Arguments, path: &OsStr) -> Result<Written, Failure> {
+    let input = Input::open(path, arguments)?;
     let sheet = ranthelo::renumber(&input.sheet).map_err(|r| input.refused(r, &Asked::Sheet))?;
     let names = renamed(&input, &sheet);
-    Written {
-        name: &input.name,
-        names: &names,
-        sheet: &sheet,
-        text: disassemble_named(&sheet, &names),
-        fields: vec![("answer", "renumbered".into())],
-    }
-    .deliver(arguments)
+    let text = disassemble_named(&sheet, &names);
+    let content = Content::Sheet { bytes: sheet, text };
+    let fields = vec![("answer", "renumbered".into())];
+    Ok(Written::new(&input.name, &names, content, fields))
 }
 
 /// The names of a sheet whose states were renumbered: both are walked together from state 0.

@@ -8,11 +8,12 @@ use crate::command::arguments::Arguments;
 use crate::command::failure::Failure;
 use crate::command::input::Input;
 use crate::command::json::{Fields, bytes};
-use crate::command::output::Written;
+use crate::command::output::{Content, Written, deliver};
 use ranthelo::asked::Asked;
 use ranthelo::commands::{Command, END, FAULT, PRESS, QUIET, RULE, SIZE, START, TEST, commands};
 use ranthelo::text::{disassemble, disassemble_named, words};
 use ranthelo::{Names, Summary, Tables};
+use std::ffi::OsStr;
 
 pub fn read(arguments: &Arguments, input: &Input) -> Result<Answer, Failure> {
     if let Some(test) = arguments.option_number(TEST_OPTION.name)? {
@@ -59,40 +60,33 @@ fn read_test(arguments: &Arguments, input: &Input, test: usize) -> Result<Answer
     Ok(Answer::new(Status::Good, lines, fields))
 }
 
-pub fn assemble(arguments: &Arguments) -> Result<Status, Failure> {
-    let input = Input::open(arguments.argument(0), arguments)?;
+pub fn assemble(arguments: &Arguments, path: &OsStr) -> Result<Written, Failure> {
+    let input = Input::open(path, arguments)?;
     let refusal = ranthelo::read(&input.sheet)
         .err()
         .map(|r| input.refused(r, &Asked::Sheet));
     let fields = refusal
         .as_ref()
         .map_or(vec![("answer", "written".into())], Failure::fields);
-    written(&input, &input.sheet, fields).deliver(arguments)?;
-    refusal.map_or(Ok(Status::Good), Err)
+    Ok(Written {
+        failure: refusal,
+        ..written(&input, input.sheet.clone(), fields)
+    })
 }
 
 /// A sheet that comes from another.
-fn written<'a>(input: &'a Input, sheet: &'a [u8], fields: Fields) -> Written<'a> {
-    let (name, names, text) = (
-        &input.name,
-        &input.names,
-        disassemble_named(sheet, &input.names),
-    );
-    Written {
-        name,
-        names,
-        sheet,
-        text,
-        fields,
-    }
+fn written(input: &Input, sheet: Vec<u8>, fields: Fields) -> Written {
+    let text = disassemble_named(&sheet, &input.names);
+    let content = Content::Sheet { bytes: sheet, text };
+    Written::new(&input.name, &input.names, content, fields)
 }
 
-pub fn write(arguments: &Arguments) -> Result<Status, Failure> {
-    let input = Input::open(arguments.argument(0), arguments)?;
+pub fn write(arguments: &Arguments, path: &OsStr) -> Result<Written, Failure> {
+    let input = Input::open(path, arguments)?;
     let tables = Owned::of(&input.sheet).map_err(|what| Failure::unusable(&input.name, what))?;
     let sheet = ranthelo::write(tables.lend());
     let sheet = sheet.map_err(|refusal| input.refused(refusal, &Asked::Tables))?;
-    written(&input, &sheet, vec![("answer", "written".into())]).deliver(arguments)
+    Ok(written(&input, sheet, vec![("answer", "written".into())]))
 }
 
 /// The tables that commands spell, in whatever order the kinds stand.
@@ -168,14 +162,9 @@ pub fn generate(arguments: &Arguments) -> Result<Status, Failure> {
         Failure::refused("generate", refusal, None, &why)
     };
     let sheet = ranthelo::generate(seed, size).map_err(refused)?;
-    let (name, names, text) = ("generate", &Names::default(), disassemble(&sheet));
+    let text = disassemble(&sheet);
+    let content = Content::Sheet { bytes: sheet, text };
     let fields = vec![("answer", "written".into())];
-    Written {
-        name,
-        names,
-        sheet: &sheet,
-        text,
-        fields,
-    }
-    .deliver(arguments)
+    let written = Written::new("generate", &Names::default(), content, fields);
+    deliver(arguments, OsStr::new("generate"), written)
 }

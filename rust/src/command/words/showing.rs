@@ -8,11 +8,13 @@ use crate::command::arguments::Arguments;
 use crate::command::failure::Failure;
 use crate::command::input::Input;
 use crate::command::json::{Fields, Json, bytes, list as json_list};
-use crate::command::output::deliver;
+use crate::command::output::{Content, Written};
 use ranthelo::asked::Asked;
 use ranthelo::commands::{Command, commands};
+use ranthelo::draw::{Line, Picture, Transition, Waking};
 use ranthelo::machine::{Choice, Machine, OpenPair, Origin, Site};
 use ranthelo::{draw as pictures, list as listing, text};
+use std::ffi::OsStr;
 
 pub fn list(arguments: &Arguments, input: &Input) -> Result<Answer, Failure> {
     let sheet = &input.sheet;
@@ -75,24 +77,77 @@ fn choice(choice: &Choice) -> Json {
     fields.into()
 }
 
-pub fn draw(arguments: &Arguments) -> Result<Status, Failure> {
+pub fn draw(arguments: &Arguments, path: &OsStr) -> Result<Written, Failure> {
     let form = form(arguments)?;
     let unspecified = arguments.has(UNSPECIFIED.name) || form == Some(TABLE.name);
     let board = board(arguments)?;
-    let input = Input::open(arguments.argument(0), arguments)?;
+    let input = Input::open(path, arguments)?;
     let (sheet, names) = (&input.sheet, &input.names);
     let picture = match arguments.has(BOARD.name) {
         true => pictures::board(sheet, &board, names, unspecified),
         false => Machine::of(sheet).map(|m| pictures::machine(&m, names, unspecified)),
     };
     let picture = picture.map_err(|r| input.refused(r, &Asked::Board(&board)))?;
-    let text = match form {
-        Some("--svg") => pictures::svg(&picture),
-        Some("--table") => pictures::table(&picture),
-        Some("--mealy") => pictures::mealy(&picture),
-        _ => pictures::dot(&picture),
+    let (text, extension) = match form {
+        Some("--svg") => (pictures::svg(&picture), "svg"),
+        Some("--table") => (pictures::table(&picture), "txt"),
+        Some("--mealy") => (pictures::mealy(&picture), "dot"),
+        _ => (pictures::dot(&picture), "dot"),
     };
-    deliver(arguments, text.as_bytes())
+    let mut fields = drawn(&picture);
+    fields.push(("picture", text.as_str().into()));
+    let content = Content::Lines { text, extension };
+    Ok(Written::new(&input.name, names, content, fields))
+}
+
+/// What a picture shows, as JSON.
+fn drawn(picture: &Picture) -> Fields {
+    let mut fields: Fields = vec![("answer", "drawn".into())];
+    if !picture.title.is_empty() {
+        fields.push(("title", picture.title.as_str().into()));
+    }
+    fields.extend([
+        ("states", picture.states.into()),
+        ("presses", picture.presses.into()),
+        ("sounds", picture.sounds.into()),
+        ("wakings", json_list(picture.wakings.iter().map(waking))),
+        (
+            "transitions",
+            json_list(picture.transitions.iter().map(transition)),
+        ),
+    ]);
+    fields
+}
+
+fn waking(waking: &Waking) -> Json {
+    let fields: Fields = vec![
+        ("state", waking.state.into()),
+        ("line", line(waking.line).into()),
+        ("marked", waking.marked.into()),
+    ];
+    fields.into()
+}
+
+/// A transition as JSON: without sound and next state where any may come.
+fn transition(one: &Transition) -> Json {
+    let mut fields: Fields = vec![("state", one.state.into()), ("press", one.press.into())];
+    if let Some(to) = one.to {
+        fields.extend([("sound", to.sound.into()), ("next", to.next.into())]);
+    }
+    fields.extend([
+        ("line", line(one.line).into()),
+        ("positions", json_list(one.positions.iter().copied())),
+    ]);
+    fields.into()
+}
+
+fn line(line: Line) -> &'static str {
+    match line {
+        Line::Rule => "rule",
+        Line::Fault => "fault",
+        Line::Unspecified => "unspecified",
+        Line::Specified => "specified",
+    }
 }
 
 /// Which form of a picture is asked for, if it is not DOT.

@@ -1,16 +1,17 @@
 //! `station` and `lock`: one drives a lock, the other is one. Joined by two pipes they end with a verdict.
 
-use super::boards::board;
-use super::{NAMES, STATE};
+use super::boards::{board, shown};
+use super::{JSON, NAMES, STATE};
 use crate::command::Status;
 use crate::command::arguments::Arguments;
 use crate::command::failure::Failure;
 use crate::command::input::Input;
+use crate::command::json::{Fields, Json};
 use crate::command::output::print;
 use crate::command::state::{load, save};
 use crate::command::work::watched;
 use ranthelo::asked::{Asked, why};
-use ranthelo::{Named, Names, Refusal, Station, Step};
+use ranthelo::{Failure as Failed, Named, Names, Refusal, Station, Step};
 use std::ffi::OsStr;
 use std::io::{self, BufRead};
 
@@ -36,6 +37,61 @@ pub fn station(arguments: &Arguments) -> Result<Status, Failure> {
     watched(work, || ())?
 }
 
+/// A line of a station or a lock, in words and as JSON.
+struct Said {
+    words: String,
+    fields: Fields,
+}
+
+impl Said {
+    fn new(words: impl Into<String>, fields: Fields) -> Self {
+        let words = words.into();
+        Said { words, fields }
+    }
+
+    /// A word that says all.
+    fn word(word: &'static str) -> Self {
+        Said::new(word, vec![("answer", word.into())])
+    }
+
+    /// A line that can't be taken.
+    fn mistake(what: impl Into<String>) -> Self {
+        let what = what.into();
+        let fields = vec![("answer", "mistake".into()), ("why", what.clone().into())];
+        Said::new(format!("mistake: {what}"), fields)
+    }
+
+    fn refused(refusal: Refusal, why: String) -> Self {
+        let Refusal { number, place } = refusal;
+        let words = format!("refused {number} at {place}: {why}");
+        let fields = vec![
+            ("answer", "refused".into()),
+            ("number", number.into()),
+            ("place", place.into()),
+            ("why", why.into()),
+        ];
+        Said::new(words, fields)
+    }
+
+    fn failure(failure: Failed) -> Self {
+        let Failed { test, position } = failure;
+        let fields = vec![
+            ("answer", "fails".into()),
+            ("test", test.into()),
+            ("position", position.into()),
+        ];
+        Said::new(failure.to_string(), fields)
+    }
+
+    fn print(self, arguments: &Arguments) -> Result<(), Failure> {
+        let line = match arguments.has(JSON.name) {
+            true => Json::from(self.fields).to_string(),
+            false => self.words,
+        };
+        print(format!("{line}\n").as_bytes())
+    }
+}
+
 /// A station with the names of its sheet.
 struct Driving<'a> {
     arguments: &'a Arguments,
@@ -54,12 +110,12 @@ impl Driving<'_> {
                 ["next"] => self.next(),
                 ["sound", sound] => self.sound(sound),
                 ["sheet", ..] => self.change(line.trim().trim_start_matches("sheet").trim()),
-                _ => "mistake: a line is next, sound O or sheet FILE".to_string(),
+                _ => Said::mistake("a line is next, sound O or sheet FILE"),
             };
             if let Some(path) = self.arguments.value(STATE.name) {
                 save(path, self.station.sheet(), self.station.state())?;
             }
-            print(format!("{answer}\n").as_bytes())?;
+            answer.print(self.arguments)?;
         }
         match self.station.state()[3] {
             0 => Err(Failure::unusable(
@@ -71,46 +127,59 @@ impl Driving<'_> {
         }
     }
 
-    fn next(&mut self) -> String {
+    fn next(&mut self) -> Said {
         match self.station.next_step() {
-            Step::Press { press, .. } if self.arguments.has(NAMES.name) => {
-                format!("press {}", self.names.press(press))
+            Step::Pulse { test } => {
+                let fields = vec![("answer", "pulse".into()), ("test", test.into())];
+                Said::new("pulse", fields)
             }
-            step => step.to_string(),
+            Step::Press { press, position } => {
+                let name = match self.arguments.has(NAMES.name) {
+                    true => self.names.press(press),
+                    false => press.to_string(),
+                };
+                let mut fields = vec![
+                    ("answer", "press".into()),
+                    ("press", press.into()),
+                    ("position", position.into()),
+                ];
+                fields.extend(named(&self.names, Named::Press, press));
+                Said::new(format!("press {name}"), fields)
+            }
+            Step::Pass => Said::word("pass"),
+            Step::Failure(failure) => Said::failure(failure),
         }
     }
 
-    fn sound(&mut self, word: &str) -> String {
+    fn sound(&mut self, word: &str) -> Said {
         let sound = match self.names.value(Named::Sound, word) {
             Ok(sound) => sound,
-            Err(what) => return format!("mistake: {what}"),
+            Err(what) => return Said::mistake(what),
         };
         let [_, _, due, verdict] = self.station.state();
         let due = due != 0 && verdict == 0;
         match self.station.sound(sound) {
-            Ok(None) => "taken".to_string(),
-            Ok(Some(failure)) => failure.to_string(),
+            Ok(None) => Said::word("taken"),
+            Ok(Some(failure)) => Said::failure(failure),
             Err(refusal) => {
                 let asked = Asked::Sound { sound, due };
-                refused(
-                    refusal,
-                    &why(self.station.sheet(), &asked, refusal, &self.names),
-                )
+                let why = why(self.station.sheet(), &asked, refusal, &self.names);
+                Said::refused(refusal, why)
             }
         }
     }
 
-    fn change(&mut self, file: &str) -> String {
+    fn change(&mut self, file: &str) -> Said {
         let changed = match Input::open(OsStr::new(file), self.arguments) {
             Ok(changed) => changed,
-            Err(failure) => return format!("mistake: {}", failure.said()),
+            Err(failure) => return Said::mistake(failure.said()),
         };
         let before = self.station.sheet().to_vec();
         let [begun, _, _, verdict] = self.station.state();
         match self.station.change(&changed.sheet) {
             Ok(()) => {
                 self.names = changed.names;
-                "taken".to_string()
+                Said::word("taken")
             }
             Err(refusal) => {
                 let (before, over) = (&before[..], verdict != 0);
@@ -119,18 +188,11 @@ impl Driving<'_> {
                     begun,
                     over,
                 };
-                refused(
-                    refusal,
-                    &why(&changed.sheet, &asked, refusal, &changed.names),
-                )
+                let why = why(&changed.sheet, &asked, refusal, &changed.names);
+                Said::refused(refusal, why)
             }
         }
     }
-}
-
-fn refused(refusal: Refusal, why: &str) -> String {
-    let Refusal { number, place } = refusal;
-    format!("refused {number} at {place}: {why}")
 }
 
 /// A board that answers as a lock does, and asks the station for the next step.
@@ -140,7 +202,7 @@ pub fn lock(arguments: &Arguments) -> Result<Status, Failure> {
     ranthelo::run(&input.sheet, &board, &[])
         .map_err(|r| input.refused(r, &Asked::Board(&board)))?;
     let mut presses: Vec<u8> = Vec::new();
-    print(b"next\n")?;
+    Said::word("next").print(arguments)?;
     for line in io::stdin().lock().lines() {
         let line = line.map_err(|error| Failure::unusable("standard input", error))?;
         let words: Vec<&str> = line.split_whitespace().collect();
@@ -148,27 +210,45 @@ pub fn lock(arguments: &Arguments) -> Result<Status, Failure> {
             [] => continue,
             ["pulse"] => {
                 presses.clear();
-                "next".to_string()
+                Said::word("next")
             }
-            ["taken"] => "next".to_string(),
+            ["taken"] => Said::word("next"),
             ["press", press] => match input.names.value(Named::Press, press) {
                 Ok(press) => {
                     presses.push(press);
-                    let run = ranthelo::run(&input.sheet, &board, &presses);
-                    let asked = Asked::Run {
-                        board: &board,
-                        presses: &presses,
-                    };
-                    let run = run.map_err(|r| input.refused(r, &asked))?;
-                    format!("sound {}", run.sounds.last().copied().unwrap_or(0))
+                    sound(arguments, &input, &board, &presses)?
                 }
-                Err(what) => format!("mistake: {what}"),
+                Err(what) => Said::mistake(what),
             },
             ["pass"] => return Ok(Status::Good),
             ["fails", ..] => return Ok(Status::Wanting),
-            _ => "mistake: a line is pulse, press X, taken, pass or fails".to_string(),
+            _ => Said::mistake("a line is pulse, press X, taken, pass or fails"),
         };
-        print(format!("{answer}\n").as_bytes())?;
+        answer.print(arguments)?;
     }
     Ok(Status::Good)
+}
+
+/// The sound that a board gives on the last of some presses.
+fn sound(
+    arguments: &Arguments,
+    input: &Input,
+    board: &[u8],
+    presses: &[u8],
+) -> Result<Said, Failure> {
+    let asked = Asked::Run { board, presses };
+    let run = ranthelo::run(&input.sheet, board, presses);
+    let run = run.map_err(|r| input.refused(r, &asked))?;
+    let sound = run.sounds.last().copied().unwrap_or(0);
+    let mut fields = vec![("answer", "sound".into()), ("sound", sound.into())];
+    fields.extend(named(&input.names, Named::Sound, sound));
+    let name = shown(arguments, input).sound(sound);
+    Ok(Said::new(format!("sound {name}"), fields))
+}
+
+/// The name of a press or a sound as JSON, if it has one.
+fn named(names: &Names, kind: Named, number: u8) -> Fields {
+    let name = names.of(kind).get(usize::from(number));
+    let field = name.map(|name| ("name", name.as_str().into()));
+    field.into_iter().collect()
 }

@@ -2,19 +2,27 @@
 
 use super::fields;
 use crate::command::Status;
-use crate::command::answer::print_answer;
+use crate::command::answer::{on_each, print_answer};
 use crate::command::arguments::Arguments;
 use crate::command::failure::Failure;
 use crate::command::input::{Input, open};
 use crate::command::json::{Fields, Json, bytes, list};
 use ranthelo::asked::Asked;
+use std::ffi::OsStr;
 
 /// More than any tray needs.
 const MOST: u64 = 1 << 28;
 
 pub fn tray(arguments: &Arguments) -> Result<Status, Failure> {
     let input = Input::open(arguments.argument(0), arguments)?;
-    let (name, lines) = open(arguments.argument(1), MOST)?;
+    on_each(arguments, &arguments.all()[1..], |path| {
+        tray_of(arguments, &input, path)
+    })
+}
+
+/// What the list makes of the boards of one file.
+fn tray_of(arguments: &Arguments, input: &Input, path: &OsStr) -> Result<Status, Failure> {
+    let (name, lines) = open(path, MOST)?;
     let boards = boards(&name, &lines)?;
     let choices = boards.concat();
     let asked = Asked::Tray {
@@ -45,12 +53,12 @@ pub fn tray(arguments: &Arguments) -> Result<Status, Failure> {
         Json::from(fields)
     };
     let tried = list(boards.iter().zip(&results).map(field));
-    print_answer(
-        arguments,
-        &input,
-        &lines,
-        vec![("answer", "tried".into()), ("boards", tried)],
-    )?;
+    let fields = vec![
+        ("tray", name.into()),
+        ("answer", "tried".into()),
+        ("boards", tried),
+    ];
+    print_answer(arguments, input, &lines, fields)?;
     Ok(match results.iter().all(Option::is_none) {
         true => Status::Good,
         false => Status::Wanting,

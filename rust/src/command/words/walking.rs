@@ -1,31 +1,46 @@
 //! `walk` and `add`.
 
 use super::boards::shown;
-use super::{AFTER, COUNT, DEPARTING, JSON, MOST, NEW_TEST, QUIET};
+use super::{AFTER, COUNT, DEPARTING, MOST, NEW_TEST};
 use crate::command::Status;
+use crate::command::answer::{on_each, print_answer};
 use crate::command::arguments::Arguments;
 use crate::command::failure::Failure;
 use crate::command::input::Input;
-use crate::command::json::{Fields, Json, bytes};
-use crate::command::output::{Written, print};
+use crate::command::json::{Fields, bytes};
+use crate::command::output::{Content, Written};
 use crate::command::work::watched;
 use ranthelo::asked::Asked;
 use ranthelo::machine::Machine;
 use ranthelo::score::Walked;
 use ranthelo::{Comparison, Named, Names, Passing, Place, Walk};
+use std::ffi::OsStr;
 
 pub fn walk(arguments: &Arguments) -> Result<Status, Failure> {
     let most = arguments.option_number(MOST.name)?.unwrap_or(usize::MAX);
     let after = arguments.list(AFTER.name, None, &Names::default())?;
-    let input = Input::open(arguments.argument(0), arguments)?;
+    on_each(arguments, arguments.all(), |path| {
+        walk_on(arguments, path, most, &after)
+    })
+}
+
+/// Walks over the boards of one sheet.
+fn walk_on(
+    arguments: &Arguments,
+    path: &OsStr,
+    most: usize,
+    after: &[u8],
+) -> Result<Status, Failure> {
+    let input = Input::open(path, arguments)?;
     let place = match arguments.has(AFTER.name) {
-        true => Place::Board(after.clone()),
+        true => Place::Board(after.to_vec()),
         false => Place::Start,
     };
     let walk =
-        Walk::from(&input.sheet, place).map_err(|r| input.refused(r, &Asked::Board(&after)))?;
+        Walk::from(&input.sheet, place).map_err(|r| input.refused(r, &Asked::Board(after)))?;
     let walking = Walking {
         arguments,
+        input: &input,
         names: shown(arguments, &input),
         walk,
         met: Walked::default(),
@@ -36,6 +51,7 @@ pub fn walk(arguments: &Arguments) -> Result<Status, Failure> {
 /// A walk that is printed.
 struct Walking<'a> {
     arguments: &'a Arguments,
+    input: &'a Input,
     names: Names,
     walk: Walk,
     met: Walked,
@@ -65,7 +81,8 @@ impl Walking<'_> {
             }
         };
         let end = if ended { "end" } else { "more" };
-        self.say(&format!("{end}\n"), vec![("answer", end.into())])?;
+        let fields = vec![("answer", end.into())];
+        print_answer(self.arguments, self.input, &format!("{end}\n"), fields)?;
         if self.arguments.has(COUNT.name) {
             self.count(start && ended)?;
         }
@@ -73,17 +90,6 @@ impl Walking<'_> {
             0 => Status::Good,
             _ => Status::Wanting,
         })
-    }
-
-    /// A line of the answer, or an object; nothing if it is to be quiet.
-    fn say(&self, line: &str, fields: Fields) -> Result<(), Failure> {
-        match self.arguments {
-            arguments if arguments.has(JSON.name) => {
-                print(format!("{}\n", Json::from(fields)).as_bytes())
-            }
-            arguments if arguments.has(QUIET.name) => Ok(()),
-            _ => print(line.as_bytes()),
-        }
     }
 
     /// `board 0 1 conforms`, or `board 0 2 departs 0 1 0`
@@ -99,7 +105,8 @@ impl Walking<'_> {
         };
         let line = one.named(&self.names) + "\n";
         let board = [("board", bytes(&one.board))];
-        self.say(&line, board.into_iter().chain(answer).collect())
+        let fields = board.into_iter().chain(answer).collect();
+        print_answer(self.arguments, self.input, &line, fields)
     }
 
     /// How many there were; of a whole walk also how many of the departing boards the list finds.
@@ -109,8 +116,7 @@ impl Walking<'_> {
             departing,
         } = self.met;
         let passing = self.met.passing();
-        let mut lines =
-            format!("passing {passing}\nconforming {conforming}\ndeparting {departing}\n");
+        let mut lines = format!("{}\n", self.met);
         let mut fields: Fields = vec![
             ("answer", "count".into()),
             ("passing", (passing as usize).into()),
@@ -122,22 +128,18 @@ impl Walking<'_> {
             lines += &format!("score {found}/{all}\n");
             fields.push(("score", format!("{found}/{all}").into()));
         }
-        self.say(&lines, fields)
+        print_answer(self.arguments, self.input, &lines, fields)
     }
 }
 
-pub fn add(arguments: &Arguments) -> Result<Status, Failure> {
-    let input = Input::open(arguments.argument(0), arguments)?;
+pub fn add(arguments: &Arguments, path: &OsStr) -> Result<Written, Failure> {
+    let input = Input::open(path, arguments)?;
     let presses = arguments.list(NEW_TEST.name, Some(Named::Press), &input.names)?;
     let sheet = ranthelo::add_test(&input.sheet, &presses);
     let sheet = sheet.map_err(|r| input.refused(r, &Asked::NewTest(&presses)))?;
     let more = &sheet[input.sheet.len() - 1..sheet.len() - 1];
-    Written {
-        name: &input.name,
-        names: &input.names,
-        sheet: &sheet,
-        text: input.text_with(more, &sheet),
-        fields: vec![("answer", "written".into())],
-    }
-    .deliver(arguments)
+    let text = input.text_with(more, &sheet);
+    let content = Content::Sheet { bytes: sheet, text };
+    let fields = vec![("answer", "written".into())];
+    Ok(Written::new(&input.name, &input.names, content, fields))
 }

@@ -114,7 +114,8 @@ impl<'a> Obstacles<'a> {
                 best = Some((cost, area));
             }
         }
-        let (cost, area) = best?;
+        let first = || candidates(block.half(), route).into_iter().next();
+        let (cost, area) = best.or_else(|| self.layout.loose.then(first).flatten())?;
         self.placed.push(area);
         Some((cost, area))
     }

@@ -51,6 +51,8 @@ pub struct Layout {
     /// The radius of the circle on which they stand.
     radius: f64,
     scale: f64,
+    /// Whether arrows may come near to states, and labels lie on others, where there is no room.
+    pub loose: bool,
 }
 
 impl Layout {
@@ -66,6 +68,7 @@ impl Layout {
             state,
             radius,
             scale,
+            loose: false,
         }
     }
 
@@ -161,7 +164,9 @@ impl Layout {
         });
         let curves = free.map(|(bend, cost)| (bend, cost, self.bow(from, to, bend)));
         let passing = curves.filter(|(_, _, curve)| self.passes(curve, from, to));
-        let (bend, _, curve) = passing.min_by(|one, other| one.1.total_cmp(&other.1))?;
+        let best = passing.min_by(|one, other| one.1.total_cmp(&other.1));
+        let any = || (first, first, self.bow(from, to, first));
+        let (bend, _, curve) = best.or_else(|| self.loose.then(any))?;
         used.push(bend * side);
         let labels = if bend > 0.0 {
             Labels::Left
