@@ -1,5 +1,5 @@
 //! What README.md, the guide, the format's page and the course show: commands with their output, sheets, programs,
-//! refusals, paths.
+//! pictures, refusals. And of every page: its paths, and how wide it is.
 
 mod common;
 
@@ -12,14 +12,35 @@ use std::os::unix::fs::symlink;
 use std::path::{Path, PathBuf};
 use std::process::Command;
 
-const DOCUMENTS: [&str; 6] = [
+const DOCUMENTS: [&str; 11] = [
     "README.md",
     "docs/GUIDE.md",
     "docs/FORMAT.md",
     "docs/course/1-thin-list.md",
-    "docs/course/2-hiding-faults.md",
-    "docs/course/3-unspecified-pair.md",
+    "docs/course/2-lists-made-here.md",
+    "docs/course/3-hiding-faults.md",
+    "docs/course/4-unspecified-pair.md",
+    "docs/course/5-wrong-wake-up.md",
+    "docs/course/6-walk-and-score.md",
+    "docs/course/7-returned-lock.md",
+    "docs/course/8-station-and-lock.md",
 ];
+
+const COURSE: &str = "docs/course/README.md";
+
+/// Every page of the repository.
+fn pages() -> Vec<String> {
+    let folders = ["", "docs/", "docs/course/", "docs/changes/", "bench/"];
+    let mut pages = Vec::new();
+    for folder in folders {
+        let files = fs::read_dir(root().join(folder)).expect(folder);
+        let names = files.map(|file| file.unwrap().file_name().into_string().unwrap());
+        let texts = names.filter(|name| name.ends_with(".md"));
+        pages.extend(texts.map(|name| format!("{folder}{name}")));
+    }
+    assert!(pages.len() > 30, "{} pages", pages.len());
+    pages
+}
 
 fn document(name: &str) -> String {
     fs::read_to_string(root().join(name)).unwrap_or_else(|error| panic!("{name}: {error}"))
@@ -119,11 +140,10 @@ fn named<'a>(block: &'a Block, words: &str) -> Option<&'a str> {
     line.rsplit_once(words).map(|(_, file)| file)
 }
 
-/// A block after "This is `file`:" is that file, one after "From `file`:" lines of it.
-#[test]
-fn files_are_shown_word_for_word() {
+/// A block after "This is `file`:" is that file, one after "From `file`:" lines of it. How many there are of each.
+fn shown_word_for_word(names: &[&str]) -> (usize, usize) {
     let (mut shown, mut parts) = (0, 0);
-    for name in DOCUMENTS {
+    for name in names {
         for block in blocks(&document(name)) {
             let lines = block.lines.join("\n");
             if let Some(file) = named(&block, "his is `") {
@@ -137,7 +157,16 @@ fn files_are_shown_word_for_word() {
             }
         }
     }
-    assert_eq!((shown, parts), (5, 1));
+    (shown, parts)
+}
+
+#[test]
+fn files_are_shown_word_for_word() {
+    let later = ["2-", "5-", "6-", "7-", "8-"].map(|unit| format!("docs/course/{unit}"));
+    let is_later = |name: &&str| later.iter().any(|unit| name.starts_with(unit));
+    let (later, first): (Vec<&str>, Vec<&str>) = DOCUMENTS.iter().partition(is_later);
+    assert_eq!(shown_word_for_word(&first), (5, 1));
+    assert_eq!(shown_word_for_word(&later), (2, 0));
 }
 
 #[test]
@@ -159,6 +188,58 @@ fn first_sheet_is_spelled() {
 fn picture_is_drawn_so() {
     let drawn = output(&["draw", "--svg", "P9.txt"]);
     assert_eq!(text(&drawn.stdout), document("docs/P9.svg"));
+}
+
+/// Every picture of the guide and the course is what the command that is named last before it draws.
+#[test]
+fn pictures_are_drawn_so() {
+    let mut pictures = 0;
+    for name in DOCUMENTS {
+        let page = document(name);
+        for (at, _) in page.match_indices("![") {
+            let (_, link) = page[at..].split_once("](").expect("a link");
+            let file = link.split(')').next().expect("a file");
+            let (_, command) = page[..at].rsplit_once("`ranthelo draw --svg ").expect(file);
+            let words = command.split('`').next().unwrap_or("");
+            let words = words.replace("examples/", "");
+            let arguments = ["draw", "--svg"].into_iter().chain(words.split(' '));
+            let drawn = output(&arguments.collect::<Vec<_>>());
+            let picture = Path::new(name).with_file_name(file);
+            let picture = document(picture.to_str().expect("a name"));
+            assert_eq!(text(&drawn.stdout), picture, "{name}: {file}");
+            pictures += 1;
+        }
+    }
+    assert!(pictures >= 8, "{pictures} pictures");
+}
+
+/// The index names the units in their order, by their titles; each has as many answers as questions.
+#[test]
+fn course_has_questions_and_answers() {
+    let index = document(COURSE);
+    let units = DOCUMENTS
+        .iter()
+        .filter(|name| name.starts_with("docs/course/"));
+    let rows = index.lines().filter(|line| line.starts_with("| ["));
+    assert_eq!(rows.clone().count(), units.clone().count());
+    for (row, name) in rows.zip(units) {
+        let page = document(name);
+        let title = page.lines().next().and_then(|line| line.strip_prefix("# "));
+        let file = name.strip_prefix("docs/course/").expect("a unit");
+        let link = format!("| [{}]({file}) |", title.expect("a title"));
+        assert!(row.starts_with(&link), "{name}: {link}");
+        let (_, rest) = page.split_once("\n## Questions\n").expect("questions");
+        let (questions, answers) = rest.split_once("\n## Answers\n").expect("answers");
+        let items = |part: &str| part.lines().filter(|line| is_item(line)).count();
+        assert_eq!(items(questions), items(answers), "{name}");
+        assert!(items(questions) >= 2, "{name}");
+    }
+}
+
+/// `1. ..`, at the beginning of a line.
+fn is_item(line: &str) -> bool {
+    let number = line.split_once(". ").map(|(number, _)| number);
+    number.is_some_and(|number| number.parse::<usize>().is_ok())
 }
 
 /// `number at place` after the example of a row.
@@ -365,40 +446,61 @@ fn link_target(page: &str, link: &str) -> Option<PathBuf> {
     (!file.contains("://")).then(|| folder.join(file))
 }
 
+/// A path in back quotes: from the root, from crates/, or, as `specs/laws/`, from the folder of some crate.
+fn is_there(path: &str) -> bool {
+    let crates = fs::read_dir(root().join("crates")).expect("the crates");
+    let inside = crates.map(|entry| entry.unwrap().path());
+    let mut folders = [root(), root().join("crates")].into_iter().chain(inside);
+    folders.any(|folder| folder.join(path).exists())
+}
+
 /// Every folder and file in back quotes, and every linked one, but for those that the build makes.
 #[test]
 fn paths_exist() {
     let mut count = 0;
-    for name in DOCUMENTS
-        .iter()
-        .chain(&["docs/SPECIFICATIONS.md", "CHANGELOG.md"])
-    {
-        let page = document(name);
+    for name in pages() {
+        let page = document(&name);
         let plain = |path: &&str| {
             path.contains('/')
-                && !path.contains([' ', '\n', '*', '$'])
+                && !path.contains([' ', '\n', '*', '$', '<'])
                 && !path.starts_with("target/")
                 && !path.contains("/out/")
         };
-        let quoted = page.split('`').skip(1).step_by(2).filter(plain);
+        let quoted = outside_blocks(&page);
+        for path in quoted.split('`').skip(1).step_by(2).filter(plain) {
+            let file = path.split(':').next().unwrap_or(path);
+            assert!(is_there(file), "{name}: {path}");
+            count += 1;
+        }
         let linked = page
             .split("](")
             .skip(1)
-            .filter_map(|rest| link_target(name, rest.split(')').next()?));
-        for path in quoted.map(PathBuf::from).chain(linked) {
+            .filter_map(|rest| link_target(&name, rest.split(')').next()?));
+        for path in linked {
             assert!(root().join(&path).exists(), "{name}: {}", path.display());
             count += 1;
         }
     }
-    assert!(count > 60, "{count} paths");
+    assert!(count > 1000, "{count} paths");
+}
+
+/// A page without its code blocks.
+fn outside_blocks(page: &str) -> String {
+    let mut inside = false;
+    let plain = page.lines().filter(|line| {
+        let fence = line.trim_start().starts_with("```");
+        inside ^= fence;
+        !inside && !fence
+    });
+    plain.collect::<Vec<_>>().join("\n")
 }
 
 /// Every link within a page leads to a heading.
 #[test]
 fn anchors_exist() {
     let mut count = 0;
-    for name in DOCUMENTS {
-        let page = document(name);
+    for name in pages() {
+        let page = document(&name);
         let headings: Vec<String> = page
             .lines()
             .filter(|line| line.starts_with('#'))
@@ -425,14 +527,46 @@ fn anchor(heading: &str) -> String {
     kept.map(|c| if c == ' ' { '-' } else { c }).collect()
 }
 
-/// What is read first is at most 120 columns wide.
+/// Pages are at most 120 columns wide, but for rows of tables, which can't be broken.
 #[test]
 fn lines_are_short() {
-    for name in ["README.md", "docs/GUIDE.md", "docs/FORMAT.md"] {
-        for line in document(name).lines() {
+    for name in pages() {
+        let page = document(&name);
+        for line in page.lines().filter(|line| !line.starts_with('|')) {
             assert!(line.chars().count() <= 120, "{name}: {line}");
         }
     }
+}
+
+/// The lines of the definitions that a part of docs/SPECIFICATIONS.md names: without comments, imports and blank lines.
+fn believed_lines(part: &str) -> usize {
+    let quoted = part.split('`').skip(1).step_by(2);
+    let is_definition = |path: &&str| path.ends_with(".antt") && !path.contains("/laws/");
+    let mut files: Vec<&str> = quoted.filter(is_definition).collect();
+    files.sort();
+    files.dedup();
+    let is_line = |line: &&str| {
+        !line.trim().is_empty() && !line.trim().starts_with("--") && !line.starts_with("use ")
+    };
+    let lines = |file: &&str| document(file).lines().filter(is_line).count();
+    files.iter().map(lines).sum()
+}
+
+/// The page says how many lines there are to read, to a twentieth.
+#[test]
+fn specifications_are_as_long_as_said() {
+    let page = document("docs/SPECIFICATIONS.md");
+    let mut parts = 0;
+    for part in page.split("\n### ").filter(|part| part.starts_with('0')) {
+        let (heading, text) = part.split_once('\n').expect("a heading");
+        let (_, number) = heading.split_once("about ").expect("a number");
+        let number = number.split(' ').next().unwrap_or("").replace(',', "");
+        let said: usize = number.parse().expect("a number of lines");
+        let lines = believed_lines(text);
+        assert!(lines.abs_diff(said) * 20 <= said, "{heading}: {lines}");
+        parts += 1;
+    }
+    assert_eq!(parts, 2);
 }
 
 /// The Rust program runs in a package of its own that depends on this one.
