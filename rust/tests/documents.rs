@@ -163,8 +163,8 @@ fn shown_word_for_word(names: &[&str]) -> (usize, usize) {
 #[test]
 fn files_are_shown_word_for_word() {
     let later = ["2-", "5-", "6-", "7-", "8-"].map(|unit| format!("docs/course/{unit}"));
-    let is_later = |name: &&str| later.iter().any(|unit| name.starts_with(unit));
-    let (later, first): (Vec<&str>, Vec<&str>) = DOCUMENTS.iter().partition(is_later);
+    let is_later = |name: &str| later.iter().any(|unit| name.starts_with(unit));
+    let (later, first): (Vec<&str>, Vec<&str>) = DOCUMENTS.iter().partition(|name| is_later(name));
     assert_eq!(shown_word_for_word(&first), (5, 1));
     assert_eq!(shown_word_for_word(&later), (2, 0));
 }
@@ -527,13 +527,19 @@ fn anchor(heading: &str) -> String {
     kept.map(|c| if c == ' ' { '-' } else { c }).collect()
 }
 
-/// Pages are at most 120 columns wide, but for rows of tables, which can't be broken.
+/// What is read first is at most 120 columns wide; so are the other pages, but for rows of tables, which can't be
+/// broken.
 #[test]
 fn lines_are_short() {
+    let first = ["README.md", "docs/GUIDE.md", "docs/FORMAT.md"];
     for name in pages() {
-        let page = document(&name);
-        for line in page.lines().filter(|line| !line.starts_with('|')) {
-            assert!(line.chars().count() <= 120, "{name}: {line}");
+        let rows_too = first.contains(&name.as_str());
+        for line in document(&name).lines() {
+            let short = line.chars().count() <= 120;
+            assert!(
+                short || !rows_too && line.starts_with('|'),
+                "{name}: {line}"
+            );
         }
     }
 }
