@@ -3,7 +3,8 @@
 use crate::generator::{self, Random, LARGE, SMALL};
 use crate::reference::{read, Refusal, Sheet, END, FAULT, PRESS, QUIET, RULE, SIZE, START, TEST};
 
-/// Sizes; whether the sheet is quiet; rules and faults four bytes a row; the states of the STARTs; the lengths of the tests and their presses end to end.
+/// Sizes; whether the sheet is quiet; rules and faults four bytes a row; the states of the STARTs; the lengths of the
+/// tests and their presses end to end.
 #[derive(Clone, Debug, Default, PartialEq, Eq)]
 pub struct Tables {
     pub size: [u8; 3],

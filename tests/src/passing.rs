@@ -30,7 +30,8 @@ impl<'a> Passing<'a> {
         Ok(found.then_some(begun))
     }
 
-    /// Extends the choices to those of the first such mutant. `along` is the last mutant as long as the choices are its own.
+    /// Extends the choices to those of the first such mutant. `along` is the last mutant as long as the choices are its
+    /// own.
     fn extend(&mut self, begun: &mut Vec<u8>, along: Option<&[u8]>) -> Result<bool, GaveUp> {
         self.steps = self.steps.checked_sub(1).ok_or(GaveUp)?;
         if self.machine.fails(begun) {

@@ -1,4 +1,5 @@
-//! A lock's record, once more from 02 alone: its commands, where it first differs, and by enumeration which board gives it.
+//! A lock's record, once more from 02 alone: its commands, where it first differs, and by enumeration which board gives
+//! it.
 
 use crate::enumeration::Machine;
 use crate::reference::{read, Refusal, Sheet};

@@ -70,8 +70,10 @@ fn every_crate_has_its_row() {
 fn table_is_counted() {
     let log = PathBuf::from(env!("CARGO_TARGET_TMPDIR")).join("gate.log");
     let lines = "library sheet: modules loaded=1 checked=1\nrt: sheet proved (3 s)\nrt: ending proved (9 s)\n\
-                 rt: must-fail ending/byte_past_end: refused, as it must be (first at proofs/finish/Proof.antt:18:50; 8 s)\n\
-                 rt: must-fail ending/other_place: refused, as it must be (first at proofs/finish/Proof.antt:28:5; 7 s)\n";
+                 rt: must-fail ending/byte_past_end: refused, as it must be \
+                 (first at proofs/finish/Proof.antt:18:50; 8 s)\n\
+                 rt: must-fail ending/other_place: refused, as it must be \
+                 (first at proofs/finish/Proof.antt:28:5; 7 s)\n";
     fs::write(&log, lines).unwrap();
     let table = printed(&["table", log.to_str().unwrap()]);
     assert_eq!(rows(&table), crates());

@@ -65,6 +65,16 @@ fn sheet(random: &mut Random) -> Sheet {
     generator::sheet(random, &SMALL)
 }
 
+/// A sheet with a RULE: without one there is no machine to write down elsewhere.
+fn with_rules(random: &mut Random) -> Sheet {
+    loop {
+        let sheet = sheet(random);
+        if !sheet.rules.is_empty() {
+            return sheet;
+        }
+    }
+}
+
 #[test]
 fn named_texts() {
     let mut random = Random::new(0x5EED_0042);
@@ -198,12 +208,8 @@ fn state(names: &Names, state: u8) -> String {
 fn drawn_machines() {
     let mut random = Random::new(0x5EED_0045);
     for _ in 0..MACHINES {
-        let sheet = sheet(&mut random);
+        let sheet = with_rules(&mut random);
         let (bytes, names) = (sheet.encode(), names(&mut random, &sheet));
-        let clash = (0..sheet.states).any(|s| names.states.contains(&format!("s{s}")));
-        if sheet.rules.is_empty() || clash {
-            continue;
-        }
         let drawn = draw::mealy(&draw::machine(&Machine::of(&bytes).unwrap(), &names, false));
         let (back, called) = imported(&drawn);
         assert_eq!(
@@ -220,10 +226,7 @@ fn drawn_machines() {
 fn machines_in_dot() {
     let mut random = Random::new(0x5EED_0046);
     for _ in 0..MACHINES {
-        let sheet = sheet(&mut random);
-        if sheet.rules.is_empty() {
-            continue;
-        }
+        let sheet = with_rules(&mut random);
         let edge = |pair: (u8, u8), to: (u8, u8), style: &str| {
             format!(
                 "q{} -> q{} [label=\"in{} / out{}\"{style}];",
@@ -291,10 +294,7 @@ fn machines_in_dot() {
 fn machines_in_kiss() {
     let mut random = Random::new(0x5EED_0047);
     for _ in 0..MACHINES {
-        let sheet = sheet(&mut random);
-        if sheet.rules.is_empty() {
-            continue;
-        }
+        let sheet = with_rules(&mut random);
         let width = (1..)
             .find(|width| 1 << width >= sheet.presses)
             .expect("a width");

@@ -1,5 +1,5 @@
-//! docs/PROOF-MAP.md and docs/ARCHITECTURE.md name only what is there: each file in back quotes exists, and each `file:name` is
-//! defined in it.
+//! docs/PROOF-MAP.md and docs/ARCHITECTURE.md name only what is there: each file in back quotes exists, and each
+//! `file:name` is defined in it.
 
 use std::fs;
 use std::path::{Path, PathBuf};

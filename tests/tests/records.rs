@@ -134,8 +134,8 @@ fn random_records() {
     assert!(given > 1_000 && not_given > 1_000 && differing > 1_000 && broken > 300);
 }
 
-/// A board passes the list exactly if it gives the suite's record: so the first board that does so and the survivor, if that
-/// is the first, are one.
+/// A board passes the list exactly if it gives the suite's record: so the first board that does so and the survivor, if
+/// that is the first, are one.
 #[test]
 fn the_suites_record() {
     let mut random = Random::new(0x5EED_0092);
@@ -167,7 +167,8 @@ fn the_suites_record() {
     }
 }
 
-/// Records of many more boards than can be tried, of a board of the sheet: given, and by a board not after it that gives it.
+/// Records of many more boards than can be tried, of a board of the sheet: given, and by a board not after it that
+/// gives it.
 #[test]
 fn large_sheets() {
     let mut random = Random::new(0x5EED_0093);
@@ -216,8 +217,8 @@ fn a_million_commands() {
     assert_eq!(spell(&[Command::Pulse]), [0x10]);
 }
 
-/// The sheets kept for measuring, which are hard to judge: the record of each list, and with a run more that the specification
-/// gives and one that no board gives with it.
+/// The sheets kept for measuring, which are hard to judge: the record of each list, and with a run more that the
+/// specification gives and one that no board gives with it.
 #[test]
 fn hard_sheets() {
     let folder = concat!(env!("CARGO_MANIFEST_DIR"), "/../bench/machines");
@@ -233,14 +234,26 @@ fn hard_sheets() {
         let mut tests = [&sheet.tests[..], &[walk.clone()]].concat();
         let log = record_of(&machine, &first, &tests);
         let told = checked_record(&bytes, &log).unwrap();
-        assert_eq!(told, Recorded { differs: None, given: true });
+        assert_eq!(
+            told,
+            Recorded {
+                differs: None,
+                given: true
+            }
+        );
         // the same run twice, the second time with another sound at its end
         tests.push(walk);
         let mut log = record_of(&machine, &first, &tests);
         let last = log.len() - 1;
         log[last] = (log[last] + 1) % sheet.sounds;
         let told = checked_record(&bytes, &log).unwrap();
-        assert_eq!(told, Recorded { differs: Some(last - 2), given: false });
+        assert_eq!(
+            told,
+            Recorded {
+                differs: Some(last - 2),
+                given: false
+            }
+        );
         tried += 1;
     }
     assert!(tried > 10);

@@ -189,8 +189,8 @@ fn made_lists_stay_complete() {
     }
 }
 
-/// Sixteen states in a row, named downwards; as many FAULTs as there may be, at one pair and over all of them; sixteen presses and
-/// sounds.
+/// Sixteen states in a row, named downwards; as many FAULTs as there may be, at one pair and over all of them; sixteen
+/// presses and sounds.
 #[test]
 fn limits() {
     let mut random = Random::new(0x5EED_1205);

@@ -1,4 +1,5 @@
-//! The bench station through the library, against the one written from 02, with every board of small sheets as the lock.
+//! The bench station through the library, against the one written from 02, with every board of small sheets as the
+//! lock.
 
 use ranthelo_tests::enumeration::{self, Failure, Machine, Mutant};
 use ranthelo_tests::generator::{self, Random, Shape, SMALL};
@@ -296,7 +297,8 @@ fn events(sheet: &Sheet) -> Vec<Option<u8>> {
     sheet.tests.iter().flat_map(test).collect()
 }
 
-/// On random pulses and presses the lock gives every specified sound: after an undefined press none is, until the next pulse.
+/// On random pulses and presses the lock gives every specified sound: after an undefined press none is, until the next
+/// pulse.
 fn gives_all(random: &mut Random, sheet: &Sheet, board: &Mutant) {
     let mut lock = Lock::new(board);
     lock.pulse();
@@ -383,8 +385,8 @@ fn drive(
     }
 }
 
-/// Every board of small sheets as the lock, no changed sheet: the verdict is the board's first failed test; one that is passed gives
-/// every specified sound.
+/// Every board of small sheets as the lock, no changed sheet: the verdict is the board's first failed test; one that is
+/// passed gives every specified sound.
 #[test]
 fn every_board_as_the_lock() {
     let mut random = Random::new(0x5EED_1301);
@@ -479,8 +481,8 @@ fn changed_sheet(random: &mut Random, station: &Station) -> Option<Vec<u8>> {
     }
 }
 
-/// Random histories with changed sheets, good and bad: what the lock got is the list of the last sheet, which it gives as specified if it is
-/// passed and a board of that sheet.
+/// Random histories with changed sheets, good and bad: what the lock got is the list of the last sheet, which it gives
+/// as specified if it is passed and a board of that sheet.
 #[test]
 fn random_histories() {
     let mut random = Random::new(0x5EED_1302);

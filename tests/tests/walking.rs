@@ -292,8 +292,8 @@ fn judge_shows_the_first_departing_board() {
     }
 }
 
-/// Sheets with too many boards to try them all, against a search of its own: takes from the start, from boards taken and
-/// from any board.
+/// Sheets with too many boards to try them all, against a search of its own: takes from the start, from boards taken
+/// and from any board.
 #[test]
 fn large_sheets() {
     let mut random = Random::new(0x5EED_0804);
