@@ -3,6 +3,7 @@
 // Called by `search`, `sweep` and `making`, which show what its functions require.
 
 #![tactic(auto)]
+
 mod branch;
 
 ghost use Rattle.std.specs.Prelude.{◌≡◌, true, List, ℕ, length};

@@ -1,6 +1,5 @@
 -- The first wanted mutant, choice by choice in dictionary order.
 use Rattle.lists.specs.Proving.{arith, ℕ, zero, suc, ◌+◌, ◌<◌, ◌≤◌, ◌≡◌, refl, sym, ◌∙◌, ap, subst, Bool, true, false, cond, ◌⊎◌, inl, inr, by_cases, Option, some, none, List, [], ◌∷◌, length, get_or, set, take, length-set, length-replicate, get_or-replicate, List·getD-eq-default, get_or-set_same, get_or-set_other, ℕ_discrete, dec_lt, below_more, never}
-use denote.Enum.Declared.{tag_of}
 use Rattle.std.proofs.Common.{length-take-le, get_or-take, ext_get_or}
 use Rattle.lists.specs.Lists.{Before}
 use Rattle.sheet.specs.Sheet.{Sheet}
@@ -22,7 +21,6 @@ use Rattle.refutation.specs.Refuting.{Ready}
 use Rattle.refutation.specs.Lent.{StoreOk}
 use Rattle.search.specs.declared.settle.Found.{Found}
 use Rattle.search.specs.declared.settle.Found.TheVariants.{Nothing, First, GaveUp}
-use Rattle.search.specs.contracts.settle.Found.{the_type}
 use Rattle.search.specs.Search.{FactsOk, Meets, Wanted, Begins, Part, next, NoneOf, FirstOf, Tried, Prefix, mutant_in, FirstIn, Answers, found_if, Searching, Decides, unsettled, every, Given}
 use Rattle.search.specs.Shown.{Showing}
 
@@ -154,9 +152,9 @@ pub tried-none : {goal : Goal} {sh : Sheet} {l : List Observation} {p : List ℕ
 tried-none = record { at = λ b is be g h. absurd (omega arith) }
 
 -- an answer is not one that another arm has
-pub other : (r s : Found) {i j : ℕ} → (tag_of the_type r ≡ i) ⊎ (tag_of the_type r ≡ j) → (tag_of the_type s ≡ i → ⊥) → (tag_of the_type s ≡ j → ⊥) → r ≡ s → ⊥
-other r s (inl e) n m h = n (sym (ap (tag_of the_type) h) ∙ e)
-other r s (inr e) n m h = m (sym (ap (tag_of the_type) h) ∙ e)
+pub other : (r s : Found) {x y : Found} → (r ≡ x) ⊎ (r ≡ y) → (s ≡ x → ⊥) → (s ≡ y → ⊥) → r ≡ s → ⊥
+other r s (inl e) n m h = n (sym h ∙ e)
+other r s (inr e) n m h = m (sym h ∙ e)
 
 pub nothing : {goal : Goal} {sh : Sheet} {l : List Observation} {part : Part} (r : Found) (q : List ℕ) → (r ≡ First → ⊥) → (r ≡ GaveUp → ⊥) → Answers goal sh l part r q → NoneOf goal sh l part
 nothing Nothing q n m a = a

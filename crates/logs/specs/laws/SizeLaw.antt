@@ -8,7 +8,7 @@ use Rattle.sheet.specs.WellFormed.{WellFormed}
 use Rattle.sheet.specs.laws.PartLaw.{presses-length}
 use Rattle.model.specs.Machine.{Move}
 use Rattle.model.specs.Mutant.{rule}
-use Rattle.model.specs.Log.{Observation, reset, seen, test_log, tests_log, suite_log}
+use Rattle.model.specs.Log.{seen, test_log, tests_log, suite_log}
 use Rattle.model.proofs.laws.StaysLaw.{rule-in}
 use Rattle.block.specs.Logged.{log_bytes, LowSeen}
 use Rattle.block.specs.laws.LoggedLaw.{bytes-append}

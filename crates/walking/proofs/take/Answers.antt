@@ -14,10 +14,10 @@ returns-in_default c = let a = c.args in
 
 pub take_read-requires : goal.take_read-requires
 take_read-requires c = 
-    let x = opened c.args.sheet.now c.load-reading.ensures.value c.in-Accepted.is c.load-reading.ensures.block_len.1 in
+    let x = opened c.args.sheet.now c.load-reading.ensures.value c.in-Accepted.is c.load-reading.ensures.loads in
     (x.sheet, x.holds)
 
 pub returns : goal.returns
 returns c = let a = c.args in
-    let x = opened a.sheet.now c.load-reading.ensures.value c.in-Accepted.is c.load-reading.ensures.block_len.1 in
+    let x = opened a.sheet.now c.load-reading.ensures.value c.in-Accepted.is c.load-reading.ensures.loads in
     let y = take-accepted a.sheet.now _ a.board.now a.sequence.now x.sheet x.is _ _ _ (c.take_read.ensures x.sheet x.holds) in record { answer = y.0.answer; board = y.0.board; sequence = y.0.sequence; told = y.1 }

@@ -1,5 +1,5 @@
 -- a pair of a state and an input
-use Rattle.lists.specs.Proving.{rules, arith, ◌<◌, refl}
+use Rattle.lists.specs.Proving.{arith, ◌<◌, refl}
 use Rattle.block.specs.laws.ChoiceLaw.{is-waking, is-rule, is-fault, is_none}
 use Rattle.block.proofs.layout.transition.Goals as goal
 

@@ -2,5 +2,5 @@ use Rattle.lists.specs.Proving.{rules}
 use Rattle.refutation.proofs.branch.finish.Goals as goal
 
 pub returns : goal.returns
-returns c = 
+returns c =
     (rw c.wide.ensures.0, c.learn.ensures)

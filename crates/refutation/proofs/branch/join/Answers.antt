@@ -16,5 +16,5 @@ pub returns-then-not-means : goal.returns-then-not-means
 returns-then-not-means c = λ e. void e
 
 pub returns : goal.returns
-returns c = 
+returns c =
     λ e. joined c.site.result _ c.requires.0.wf c.requires.1 c.requires.2 c.site.ensures (rw c.wide.ensures.0) c.if-l.false (omega arith) (c.means.ensures c.if-not-means.false) c.note.ensures c.meet_in.ensures c.reflect.ensures

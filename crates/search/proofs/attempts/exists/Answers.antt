@@ -11,4 +11,4 @@ pub returns-in-First : goal.returns-in-First
 returns-in-First c = λ sh tb. given-some (rw c.in-First.is at (c.find-attempt.ensures.answers sh (record { tabled = tb; is = tt })))
 
 pub returns-in-Nothing : goal.returns-in-Nothing
-returns-in-Nothing c = λ sh tb. given-none (nothing c.find-attempt.result.found _ (other c.find-attempt.result.found First c.in-Nothing.keys2 (λ z. omega arith) (λ z. omega arith)) c.find-attempt.ensures.found_nonzero (c.find-attempt.ensures.answers sh (record { tabled = tb; is = tt })))
+returns-in-Nothing c = λ sh tb. given-none (nothing c.find-attempt.result.found _ (other c.find-attempt.result.found First c.in-Nothing.is (λ z. cc) (λ z. cc)) c.find-attempt.ensures.found_nonzero (c.find-attempt.ensures.answers sh (record { tabled = tb; is = tt })))

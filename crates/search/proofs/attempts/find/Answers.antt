@@ -7,4 +7,4 @@ pub begin-quick-requires : goal.begin-quick-requires
 begin-quick-requires c = record { leaving = c.requires; facts_ok = (record { at = λ i h. absurd (omega arith) }, c.no_store-store.ensures _ _ _) }
 
 pub returns-in-Nothing : goal.returns-in-Nothing
-returns-in-Nothing c = record { answers = c.begin-quick.ensures.answers; found_nonzero = other c.begin-quick.result.found GaveUp c.in-Nothing.keys2 (λ z. omega arith) (λ z. omega arith) }
+returns-in-Nothing c = record { answers = c.begin-quick.ensures.answers; found_nonzero = other c.begin-quick.result.found GaveUp c.in-Nothing.is (λ z. cc) (λ z. cc) }

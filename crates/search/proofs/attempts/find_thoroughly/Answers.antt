@@ -17,4 +17,4 @@ pub begin-found-requires : goal.begin-found-requires
 begin-found-requires c = record { leaving = c.requires; facts_ok = (lent _ c.how_many-n.ensures c.prepare-ready.ensures.1, c.fresh_store-store.ensures _ _ _) }
 
 pub returns : goal.returns
-returns c = record { answers = c.begin-found.ensures.answers; found_nonzero = λ e. omega (arith, c.begin-found.ensures.store_len e, c.begin-found.kept.1.1.1.1.0, c.store-2-1.given) }
+returns c = record { answers = c.begin-found.ensures.answers; found_nonzero = λ e. omega (arith, c.begin-found.ensures.store_len e) }

@@ -14,4 +14,4 @@ returns-in-First c =
     λ sh s. let a = rw c.in-First.is at (c.find-attempt.ensures.answers sh s) in record { mutant = _; first = a.first; written = c.show.ensures sh (showing s.tabled a) }
 
 pub returns-in-Nothing : goal.returns-in-Nothing
-returns-in-Nothing c = λ sh s. (nothing c.find-attempt.result.found _ (other c.find-attempt.result.found First c.in-Nothing.keys2 (λ z. omega arith) (λ z. omega arith)) c.find-attempt.ensures.found_nonzero (c.find-attempt.ensures.answers sh s), record { board = refl; sequence = refl })
+returns-in-Nothing c = λ sh s. (nothing c.find-attempt.result.found _ (other c.find-attempt.result.found First c.in-Nothing.is (λ z. cc) (λ z. cc)) c.find-attempt.ensures.found_nonzero (c.find-attempt.ensures.answers sh s), record { board = refl; sequence = refl })

@@ -8,7 +8,7 @@ use Rattle.tray.proofs.TryLaw.{TriedTo, tried-none, tried-end, tried-room, tried
 use Rattle.tray.proofs.boards.try_boards.Given as goal
 
 abbrev pub invariant-loop-i : goal.invariant-loop-i
-invariant-loop-i l =     (l.i ≤ l.boards) × ((sh : Sheet) → ForSheet sh l.block l.log → TrayOf sh l.boards l.tray (length l.initial.results) → TriedTo sh l.tray l.initial.results l.results l.at l.i)
+invariant-loop-i l = (l.i ≤ l.boards) × ((sh : Sheet) → ForSheet sh l.block l.log → TrayOf sh l.boards l.tray (length l.initial.results) → TriedTo sh l.tray l.initial.results l.results l.at l.i)
 
 abbrev pub decreases-loop-i : goal.decreases-loop-i
 decreases-loop-i l = l.boards - l.i
