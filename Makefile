@@ -19,7 +19,7 @@ SHARED = libranthelo.so.`sed -n 's/^Version: //p' include/ranthelo.pc`
 all: $(ARCHIVE)
 
 crates/ranthelo/out/libranthelo.a:
-	cd crates/ranthelo && rt lib
+	cd crates/ranthelo && rt lib --cpu x86-64
 
 install: $(ARCHIVE)
 	@case "$(INCLUDEDIR):$(LIBDIR)" in /*:/*) ;; *) echo "PREFIX is not absolute" >&2; exit 1 ;; esac

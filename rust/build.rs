@@ -25,8 +25,8 @@ fn main() {
     }
     if !archive.exists() {
         eprintln!(
-            "{} is not there.\nRun `rt lib` in crates/{LIBRARY} of the repository, which takes minutes the first time, or let \
-             RANTHELO_LIB name the folder that has lib{LIBRARY}.a.",
+            "{} is not there.\nRun `rt lib --cpu x86-64` in crates/{LIBRARY} of the repository, which takes minutes the first time, or \
+             let RANTHELO_LIB name the folder that has lib{LIBRARY}.a.",
             archive.display()
         );
         exit(1);
@@ -40,7 +40,7 @@ fn main() {
 /// Proves and builds the library with the toolchain; says what it said if it fails.
 fn build(member: &Path) {
     let mut command = Command::new("rt");
-    command.arg("lib").current_dir(member);
+    command.args(["lib", "--cpu", "x86-64"]).current_dir(member);
     match command.output() {
         Ok(output) if output.status.success() => {}
         Ok(output) => eprintln!("{}", String::from_utf8_lossy(&output.stderr)),

@@ -285,7 +285,7 @@ fn archive_is_built_if_it_is_missing() {
     };
     assert_eq!(output.status.code(), Some(2));
     assert!(text(&output.stderr).contains("nowhere/libranthelo.a"));
-    for printed in ["rt lib\n", ""] {
+    for printed in ["rt lib --cpu x86-64\n", ""] {
         let output = make(&repository, &toolchain, &install).unwrap();
         assert!(output.status.success(), "{}", text(&output.stderr));
         assert_eq!(text(&output.stdout), printed);
