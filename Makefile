@@ -3,9 +3,9 @@
 #   make install PREFIX=/usr/local
 #   make uninstall PREFIX=/usr/local
 #
-# DESTDIR goes before every path that is written; the folders of the header and the libraries are INCLUDEDIR and LIBDIR. All but DESTDIR
-# are absolute. The archive is taken as it stands in crates/ranthelo/out, or in the folder that RANTHELO_LIB names. Only if
-# crates/ranthelo/out has none, it is proved and built, which takes minutes and needs rt.
+# DESTDIR goes before every path that is written; the folders of the header and the libraries are INCLUDEDIR and LIBDIR.
+# All but DESTDIR are absolute. The archive is taken as it stands in crates/ranthelo/out, or in the folder that
+# RANTHELO_LIB names. Only if crates/ranthelo/out has none, it is proved and built, which takes minutes and needs rt.
 
 PREFIX = /usr/local
 INCLUDEDIR = $(PREFIX)/include
@@ -13,7 +13,8 @@ LIBDIR = $(PREFIX)/lib
 RANTHELO_LIB ?= crates/ranthelo/out
 
 ARCHIVE = $(RANTHELO_LIB)/libranthelo.a
-# The shared library's name and SONAME. It has the whole version: before 1.0 each version may change what functions take.
+# The shared library's name and SONAME. It has the whole version: before 1.0 each version may change what functions
+# take.
 SHARED = libranthelo.so.`sed -n 's/^Version: //p' include/ranthelo.pc`
 
 all: $(ARCHIVE)

@@ -25,8 +25,8 @@ fn main() {
     }
     if !archive.exists() {
         eprintln!(
-            "{} is not there.\nRun `rt lib --cpu x86-64` in crates/{LIBRARY} of the repository, which takes minutes the first time, or \
-             let RANTHELO_LIB name the folder that has lib{LIBRARY}.a.",
+            "{} is not there.\nRun `rt lib --cpu x86-64` in crates/{LIBRARY} of the repository, which takes minutes the \
+             first time, or let RANTHELO_LIB name the folder that has lib{LIBRARY}.a.",
             archive.display()
         );
         exit(1);
