@@ -1,4 +1,5 @@
-//! Make, from sheets without tests: beside judging the made list once, and beside one judgement after the other in plain Rust.
+//! Make, from sheets without tests: beside judging the made list once, and beside one judgement after the other in
+//! plain Rust.
 
 use crate::say::say;
 use ranthelo::raw;

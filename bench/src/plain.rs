@@ -552,8 +552,8 @@ pub fn generate(seed: u32, size: [u8; 3], buffer: &mut [u8]) -> Result<usize, Re
 /// A mutant that passes the suite, and its shortest distinguishing sequence if it is nonconforming.
 pub type Passing = (Vec<u8>, Option<Vec<u8>>);
 
-/// Take, from the start or after a board: a board that fails is passed over with all that share the choices which its failed
-/// test used. None after so many boards that fail.
+/// Take, from the start or after a board: a board that fails is passed over with all that share the choices which its
+/// failed test used. None after so many boards that fail.
 pub fn take(sheet: &[u8], last: Option<&[u8]>, most: usize) -> Option<Option<Passing>> {
     let tables = load(sheet).ok()?;
     let counts = tables.counts();

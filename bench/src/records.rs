@@ -1,5 +1,5 @@
-//! A lock's own record: the record of a complete list, and the same with one run more that ends in a wrong sound, which no board
-//! gives; beside judging the list. And records of a million commands.
+//! A lock's own record: the record of a complete list, and the same with one run more that ends in a wrong sound, which
+//! no board gives; beside judging the list. And records of a million commands.
 
 use crate::say::say;
 use ranthelo::raw;

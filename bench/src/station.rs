@@ -27,7 +27,8 @@ pub fn measure(table: &mut Table) {
     }
 }
 
-/// A lock that gives every specified sound, until pass: how many steps that took. Begin is Judge, which is measured by itself.
+/// A lock that gives every specified sound, until pass: how many steps that took. Begin is Judge, which is measured by
+/// itself.
 fn with_library(sheet: &[u8]) -> usize {
     let tables = plain::load(sheet).expect("an accepted sheet");
     let (mut state, mut answer) = ([0; 4], [0; 5]);

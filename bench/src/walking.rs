@@ -1,4 +1,5 @@
-//! Take and tests added: takes from places spread over a sheet's boards, beside plain Rust and one judgement; walks of many boards.
+//! Take and tests added: takes from places spread over a sheet's boards, beside plain Rust and one judgement; walks of
+//! many boards.
 
 use crate::say::say;
 use crate::table::Table;

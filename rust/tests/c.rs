@@ -1,4 +1,5 @@
-//! The header, the pkg-config file and the C program: installed and built in each way that README.md and the guide name, and run.
+//! The header, the pkg-config file and the C program: installed and built in each way that README.md and the guide
+//! name, and run.
 
 mod common;
 
@@ -186,7 +187,8 @@ fn names_installed() -> Vec<String> {
     names.map(str::to_string).to_vec()
 }
 
-/// Installed, and the C program built with what stands there alone: with the archive, with the shared library, by pkg-config.
+/// Installed, and the C program built with what stands there alone: with the archive, with the shared library, by
+/// pkg-config.
 #[test]
 fn installed() {
     let prefix = empty("installed");
