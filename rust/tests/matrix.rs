@@ -37,7 +37,10 @@ fn case(block: &'static str) -> Case<'static> {
                     (mark.trim_end_matches(':'), rest.split(' ').collect());
             }
             "<" => *case.input.get_or_insert_default() += &format!("{rest}\n"),
-            ">" => case.stdout += &format!("{rest}\n"),
+            ">" => {
+                let line = rest.replace("VERSION", env!("CARGO_PKG_VERSION"));
+                case.stdout += &format!("{line}\n");
+            }
             ">..." => case.more = true,
             "!" => case.stderr += &format!("{rest}\n"),
             "status" => (case.status, ended) = (rest.parse().expect("a status"), true),
