@@ -4,13 +4,13 @@
 #   make uninstall PREFIX=/usr/local
 #
 # DESTDIR goes before every path that is written; the folders of the header and the libraries are INCLUDEDIR and LIBDIR. All but DESTDIR
-# are absolute. The archive is taken as it stands in target/staticlib, or in the folder that RANTHELO_LIB names. Only if target/staticlib
-# has none, it is proved and built, which takes minutes and needs rt.
+# are absolute. The archive is taken as it stands in crates/ranthelo/out, or in the folder that RANTHELO_LIB names. Only if
+# crates/ranthelo/out has none, it is proved and built, which takes minutes and needs rt.
 
 PREFIX = /usr/local
 INCLUDEDIR = $(PREFIX)/include
 LIBDIR = $(PREFIX)/lib
-RANTHELO_LIB ?= target/staticlib
+RANTHELO_LIB ?= crates/ranthelo/out
 
 ARCHIVE = $(RANTHELO_LIB)/libranthelo.a
 # The shared library's name and SONAME. It has the whole version: before 1.0 each version may change what functions take.
@@ -18,8 +18,8 @@ SHARED = libranthelo.so.`sed -n 's/^Version: //p' include/ranthelo.pc`
 
 all: $(ARCHIVE)
 
-target/staticlib/libranthelo.a:
-	rt staticlib ranthelo
+crates/ranthelo/out/libranthelo.a:
+	cd crates/ranthelo && rt lib --cpu x86-64
 
 install: $(ARCHIVE)
 	@case "$(INCLUDEDIR):$(LIBDIR)" in /*:/*) ;; *) echo "PREFIX is not absolute" >&2; exit 1 ;; esac

@@ -1,8 +1,8 @@
 /* Ranthelo for C: judges whether a test suite for a finite state machine is complete.
  *
- * Link with target/staticlib/libranthelo.a (made by `rt staticlib ranthelo`), or with the archive or the shared library that `make install`
- * has put in its place. They are for x86-64 Linux (any such processor; position-independent code) and need memcpy and memset, which
- * every C library has, and nothing else: no heap is used.
+ * Link with crates/ranthelo/out/libranthelo.a (made by `rt lib --cpu x86-64` in crates/ranthelo), or with the archive or the shared
+ * library that `make install` has put in its place. They are for x86-64 Linux (any such processor; position-independent code) and need
+ * memcpy and memset, which every C library has, and nothing else: no heap is used.
  *
  * A sheet, a board, presses, tables and buffers are lent for the call only. Each pointer is valid for its length and not null, even at
  * length 0; a buffer that is written, `answer`, `state` and `nodes` overlap nothing else that is lent. Each function fills `answer`, whose

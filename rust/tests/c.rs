@@ -115,7 +115,7 @@ fn with_pkg_config() {
         return;
     };
     // It names the archive of the repository, which the tests may not use.
-    let own = fs::canonicalize(root().join("target/staticlib"));
+    let own = fs::canonicalize(root().join("crates/ranthelo/out"));
     if own.is_ok_and(|own| fs::canonicalize(FOLDER).is_ok_and(|used| used == own)) {
         let flags: Vec<&str> = flags.iter().map(String::as_str).collect();
         judges(&built("judge-by-pkg-config", &flags));
@@ -243,7 +243,7 @@ fn staged() {
     assert!(package.starts_with(
         "prefix=/opt/locks\nincludedir=/opt/locks/include\nlibdir=/opt/locks/lib\nName: ranthelo\n"
     ));
-    assert!(!package.contains("stage") && !package.contains("target"));
+    assert!(!["stage", "target", "crates"].iter().any(|part| package.contains(part)));
 
     let output = install("uninstall", "PREFIX=/opt/locks").unwrap();
     assert!(output.status.success(), "{}", text(&output.stderr));
@@ -260,14 +260,16 @@ fn staged() {
 #[test]
 fn archive_is_built_if_it_is_missing() {
     let repository = empty("fresh-repository");
-    fs::create_dir(repository.join("include")).unwrap();
+    for part in ["include", "crates/ranthelo"] {
+        fs::create_dir_all(repository.join(part)).unwrap();
+    }
     for name in ["Makefile", "include/ranthelo.h", "include/ranthelo.pc"] {
         fs::copy(root().join(name), repository.join(name)).unwrap();
     }
     let toolchain = toolchain(
         "fresh-toolchain",
         &format!(
-            "echo rt \"$@\" && mkdir -p target/staticlib && cp '{}' target/staticlib",
+            "echo rt \"$@\" && mkdir -p out && cp '{}' out",
             archive().display()
         ),
     );
@@ -279,7 +281,7 @@ fn archive_is_built_if_it_is_missing() {
     };
     assert_eq!(output.status.code(), Some(2));
     assert!(text(&output.stderr).contains("nowhere/libranthelo.a"));
-    for printed in ["rt staticlib ranthelo\n", ""] {
+    for printed in ["rt lib --cpu x86-64\n", ""] {
         let output = make(&repository, &toolchain, &install).unwrap();
         assert!(output.status.success(), "{}", text(&output.stderr));
         assert_eq!(text(&output.stdout), printed);

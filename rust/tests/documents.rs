@@ -60,11 +60,11 @@ fn blocks(document: &str) -> Vec<Block> {
 fn folder(name: &str) -> PathBuf {
     let folder = Path::new(env!("CARGO_TARGET_TMPDIR")).join(name);
     let _ = fs::remove_dir_all(&folder);
-    fs::create_dir_all(folder.join("target")).unwrap();
+    fs::create_dir_all(folder.join("crates/ranthelo")).unwrap();
     for part in ["examples", "include"] {
         symlink(root().join(part), folder.join(part)).unwrap();
     }
-    symlink(env!("RANTHELO_FOLDER"), folder.join("target/staticlib")).unwrap();
+    symlink(env!("RANTHELO_FOLDER"), folder.join("crates/ranthelo/out")).unwrap();
     folder
 }
 
@@ -378,6 +378,7 @@ fn paths_exist() {
             path.contains('/')
                 && !path.contains([' ', '\n', '*', '$'])
                 && !path.starts_with("target/")
+                && !path.contains("/out/")
         };
         let quoted = page.split('`').skip(1).step_by(2).filter(plain);
         let linked = page

@@ -25,7 +25,8 @@ fn crates() -> Vec<String> {
     let list = text("crates.txt");
     let lines = list.lines().filter(|line| !line.starts_with('#'));
     let names = lines.filter_map(|line| line.split_once(':'));
-    names.map(|(name, _)| name.to_string()).collect()
+    let name = |(name, _): (&str, _)| name.trim_end_matches(" staticlib").to_string();
+    names.map(name).collect()
 }
 
 /// The crates that the rows of a part of the page are about: the name in back quotes that is alone in its cell.

@@ -3,6 +3,7 @@
 // Called by users, and by `ranthelo`.
 
 #![tactic(auto)]
+
 ghost use Rattle.std.specs.Prelude.{◌≡◌, [], ◌∷◌, ◌++◌, ℕ, ◌+◌, ◌-◌, ◌*◌, ◌<◌, ◌≤◌, length, take};
 ghost use Rattle.lists.specs.Lists.{overlay};
 ghost use Rattle.sheet.specs.Sheet.{Sheet};

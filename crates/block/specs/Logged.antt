@@ -1,6 +1,6 @@
 -- Logs as bytes (02, Point 9), and the mutants of a block that give one.
 use Rattle.std.specs.Prelude.{cond, ◌≡◌, List, [], ◌∷◌, ℕ, ◌/◌, ◌%◌, ◌<◌, ◌≤◌, eqb, length, get_or, drop}
-use Rattle.lists.specs.Lists.{All, joined}
+use Rattle.lists.specs.Lists.{joined}
 use Rattle.model.specs.Log.{Observation, reset, seen, GivesFrom}
 use Rattle.block.specs.Tabulated.{step_of, start_of}
 use Rattle.block.specs.declared.logged.Observed.{Observed}

@@ -3,6 +3,7 @@
 // Called by `reading`, which hands `read` on to users and to the crates above.
 
 #![tactic(auto)]
+
 ghost use Rattle.std.specs.Prelude.{◌≡◌};
 ghost use Rattle.sheet.specs.Reading as reading;
 ghost use Rattle.sheet.specs.Tables.{read_answer};

@@ -4,6 +4,7 @@
 // Called by `store`, `nodes`, `refutation` and `clearing`.
 
 #![tactic(auto)]
+
 mod observed;
 mod progress;
 mod proposal;

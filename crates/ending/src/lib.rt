@@ -3,6 +3,7 @@
 // Called by `commands`; `reading` counts the choices of a pair without a rule by it.
 
 #![tactic(auto)]
+
 ghost use Rattle.std.specs.Prelude.{◌≡◌, Bool, ◌||◌, ◌&&◌, cond, List, ℕ, ◌*◌, ◌<◌, ◌≤◌, length};
 ghost use Rattle.lists.specs.Lists.{any, all, count};
 ghost use Rattle.sheet.specs.Sheet.{Sheet, leads, all_reached, is_open, waking_slots, open_slots};

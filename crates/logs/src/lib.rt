@@ -3,6 +3,7 @@
 // Called by `mutation`, `making`, `search`, `clearing` and `usage`, which show what its functions require.
 
 #![tactic(auto)]
+
 mod suite;
 mod walk;
 

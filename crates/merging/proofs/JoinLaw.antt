@@ -1,22 +1,22 @@
 -- From the parts of two sheets to the merged one.
-use Rattle.lists.specs.Proving.{arith, ℕ, zero, suc, ◌+◌, ◌-◌, ◌*◌, ◌/◌, ◌≤◌, ◌<◌, ◌≡◌, refl, sym, ◌∙◌, ap, ap₂, subst, Bool, true, false, cond, List, [], ◌∷◌, ◌++◌, length, take, drop, ltb, lt-ltb, le-ltb, length-append}
-use mathlib.Core.Bool.{◌||◌, not}
+use Rattle.std.specs.Prelude.{◌+◌, ◌-◌, ◌*◌, ◌/◌, ◌≤◌, ◌<◌, ◌≡◌, ◌∷◌, ◌++◌}
+use Rattle.lists.specs.Proving.{arith, ℕ, zero, suc, refl, sym, ◌∙◌, ap, subst, Bool, true, false, cond, List, [], length, take, drop, ltb, lt-ltb, le-ltb, length-append}
+use mathlib.Core.Bool.{◌||◌}
 use mathlib.Core.List.{map, append_assoc}
 use lib.Seq.{take_at}
 use borrow.Author.Tests.{ltb-false}
 use Rattle.lists.specs.Lists.{overlay}
 use Rattle.lists.specs.laws.TestLaw.{not-true-false, clash}
-use Rattle.sheet.specs.Sheet.{Sheet, row_of, open_pairs, wakings, waking_choices, waking_slots, open_slots}
-use Rattle.sheet.specs.Encode.{size_bytes, quiet_bytes, row_bytes, operand_bytes, start_bytes, press_bytes, test_bytes, encode}
+use Rattle.sheet.specs.Sheet.{Sheet, row_of, open_pairs, open_slots}
+use Rattle.sheet.specs.Encode.{row_bytes, operand_bytes, start_bytes, press_bytes, test_bytes, encode}
 use Rattle.sheet.specs.Reading.{Result, accepted, refused}
-use Rattle.sheet.specs.laws.InjectiveLaw.{encode-parts}
 use Rattle.sheet.specs.laws.PartLaw.{operands-length}
 use Rattle.sheet.specs.laws.WakingLaw.{no-choice, a-choice}
 use Rattle.model.specs.Operations.{refuse_if}
 use Rattle.writing.specs.words.Spelled.{Spelled}
 use Rattle.writing.proofs.laws.SpelledLaw.{spelled-front}
 use Rattle.renaming.specs.Ordering.{union, only}
-use Rattle.renaming.specs.Merging.{merged, bare, equal, limited, merge_on, SameMachine, merge_of}
+use Rattle.renaming.specs.Merging.{merged, bare, equal, limited, merge_on, SameMachine}
 use Rattle.renaming.proofs.laws.MergedLaw.{equal-same, same-equal, same-machine}
 use Rattle.merging.specs.declared.Merged.{Merged}
 use Rattle.merging.specs.declared.Merged.TheVariants as answer

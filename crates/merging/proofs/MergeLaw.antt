@@ -1,5 +1,6 @@
 -- From the bytes of two sheets to the answer, and what it tells.
-use Rattle.lists.specs.Proving.{arith, ℕ, ◌*◌, ◌≤◌, ◌<◌, ◌≡◌, refl, sym, ◌∙◌, ap, ap₂, subst, Bool, true, false, List, drop, length, take, ltb, lt-ltb, never}
+use Rattle.std.specs.Prelude.{◌*◌, ◌<◌, ◌≡◌}
+use Rattle.lists.specs.Proving.{ℕ, refl, sym, ◌∙◌, ap, ap₂, Bool, true, false, List, drop, length, take, ltb, lt-ltb, never}
 use lib.Seq.{take_at}
 use Rattle.lists.specs.Lists.{overlay}
 use Rattle.sheet.specs.declared.Reading.{Reading as ReadAnswer}
@@ -9,10 +10,9 @@ use Rattle.sheet.specs.declared.Summary.{Summary}
 use Rattle.sheet.specs.Sheet.{Sheet, open_pairs}
 use Rattle.sheet.specs.Encode.{encode}
 use Rattle.sheet.specs.Reading.{Result, accepted, refused, Reading, reading, summary_of}
-use Rattle.sheet.specs.WellFormed.{WellFormed}
 use Rattle.sheet.specs.Tables.{Tables, read_answer, loaded_of, tables_of}
 use Rattle.sheet.specs.laws.AcceptedLaw.{well-formed}
-use Rattle.model.specs.Suite.{Judgement, complete, judge_of}
+use Rattle.model.specs.Suite.{complete, judge_of}
 use Rattle.model.specs.Operations.{refuse_if, judge_on, judging}
 use Rattle.model.specs.Verdict.{Complete}
 use Rattle.model.specs.Mutant.{slots}
@@ -21,7 +21,7 @@ use Rattle.renaming.specs.Merging.{Merge, merged, merging, merge_of, merge_on, S
 use Rattle.renaming.proofs.laws.MergedLaw.{first-refused, second-refused, merging-is, merged-told, merges}
 use Rattle.merging.specs.declared.Merged.{Merged}
 use Rattle.merging.specs.declared.Merged.TheVariants as answer
-use Rattle.merging.specs.Answers.{merged_answer, merged_writes, Refuses, Becomes, FoundBy, ToldMerge}
+use Rattle.merging.specs.Answers.{merged_answer, merged_writes, Refuses, FoundBy, ToldMerge}
 use Rattle.merging.specs.words.Outlined.{Surveyed, Known, open_both, Joins}
 use Rattle.merging.proofs.OpenLaw.{pairs-are}
 use Rattle.merging.proofs.JoinLaw.{joins-refused}

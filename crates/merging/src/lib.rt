@@ -3,6 +3,7 @@
 // which is complete for the merged sheet finds the nonconforming mutants of both. Called by users, and by `ranthelo`.
 
 #![tactic(auto)]
+
 mod join;
 mod outline;
 mod union;

@@ -3,6 +3,7 @@
 // Called by users, and by `ranthelo` and `report`.
 
 #![tactic(auto)]
+
 ghost use Rattle.std.specs.Prelude.{◌≡◌, length};
 ghost use Rattle.lists.specs.Lists.{overlay};
 ghost use Rattle.model.specs.Used.{counted as usage};

@@ -3,6 +3,7 @@
 // Called by `refutation`, which shows what its functions require.
 
 #![tactic(auto)]
+
 mod node;
 mod prefix;
 mod tell;

@@ -3,6 +3,7 @@
 // Called by users, and by `ranthelo`.
 
 #![tactic(auto)]
+
 mod first_reached;
 mod keys;
 mod ordered;

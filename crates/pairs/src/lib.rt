@@ -3,6 +3,7 @@
 // Called by `nodes` and `refutation`.
 
 #![tactic(auto)]
+
 mod cells;
 mod proposal;
 mod reach;

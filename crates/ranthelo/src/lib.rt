@@ -3,6 +3,7 @@
 // Called from C, and from Rust by the package in rust/.
 
 #![tactic(auto)]
+
 ghost use Rattle.std.specs.Prelude.{◌≡◌, not, eqb, length};
 ghost use Rattle.sheet.specs.Reading.{reading};
 ghost use Rattle.sheet.specs.Part.{parting};

@@ -3,6 +3,7 @@
 // Called by users, and by `ranthelo`.
 
 #![tactic(auto)]
+
 mod differ;
 mod scan;
 

@@ -1,5 +1,6 @@
 -- The choices of a suspect in turn, each refuted by a cube.
-use Rattle.lists.specs.Proving.{arith, ℕ, ◌+◌, ◌-◌, ◌<◌, ◌≤◌, ◌≡◌, sym, ◌∙◌, ap, subst, true, List, length, get_or, set, replicate, length-replicate, get_or-replicate, List·getD-eq-default, dec_lt}
+use Rattle.std.specs.Prelude.{◌+◌, ◌-◌, ◌<◌, ◌≤◌, ◌≡◌}
+use Rattle.lists.specs.Proving.{arith, ℕ, sym, ◌∙◌, ap, subst, true, List, length, get_or, set, replicate, length-replicate, get_or-replicate, List·getD-eq-default, dec_lt}
 use Rattle.model.specs.Machine.{Move}
 use Rattle.block.specs.Layout.{site_at}
 use Rattle.block.specs.Tabulated.{Wf, choices_at, choice_of, StepIs}

@@ -3,6 +3,7 @@
 // Called by users, and by `ranthelo`.
 
 #![tactic(auto)]
+
 ghost use Rattle.std.specs.Prelude.{◌-◌, ◌≡◌};
 ghost use Rattle.station.specs.Station.{beginning, nexting, taking, changing, is_open};
 ghost use Rattle.station.specs.Answers.{begun_answer, next_answer, taken_answer, changed_answer};

@@ -3,6 +3,7 @@
 // Called by `nodes` and `refutation`, which show what its functions require.
 
 #![tactic(auto)]
+
 mod entries;
 mod live;
 mod scan;

@@ -3,6 +3,7 @@
 // Called by users, and by `ranthelo`.
 
 #![tactic(auto)]
+
 ghost use Rattle.std.specs.Prelude.{◌≡◌, length};
 ghost use Rattle.lists.specs.Lists.{overlay};
 ghost use Rattle.model.specs.Tray.{trying};

@@ -1,6 +1,6 @@
 -- P1 to P10 of 01, the other sheets that it lists, and the order of the refusals: rows from the sheets' bytes through the
 -- operations' definitions, with the whole expected answers, and one theorem that all rows hold, by computation.
-use Rattle.std.specs.Prelude.{ℕ, ◌≡◌, refl, List, [], ◌∷◌, ◌++◌, length, replicate}
+use Rattle.std.specs.Prelude.{ℕ, ◌≡◌, refl, List, [], ◌∷◌, ◌++◌, replicate}
 use Rattle.std.proofs.Common.{ap, lit<}
 use Rattle.std.proofs.Math.Option.{Option, none, some}
 use Rattle.sheet.specs.declared.Summary.{Summary}

@@ -1,5 +1,5 @@
 -- 02, Point 11: trays of boards, from a sheet's bytes to the results, by computation.
-use Rattle.std.specs.Prelude.{ℕ, zero, suc, ◌<◌, ◌≤◌, ◌≡◌, refl, List, [], ◌∷◌, ◌++◌, map, replicate}
+use Rattle.std.specs.Prelude.{ℕ, zero, suc, ◌<◌, ◌≤◌, ◌≡◌, refl, List, [], ◌∷◌, map, replicate}
 use Rattle.std.proofs.Common.{mul-zero, ◌∙◌, ap, lt-ltb, le-ltb, lit<, lit≤}
 use Rattle.std.proofs.Math.Option.{Option, none}
 use Rattle.sheet.specs.Sheet.{Sheet}

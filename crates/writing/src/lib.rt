@@ -3,6 +3,7 @@
 // Called by users, by `generator` and by `ranthelo`; `making` and `report` spell with it, and show what that requires.
 
 #![tactic(auto)]
+
 ghost use Rattle.std.specs.Prelude.{◌≡◌, ℕ, ◌+◌, ◌≤◌, Bool, List, eqb, ltb, length};
 ghost use Rattle.sheet.specs.declared.Size.{Size as Sizes};
 ghost use Rattle.lists.specs.Lists.{overlay};

@@ -1,9 +1,6 @@
 -- `add_read`: 8 for a full list, then press by press, then 1, then 16, then the longer sheet.
 -- the presses lead somewhere
-use Rattle.lists.specs.Proving.{rules, arith, ◌≡◌}
-use Rattle.sheet.specs.Sheet.{Sheet}
-use Rattle.sheet.specs.Reading.{accepted}
-use Rattle.block.specs.Tabled.{Tabled}
+use Rattle.lists.specs.Proving.{arith}
 use Rattle.adding.specs.Adding.{pressing}
 use Rattle.adding.proofs.AddLaw.{some_bytes, adds-full, adds-pressed, adds-long, adds-short, adds-spelled, leads-on, few-presses}
 use Rattle.adding.proofs.add_read.Goals as goal

@@ -1,5 +1,5 @@
 -- `add_test`: refused as reading refuses, or what becomes of the sheet that was read.
-use Rattle.lists.specs.Proving.{rules, ap₂}
+use Rattle.lists.specs.Proving.{ap₂}
 use Rattle.sheet.specs.laws.RefusalLaw.{refusal-told}
 use Rattle.block.specs.laws.OpenedLaw.{opened}
 use Rattle.writing.specs.declared.Written.TheVariants.{Refused}

@@ -1,5 +1,6 @@
 -- `press`: 5, then 8, then 9, each at the press's index; else the state that the rule leads to.
-use Rattle.lists.specs.Proving.{rules, arith, ◌≡◌, sym, ◌∙◌, ap, never}
+use Rattle.std.specs.Prelude.{◌≡◌}
+use Rattle.lists.specs.Proving.{arith, sym, ◌∙◌, ap, never}
 use Rattle.block.specs.Layout.{pair}
 use Rattle.block.specs.laws.TabledLaw.{well-formed}
 use Rattle.adding.specs.declared.Pressed.TheVariants.{To}
@@ -18,6 +19,9 @@ returns-then-t c = let is = rw c.place.ensures.0 at c.rule_target-t.ensures in r
 pub returns : goal.returns
 returns c = let is = rw c.place.ensures.0 at c.rule_target-t.ensures in
     let inside = rw c.place.ensures.0 at c.place.ensures.1 in
-    let wf = well-formed c.requires.0.1 in record { value = λ sh tb. ap To is ∙ press-to tb _ _ _ (omega (arith, c.if-inputs-x.false, c.inputs.ensures)) c.if-i-ge256.false c.requires.1 (λ e. c.if-t.false (is ∙ e)); by_index = λ t e.
+    let wf = well-formed c.requires.0.1 in record {
+      value = λ sh tb. ap To is ∙ press-to tb _ _ _ (omega (arith, c.if-inputs-x.false, c.inputs.ensures)) c.if-i-ge256.false c.requires.1 (λ e. c.if-t.false (is ∙ e));
+      by_index = λ t e.
           let same : c.rule_target-t.result ≡ t = cc in
-          omega (arith, same, is, wf.few-states, wf.rules (pair c.args.s c.args.x) inside (λ z. c.if-t.false (is ∙ z))) }
+          omega (arith, same, is, wf.few-states, wf.rules (pair c.args.s c.args.x) inside (λ z. c.if-t.false (is ∙ z)));
+    }

@@ -1,6 +1,7 @@
 -- `press_all`: press by press, until one is refused.
-use Rattle.lists.specs.Proving.{rules, ◌-◌, length}
-use Rattle.adding.proofs.PressLaw.{Pressing, pressing-none, pressing-again, pressing-stops, pressing-all}
+use Rattle.std.specs.Prelude.{◌-◌}
+use Rattle.lists.specs.Proving.{length}
+use Rattle.adding.proofs.PressLaw.{Pressing}
 use Rattle.adding.proofs.press_all.Given as goal
 
 abbrev pub invariant-loop-i : goal.invariant-loop-i

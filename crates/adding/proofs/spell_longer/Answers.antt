@@ -1,6 +1,7 @@
 -- `spell_longer`: all but END, the test, END.
 -- all but the last byte
-use Rattle.lists.specs.Proving.{rules, arith, sym, ◌≡◌, ◌-◌, length, take, List, ℕ}
+use Rattle.std.specs.Prelude.{◌≡◌, ◌-◌}
+use Rattle.lists.specs.Proving.{arith, sym, length, take, List, ℕ}
 use lib.Seq.{length-take-le}
 use Rattle.sheet.specs.laws.PartLaw.{presses-length}
 use Rattle.writing.proofs.laws.SpelledLaw.{spelled-both}
@@ -16,16 +17,16 @@ pub bytes-begun-requires : goal.bytes-begun-requires
 bytes-begun-requires c = omega (arith, but_last c.args.sheet.now, c.requires)
 
 pub test-tested-requires : goal.test-tested-requires
-test-tested-requires c = 
+test-tested-requires c =
     let b = c.bytes-begun.ensures in
     omega (arith, but_last c.args.sheet.now, presses-length c.args.presses.now, c.requires, b.many, b.long)
 
 pub byte-requires : goal.byte-requires
-byte-requires c = 
+byte-requires c =
     let b = c.bytes-begun.ensures in
     let t = c.test-tested.ensures in
     omega (arith, but_last c.args.sheet.now, presses-length c.args.presses.now, c.requires, b.many, b.long, t.many, t.long)
 
 pub returns : goal.returns
-returns c = 
+returns c =
     spelled-both (spelled-both c.bytes-begun.ensures c.test-tested.ensures) c.byte.ensures

@@ -1,12 +1,11 @@
 -- What is observed at an offset of a log, and the bytes of observations.
-use Rattle.lists.specs.Proving.{arith, ℕ, suc, ◌+◌, ◌*◌, ◌/◌, ◌%◌, ◌<◌, ◌≤◌, ◌≡◌, refl, sym, ◌∙◌, ap, Bool, true, false, cond, List, [], ◌∷◌, ◌++◌, length, get_or, drop, drop-cons, add-one, eqb, eq-eqb, ne_eqb, List·getD-eq-default}
+use Rattle.std.specs.Prelude.{◌+◌, ◌*◌, ◌/◌, ◌%◌, ◌<◌, ◌≡◌, ◌∷◌, ◌++◌}
+use Rattle.lists.specs.Proving.{arith, ℕ, refl, ◌∙◌, ap, List, [], length, get_or, drop, drop-cons, add-one, ne_eqb}
 use Rattle.std.proofs.Math.Seq.{get_or-drop}
-use Rattle.std.proofs.Common.{append_assoc}
 use Rattle.lists.specs.Lists.{All, joined}
 use Rattle.lists.specs.laws.ListLaw.{joined-append}
 use Rattle.model.specs.Log.{Observation, reset, seen}
 use Rattle.block.specs.Logged.{observations, command_bytes, log_bytes, LowSeen, observation, ObservedAt}
-use Rattle.block.specs.declared.logged.Observed.{Observed}
 
 -- ---- at an offset
 module _ (log : List ℕ) (at : ℕ) (l : at < length log) where

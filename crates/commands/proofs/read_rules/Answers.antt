@@ -1,5 +1,4 @@
 use Rattle.commands.proofs.ScanLaw.{rules-in}
-use borrow.Author.Rules.{rules}
 use Rattle.commands.proofs.read_rules.Goals as goal
 
 pub returns : goal.returns

@@ -1,7 +1,4 @@
-use mathlib.Core.Bool.{Bool, true}
 use Rattle.lists.specs.Lists.{all}
-use Rattle.ending.specs.words.Ending.{Marks}
-use Prim.Native.Nat.{ℕ, ◌-◌, ◌≤◌}
 use Rattle.ending.proofs.EndLaw as laws
 use mathlib.Core.Path.{◌∙◌, sym, ◌≡◌, refl}
 use native.Mathlib.Omega.{arith}

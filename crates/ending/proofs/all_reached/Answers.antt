@@ -1,9 +1,6 @@
-use Rattle.sheet.specs.Sheet.{Sheet, reached_within}
-use Rattle.sheet.specs.words.Tabled.{Leads}
-use Prim.Native.Nat.{◌-◌, ◌≤◌}
+use Rattle.sheet.specs.Sheet.{reached_within}
 use Rattle.ending.proofs.EndLaw as laws
-use mathlib.Core.Path.{◌∙◌, ◌≡◌, sym}
-use borrow.Author.Rules.{rules}
+use mathlib.Core.Path.{◌∙◌, sym}
 use native.Mathlib.Omega.{arith}
 use Rattle.ending.proofs.all_reached.Goals as goal
 
@@ -24,11 +21,11 @@ overflow_add-j c = omega (arith, c.requires)
 
 pub loop-j-preserved : goal.loop-j-preserved
 loop-j-preserved c = (
-      omega arith,
-      λ sh e h.
-          let r = c.loop-j.invariant.1 sh e h in
-          laws.rounds-more c.args.size sh _ e r.seen (c.round-more.ensures sh.rules r.before (reached_within sh _) h r.done r.seen r.follows),
-    )
+  omega arith,
+  λ sh e h.
+      let r = c.loop-j.invariant.1 sh e h in
+      laws.rounds-more c.args.size sh _ e r.seen (c.round-more.ensures sh.rules r.before (reached_within sh _) h r.done r.seen r.follows),
+)
 
 pub all_marked-requires-2 : goal.all_marked-requires-2
 all_marked-requires-2 c = c.requires.states

@@ -1,10 +1,8 @@
-use Rattle.sheet.specs.Sheet.{Sheet, reached_within}
+use Rattle.sheet.specs.Sheet.{Sheet}
 use Rattle.sheet.specs.words.Tabled.{Leads}
 use Prim.Native.Nat.{◌-◌, ◌≤◌}
 use Rattle.ending.proofs.EndLaw as laws
-use mathlib.Core.Path.{◌∙◌, ◌≡◌, sym}
-use borrow.Author.Rules.{rules}
-use native.Mathlib.Omega.{arith}
+use mathlib.Core.Path.{◌≡◌}
 use Rattle.ending.proofs.all_reached.Given as goal
 
 abbrev pub invariant-loop-j : goal.invariant-loop-j

@@ -2,7 +2,6 @@ use Rattle.ending.specs.declared.End.TheVariants.{Accepted}
 use Rattle.ending.proofs.EndLaw as laws
 use mathlib.Core.Path.{◌∙◌, sym, ap}
 use native.Mathlib.Omega.{arith}
-use borrow.Author.Rules.{rules}
 use Rattle.ending.proofs.finish.Goals as goal
 
 pub returns-then-at-sheet : goal.returns-then-at-sheet

@@ -1,6 +1,5 @@
 use Rattle.ending.proofs.EndLaw as laws
 use native.Mathlib.Omega.{arith}
-use borrow.Author.Rules.{rules}
 use Rattle.ending.proofs.is_open.Goals as goal
 
 pub returns-then-t-lt16 : goal.returns-then-t-lt16

@@ -1,13 +1,8 @@
-use Rattle.sheet.specs.declared.Size.{Size}
-use mathlib.Core.Path.{ap, ◌∙◌, sym, ◌≡◌, refl}
-use mathlib.Core.Logic.{⊎_elim}
+use mathlib.Core.Path.{◌≡◌}
 use Rattle.sheet.specs.Sheet.{Sheet, is_open}
 use Rattle.lists.specs.Lists.{count}
 use Rattle.ending.specs.words.Ending.{Linked}
 use Prim.Native.Nat.{◌-◌, ◌≤◌}
-use Rattle.ending.proofs.EndLaw as laws
-use borrow.Author.Rules.{rules}
-use native.Mathlib.Omega.{arith}
 use Rattle.ending.proofs.open_at.Given as goal
 
 abbrev pub invariant-loop-x : goal.invariant-loop-x

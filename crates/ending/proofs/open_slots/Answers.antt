@@ -1,10 +1,8 @@
 use Rattle.sheet.specs.declared.Size.{Size}
 use mathlib.Core.Path.{ap, ◌∙◌, ◌≡◌}
-use Rattle.sheet.specs.Sheet.{Sheet, open_below, waking_slots}
-use Rattle.ending.specs.words.Ending.{Linked}
-use Prim.Native.Nat.{ℕ, ◌+◌, ◌-◌, ◌*◌, ◌≤◌}
+use Rattle.sheet.specs.Sheet.{open_below, waking_slots}
+use Prim.Native.Nat.{ℕ, ◌+◌}
 use Rattle.ending.proofs.EndLaw as laws
-use borrow.Author.Rules.{rules}
 use native.Mathlib.Omega.{arith}
 use Rattle.ending.proofs.open_slots.Goals as goal
 

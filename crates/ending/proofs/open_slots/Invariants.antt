@@ -1,15 +1,11 @@
-use Rattle.sheet.specs.declared.Size.{Size}
-use mathlib.Core.Path.{ap, ◌∙◌, ◌≡◌}
+use mathlib.Core.Path.{◌≡◌}
 use Rattle.sheet.specs.Sheet.{Sheet, open_below, waking_slots}
 use Rattle.ending.specs.words.Ending.{Linked}
-use Prim.Native.Nat.{ℕ, ◌+◌, ◌-◌, ◌*◌, ◌≤◌}
-use Rattle.ending.proofs.EndLaw as laws
-use borrow.Author.Rules.{rules}
-use native.Mathlib.Omega.{arith}
+use Prim.Native.Nat.{◌+◌, ◌-◌, ◌*◌, ◌≤◌}
 use Rattle.ending.proofs.open_slots.Given as goal
 
 abbrev pub invariant-loop-s : goal.invariant-loop-s
-invariant-loop-s l =     (l.s ≤ l.m) × (l.n ≤ 1 + 16 * l.s)
+invariant-loop-s l = (l.s ≤ l.m) × (l.n ≤ 1 + 16 * l.s)
     × ((sh : Sheet) → l.size ≡ sh.size → Linked l.unruled l.target l.faulty sh → l.initial.n ≡ waking_slots sh → l.n ≡ waking_slots sh + open_below sh l.s)
 
 abbrev pub decreases-loop-s : goal.decreases-loop-s

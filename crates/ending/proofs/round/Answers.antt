@@ -1,13 +1,5 @@
-use Rattle.sheet.specs.declared.Row.{Row}
-use mathlib.Core.List.{List}
-use mathlib.Core.Bool.{Bool}
-use mathlib.Core.Logic.{⊎_elim}
-use Rattle.sheet.specs.words.Tabled.{Leads}
-use Rattle.ending.specs.words.Ending.{Marks, Follows}
-use Prim.Native.Nat.{ℕ, ◌-◌, ◌≤◌}
 use Rattle.ending.proofs.EndLaw as laws
 use mathlib.Core.Path.{◌≡◌}
-use borrow.Author.Rules.{rules}
 use native.Mathlib.Omega.{arith}
 use Rattle.ending.proofs.round.Goals as goal
 use Rattle.ending.proofs.round.Goals.{then-done-s, else-done-s}
@@ -29,9 +21,9 @@ overflow_add-s c = omega (arith, c.requires)
 
 pub loop-s-preserved : goal.loop-s-preserved
 loop-s-preserved c = elim c.if-done-s.branch [
-    then-done-s w ↦ (omega arith, λ rules f g h d m q. rw w.next-is (laws.round-new c.args.size rules g d m _ (omega (arith, c.requires)) w.if-done-s.true (w.spread-more.ensures rules _ h (c.loop-s.invariant.1 rules f g h d m q))))
-    | else-done-s w ↦ (omega arith, λ rules f g h d m q. rw w.next-is (laws.round-known c.args.size rules g d m _ (omega (arith, c.requires)) q (omega arith) w.if-done-s.false (c.loop-s.invariant.1 rules f g h d m q)))
-    ]
+  | then-done-s w ↦ (omega arith, λ rules f g h d m q. rw w.next-is (laws.round-new c.args.size rules g d m _ (omega (arith, c.requires)) w.if-done-s.true (w.spread-more.ensures rules _ h (c.loop-s.invariant.1 rules f g h d m q))))
+  | else-done-s w ↦ (omega arith, λ rules f g h d m q. rw w.next-is (laws.round-known c.args.size rules g d m _ (omega (arith, c.requires)) q (omega arith) w.if-done-s.false (c.loop-s.invariant.1 rules f g h d m q)))
+]
 
 pub returns : goal.returns
 returns c = λ rules f g h d m q. let e : c.loop-s.s ≡ c.args.size.states = omega arith in rw (← e) (c.loop-s.invariant.1 rules f g h d m q)

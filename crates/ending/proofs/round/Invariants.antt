@@ -1,14 +1,10 @@
 use Rattle.sheet.specs.declared.Row.{Row}
 use mathlib.Core.List.{List}
 use mathlib.Core.Bool.{Bool}
-use mathlib.Core.Logic.{⊎_elim}
 use Rattle.sheet.specs.words.Tabled.{Leads}
 use Rattle.ending.specs.words.Ending.{Marks, Follows}
 use Prim.Native.Nat.{ℕ, ◌-◌, ◌≤◌}
 use Rattle.ending.proofs.EndLaw as laws
-use mathlib.Core.Path.{◌≡◌}
-use borrow.Author.Rules.{rules}
-use native.Mathlib.Omega.{arith}
 use Rattle.ending.proofs.round.Given as goal
 
 abbrev pub invariant-loop-s : goal.invariant-loop-s

@@ -1,13 +1,5 @@
-use Rattle.sheet.specs.declared.Row.{Row}
-use mathlib.Core.List.{List}
-use mathlib.Core.Bool.{Bool}
-use mathlib.Core.Logic.{⊎_elim}
-use Rattle.sheet.specs.words.Tabled.{Leads}
-use Rattle.ending.specs.words.Ending.{Marks}
-use Prim.Native.Nat.{ℕ, ◌-◌, ◌≤◌}
 use Rattle.ending.proofs.EndLaw as laws
 use mathlib.Core.Path.{◌≡◌}
-use borrow.Author.Rules.{rules}
 use native.Mathlib.Omega.{arith}
 use Rattle.ending.proofs.spread.Goals as goal
 use Rattle.ending.proofs.spread.Goals.{then-t-lt16, else-t-lt16}
@@ -17,9 +9,9 @@ loop-x-init c = (omega arith, λ rules g h m. laws.spread_none rules g _ m)
 
 pub loop-x-preserved : goal.loop-x-preserved
 loop-x-preserved c = elim c.if-t-lt16.branch [
-    then-t-lt16 w ↦ (omega arith, λ rules g h m. rw w.next-is (laws.spread-hit rules g _ h (omega arith) _ (omega arith) (c.loop-x.invariant.1 rules g h m) w.if-t-lt16.true))
-    | else-t-lt16 w ↦ (omega arith, λ rules g h m. rw w.next-is (laws.spread-miss rules g _ h (omega arith) _ (omega arith) (c.loop-x.invariant.1 rules g h m) w.if-t-lt16.false))
-    ]
+  | then-t-lt16 w ↦ (omega arith, λ rules g h m. rw w.next-is (laws.spread-hit rules g _ h (omega arith) _ (omega arith) (c.loop-x.invariant.1 rules g h m) w.if-t-lt16.true))
+  | else-t-lt16 w ↦ (omega arith, λ rules g h m. rw w.next-is (laws.spread-miss rules g _ h (omega arith) _ (omega arith) (c.loop-x.invariant.1 rules g h m) w.if-t-lt16.false))
+]
 
 pub returns : goal.returns
 returns c = λ rules g h m. let e : c.loop-x.x ≡ c.args.size.inputs = omega arith in rw (← e) (c.loop-x.invariant.1 rules g h m)

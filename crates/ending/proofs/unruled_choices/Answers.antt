@@ -1,6 +1,5 @@
 use native.Mathlib.Omega.{arith}
 use Rattle.ending.proofs.EndLaw.{few-pairs}
-use borrow.Author.Rules.{rules}
 use Rattle.ending.proofs.unruled_choices.Goals as goal
 
 pub returns-then-quiet : goal.returns-then-quiet

@@ -1,6 +1,5 @@
 -- `generate`: the two refusals, then the sheet.
-use Rattle.std.proofs.Common.{sym, ◌∙◌, rules}
-use borrow.Author.Tests.{not-true, not-false}
+use Rattle.std.proofs.Common.{sym, ◌∙◌}
 use Rattle.sheet.specs.laws.CommandLaw.{size_in_lem}
 use Rattle.generator.proofs.GenerateLaw.{out_of_range, no_room, promised}
 use Rattle.generator.proofs.generate.Goals as goal

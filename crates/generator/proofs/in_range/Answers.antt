@@ -1,4 +1,4 @@
-use Rattle.std.proofs.Common.{sym, ◌∙◌, rules}
+use Rattle.std.proofs.Common.{sym, ◌∙◌}
 use Rattle.generator.proofs.in_range.Goals as goal
 
 pub returns-then-one_to_sixteen-2 : goal.returns-then-one_to_sixteen-2

@@ -1,5 +1,5 @@
 -- `spell`: the tables of the draft, written.
-use Rattle.std.proofs.Common.{ℕ, List, length, sym, ap, ◌∙◌, arith}
+use Rattle.std.proofs.Common.{ℕ, List, length, ap, ◌∙◌, arith}
 use Rattle.lists.specs.Lists.{overlay}
 use Rattle.sheet.specs.Reading.{Result}
 use Rattle.writing.specs.Writing.{written_answer, sheet_writes}

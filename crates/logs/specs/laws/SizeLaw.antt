@@ -1,5 +1,6 @@
 -- The bytes of a suite's log: how many they are, and that inputs and outputs are below 16.
-use Rattle.lists.specs.Proving.{arith, ℕ, suc, ◌+◌, ◌*◌, ◌≤◌, ◌≡◌, refl, Option, some, none, List, [], ◌∷◌, ◌++◌, length, length-append}
+use Rattle.std.specs.Prelude.{◌+◌, ◌*◌, ◌≤◌, ◌≡◌, ◌∷◌, ◌++◌}
+use Rattle.lists.specs.Proving.{arith, ℕ, suc, refl, Option, some, none, List, [], length, length-append}
 use Rattle.lists.specs.Lists.{maybe, All, joined}
 use Rattle.lists.specs.laws.AllLaw.{all_append}
 use Rattle.sheet.specs.Sheet.{Sheet}
@@ -8,7 +9,7 @@ use Rattle.sheet.specs.WellFormed.{WellFormed}
 use Rattle.sheet.specs.laws.PartLaw.{presses-length}
 use Rattle.model.specs.Machine.{Move}
 use Rattle.model.specs.Mutant.{rule}
-use Rattle.model.specs.Log.{Observation, reset, seen, test_log, tests_log, suite_log}
+use Rattle.model.specs.Log.{seen, test_log, tests_log, suite_log}
 use Rattle.model.proofs.laws.StaysLaw.{rule-in}
 use Rattle.block.specs.Logged.{log_bytes, LowSeen}
 use Rattle.block.specs.laws.LoggedLaw.{bytes-append}

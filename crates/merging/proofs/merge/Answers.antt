@@ -1,5 +1,4 @@
 -- `merge`: the first sheet's refusal, the second's, a short buffer, or what becomes of both.
-use Rattle.lists.specs.Proving.{rules, arith}
 use Rattle.sheet.specs.laws.RefusalLaw.{refusal-told}
 use Rattle.merging.proofs.PartsLaw.{size_few}
 use Rattle.merging.proofs.MergeLaw.{refused-is, seen, pairs_of, whole-first, whole-second, whole-short, whole-joined}

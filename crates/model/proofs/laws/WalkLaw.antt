@@ -1,13 +1,13 @@
 -- The laws of a walk: what is left from a place, after a take, with a test added; and how judging goes by it.
-use Rattle.std.specs.Prelude.{◌≡◌, Bool, ◌&&◌, cond, ◌⊎◌, ℕ, zero}
+use Rattle.std.specs.Prelude.{◌≡◌, Bool, ◌&&◌, cond, ℕ, zero}
 use Rattle.std.proofs.Math.Path.{refl, sym, ap}
 use Rattle.std.proofs.Common.{◌∙◌, subst}
 use Rattle.std.proofs.Math.Bool.{true, false}
 use Rattle.std.proofs.Math.Logic.{inl, inr, ⊎_elim}
 use Rattle.std.proofs.Math.Option.{Option, none, some}
 use mathlib.Core.List.{List, [], ◌∷◌, ◌++◌, Memᴰ}
-use Rattle.lists.specs.Lists.{maybe, is_none, All, Ascending, Before, precedes}
-use Rattle.lists.specs.laws.TestLaw.{never, both, and_both, not-true-false}
+use Rattle.lists.specs.Lists.{maybe, is_none, All, Ascending, Before}
+use Rattle.lists.specs.laws.TestLaw.{never, both, and_both}
 use Rattle.lists.specs.laws.AllLaw.{all-mem}
 use Rattle.sheet.specs.Sheet.{Sheet}
 use Rattle.sheet.specs.Reading.{with_tests}
@@ -16,7 +16,7 @@ use Rattle.sheet.specs.laws.RowLaw.{precedes-before, before-precedes, before-tra
 use Rattle.model.specs.Mutant.{mutants, IsMutant}
 use Rattle.model.specs.Suite.{Place, later_test, wrong_in, first_failed_in, first_failed_of, Passes, compare_of, or_else, survivor_among, judge_of}
 use Rattle.model.specs.Longer.{with_test}
-use Rattle.model.specs.Walk.{Standing, start, after, end, keep, Later, is_later, passes, rest, Taken, first_taken, take_of, departing, Remains, FirstRemaining, TakenMeans}
+use Rattle.model.specs.Walk.{Standing, start, after, end, keep, Later, is_later, passes, rest, first_taken, take_of, departing, Remains, TakenMeans}
 use Rattle.model.proofs.laws.MutantLaw.{listed, listed-in-range, mutants-ascending}
 use Rattle.model.proofs.laws.LongerLaw.{slots-longer, wrong-longer}
 use Rattle.model.proofs.laws.JudgeLaw.{compared}

@@ -19,11 +19,11 @@ returns-in_default c = let a = c.args in
 
 pub compare_accepted-requires : goal.compare_accepted-requires
 compare_accepted-requires c = let a = c.args in
-    let o = opened a.sheet.now c.load-reading.ensures.value c.in-Accepted.is c.load-reading.ensures.block_len.1 in (o.sheet, o.holds.loads.tabled)
+    let o = opened a.sheet.now c.load-reading.ensures.value c.in-Accepted.is c.load-reading.ensures.loads in (o.sheet, o.holds.loads.tabled)
 
 pub returns : goal.returns
 returns c = let a = c.args in
-    let o = opened a.sheet.now c.load-reading.ensures.value c.in-Accepted.is c.load-reading.ensures.block_len.1 in
+    let o = opened a.sheet.now c.load-reading.ensures.value c.in-Accepted.is c.load-reading.ensures.loads in
     let e = comparing-on a.sheet.now o.sheet o.is a.mutant.now (length a.buffer.now) in
     let is = c.compare_accepted.ensures o.sheet o.holds.loads.tabled in
     let answer = is.answer ∙ sym (ap compared_answer e) in

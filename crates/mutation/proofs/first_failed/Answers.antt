@@ -16,10 +16,10 @@ returns-in_default c = let a = c.args in
 
 pub first_failed_accepted-requires : goal.first_failed_accepted-requires
 first_failed_accepted-requires c = let a = c.args in
-    let o = opened a.sheet.now c.load-reading.ensures.value c.in-Accepted.is c.load-reading.ensures.block_len.1 in (o.sheet, o.holds)
+    let o = opened a.sheet.now c.load-reading.ensures.value c.in-Accepted.is c.load-reading.ensures.loads in (o.sheet, o.holds)
 
 pub returns : goal.returns
 returns c = let a = c.args in
-    let o = opened a.sheet.now c.load-reading.ensures.value c.in-Accepted.is c.load-reading.ensures.block_len.1 in
+    let o = opened a.sheet.now c.load-reading.ensures.value c.in-Accepted.is c.load-reading.ensures.loads in
     let e = failing-on a.sheet.now o.sheet o.is a.mutant.now in
     let answer = c.first_failed_accepted.ensures o.sheet o.holds ∙ sym (ap failed_answer e) in record { answer = answer; told = told-failed a.sheet.now a.mutant.now _ answer }

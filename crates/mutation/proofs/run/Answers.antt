@@ -19,9 +19,9 @@ returns-in_default c = let a = c.args in
 
 pub run_accepted-requires : goal.run_accepted-requires
 run_accepted-requires c = let a = c.args in
-    let o = opened a.sheet.now c.load-reading.ensures.value c.in-Accepted.is c.load-reading.ensures.block_len.1 in (o.sheet, o.holds.loads.tabled)
+    let o = opened a.sheet.now c.load-reading.ensures.value c.in-Accepted.is c.load-reading.ensures.loads in (o.sheet, o.holds.loads.tabled)
 
 pub returns : goal.returns
 returns c = let a = c.args in
-    let o = opened a.sheet.now c.load-reading.ensures.value c.in-Accepted.is c.load-reading.ensures.block_len.1 in
+    let o = opened a.sheet.now c.load-reading.ensures.value c.in-Accepted.is c.load-reading.ensures.loads in
     let is = ran_on a.sheet.now o.sheet o.is a.mutant.now a.inputs.now (length a.buffer.now) (c.run_accepted.ensures o.sheet o.holds.loads.tabled) in record { answer = is.answer; bytes = is.bytes; told = told-ran a.sheet.now a.mutant.now a.inputs.now (length a.buffer.now) _ a.buffer.now _ is.answer is.bytes }

@@ -1,5 +1,5 @@
 -- `renumber`: refused as reading refuses, a short buffer, then the sheet with its states renamed.
-use Rattle.lists.specs.Proving.{rules, arith, ap₂}
+use Rattle.lists.specs.Proving.{arith, ap₂}
 use Rattle.sheet.specs.laws.RefusalLaw.{refusal-told}
 use Rattle.writing.specs.declared.Written.TheVariants.{Refused}
 use Rattle.numbering.proofs.NumberLaw.{opened, searched, states-are, counted, parted, told-unread, told-short, told-numbered}

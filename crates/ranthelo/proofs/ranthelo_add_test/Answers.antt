@@ -5,4 +5,4 @@ use Rattle.ranthelo.specs.Numbers.{written_numbers}
 use Rattle.ranthelo.proofs.ranthelo_add_test.Goals as goal
 
 pub returns : goal.returns
-returns c = let e = c.add_test.ensures in record { answer_after = c.tell_length.ensures ∙ ap written_numbers e.0; buffer_after = e.1.0 }
+returns c = let e = c.add_test.ensures in record { answer_after = c.tell_length.ensures ∙ ap written_numbers e.answer; buffer_after = e.bytes }

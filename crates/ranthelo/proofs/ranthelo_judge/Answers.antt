@@ -5,4 +5,4 @@ use Rattle.ranthelo.specs.Numbers.{judged_numbers}
 use Rattle.ranthelo.proofs.ranthelo_judge.Goals as goal
 
 pub returns : goal.returns
-returns c = let e = c.judge.ensures in record { answer_after = c.tell.ensures ∙ ap judged_numbers e.0; board_after = e.1.0; sequence_after = e.1.1.0 }
+returns c = let e = c.judge.ensures in record { answer_after = c.tell.ensures ∙ ap judged_numbers e.answer; board_after = e.board; sequence_after = e.sequence }

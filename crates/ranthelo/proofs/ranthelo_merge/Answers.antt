@@ -5,7 +5,7 @@ use Rattle.ranthelo.specs.Numbers.{merged_numbers}
 use Rattle.ranthelo.proofs.ranthelo_merge.Goals as goal
 
 pub returns-in-Done : goal.returns-in-Done
-returns-in-Done c = record { answer_after = ap merged_numbers (sym c.in-Done.is ∙ c.merge.ensures.answer); buffer_after = c.merge.ensures.bytes.0 }
+returns-in-Done c = record { answer_after = ap merged_numbers (sym c.in-Done.is ∙ c.merge.ensures.answer); buffer_after = c.merge.ensures.bytes }
 
 pub returns-in-Refused : goal.returns-in-Refused
-returns-in-Refused c = record { answer_after = ap merged_numbers (sym c.in-Refused.is ∙ c.merge.ensures.answer); buffer_after = c.merge.ensures.bytes.0 }
+returns-in-Refused c = record { answer_after = ap merged_numbers (sym c.in-Refused.is ∙ c.merge.ensures.answer); buffer_after = c.merge.ensures.bytes }

@@ -4,5 +4,5 @@ use Rattle.ranthelo.specs.Numbers.{explained_numbers}
 use Rattle.ranthelo.proofs.ranthelo_record_board.Goals as goal
 
 pub returns : goal.returns
-returns c = 
-    let e = c.explain_record.ensures in record { answer_after = c.tell_explained.ensures ∙ ap explained_numbers e.0; board_after = e.1.0; sequence_after = e.1.1.0 }
+returns c =
+    let e = c.explain_record.ensures in record { answer_after = c.tell_explained.ensures ∙ ap explained_numbers e.answer; board_after = e.board; sequence_after = e.sequence }

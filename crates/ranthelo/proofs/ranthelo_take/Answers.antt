@@ -4,6 +4,6 @@ use Rattle.ranthelo.specs.Numbers.{taken_numbers}
 use Rattle.ranthelo.proofs.ranthelo_take.Goals as goal
 
 pub returns : goal.returns
-returns c = 
+returns c =
     let e = c.take.ensures in
-    let is = c.place_of-at.ensures in record { answer_after = c.tell_taken.ensures ∙ ap taken_numbers (rw is at e.0); board_after = rw is at e.1.0; sequence_after = rw is at e.1.1.0 }
+    let is = c.place_of-at.ensures in record { answer_after = c.tell_taken.ensures ∙ ap taken_numbers (rw is at e.answer); board_after = rw is at e.board; sequence_after = rw is at e.sequence }

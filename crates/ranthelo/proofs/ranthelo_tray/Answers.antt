@@ -5,7 +5,7 @@ use Rattle.ranthelo.specs.Numbers.{tried_numbers}
 use Rattle.ranthelo.proofs.ranthelo_tray.Goals as goal
 
 pub returns-in-Done : goal.returns-in-Done
-returns-in-Done c = record { answer_after = ap tried_numbers (sym c.in-Done.is ∙ c.first_failures.ensures.answer); results_after = c.first_failures.ensures.numbers.0 }
+returns-in-Done c = record { answer_after = ap tried_numbers (sym c.in-Done.is ∙ c.first_failures.ensures.answer); results_after = c.first_failures.ensures.numbers }
 
 pub returns-in-Refused : goal.returns-in-Refused
-returns-in-Refused c = record { answer_after = ap tried_numbers (sym c.in-Refused.is ∙ c.first_failures.ensures.answer); results_after = c.first_failures.ensures.numbers.0 }
+returns-in-Refused c = record { answer_after = ap tried_numbers (sym c.in-Refused.is ∙ c.first_failures.ensures.answer); results_after = c.first_failures.ensures.numbers }

@@ -1,9 +1,5 @@
-use denote.Slice.{shr_slice_at}
-use Prim.Native.Nat.{ℕ}
 use mathlib.Core.Path.{sym, ◌∙◌}
-use mathlib.Core.List.{List}
 use Rattle.reading.proofs.LoadLaw as laws
-use borrow.Author.Rules.{rules}
 use Rattle.reading.proofs.load.Goals as goal
 
 pub returns-in_default : goal.returns-in_default

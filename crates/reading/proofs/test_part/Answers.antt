@@ -6,7 +6,6 @@ use lib.ListN.{length}
 use Rattle.sheet.specs.declared.Span.{Span}
 use Rattle.sheet.specs.declared.Parting.TheVariants.{At}
 use Rattle.reading.proofs.SpanLaw as laws
-use borrow.Author.Rules.{rules}
 use Rattle.reading.proofs.test_part.Goals as goal
 
 pub returns-in_default : goal.returns-in_default

@@ -3,7 +3,6 @@ use Rattle.sheet.specs.declared.Parting.TheVariants.{Refused}
 use Rattle.sheet.specs.laws.RefusalLaw.{refusal-told}
 use Rattle.reading.proofs.FillLaw.{tests-room}
 use Rattle.reading.proofs.SpanLaw as laws
-use borrow.Author.Rules.{rules}
 use Rattle.reading.proofs.test_span.Goals as goal
 
 pub returns-in_default : goal.returns-in_default

@@ -12,10 +12,10 @@ returns-in_default c = let a = c.args in
     let x = tried-refused a.sheet.now a.boards a.choices.now a.results.now c.load-reading.result c.in_default.field-0 c.in_default.field-1 _ c.load-reading.ensures.value c.in_default.is (ap₂ Refused z.0 z.1) in record { answer = x.0.answer; numbers = x.0.numbers; told = x.1 }
 
 pub try_accepted-requires : goal.try_accepted-requires
-try_accepted-requires c = let x = opened c.args.sheet.now c.load-reading.ensures.value c.in-Accepted.is c.load-reading.ensures.block_len.1 in
+try_accepted-requires c = let x = opened c.args.sheet.now c.load-reading.ensures.value c.in-Accepted.is c.load-reading.ensures.loads in
     (x.sheet, x.holds)
 
 pub returns : goal.returns
 returns c = let a = c.args in
-    let x = opened a.sheet.now c.load-reading.ensures.value c.in-Accepted.is c.load-reading.ensures.block_len.1 in
+    let x = opened a.sheet.now c.load-reading.ensures.value c.in-Accepted.is c.load-reading.ensures.loads in
     let y = tried-accepted a.sheet.now a.boards a.choices.now a.results.now x.sheet x.is _ _ (c.try_accepted.ensures x.sheet x.holds) in record { answer = y.0.answer; numbers = y.0.numbers; told = y.1 }

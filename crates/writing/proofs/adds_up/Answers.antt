@@ -1,9 +1,6 @@
 -- `adds_up`: what is left is short of the sum by the lengths that are left.
-use borrow.Author.Rules.{rules}
-use Prim.Native.Nat.{◌+◌, ◌-◌}
 use native.Mathlib.Omega.{arith}
-use mathlib.Core.Path.{◌≡◌, sym}
-use lib.ListN.{length, drop}
+use mathlib.Core.Path.{sym}
 use borrow.Author.Tests.{ne_eqb}
 use Rattle.writing.specs.Drawing.{total}
 use Rattle.writing.proofs.RestLaw.{total-next, total-none, nothing_left}

@@ -1,12 +1,8 @@
 -- `adds_up`: what is left is short of the sum by the lengths that are left.
-use borrow.Author.Rules.{rules}
 use Prim.Native.Nat.{◌+◌, ◌-◌}
-use native.Mathlib.Omega.{arith}
-use mathlib.Core.Path.{◌≡◌, sym}
+use mathlib.Core.Path.{◌≡◌}
 use lib.ListN.{length, drop}
-use borrow.Author.Tests.{ne_eqb}
 use Rattle.writing.specs.Drawing.{total}
-use Rattle.writing.proofs.RestLaw.{total-next, total-none, nothing_left}
 use Rattle.writing.proofs.adds_up.Given as goal
 
 abbrev pub invariant-loop-i : goal.invariant-loop-i

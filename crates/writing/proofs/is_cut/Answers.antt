@@ -1,5 +1,4 @@
 -- `is_cut`: the tables one after another.
-use borrow.Author.Rules.{rules}
 use borrow.Author.Tests.{eq-eqb, ne_eqb}
 use Prim.Native.Nat.{◌%◌}
 use mathlib.Core.Path.{refl}
@@ -13,10 +12,10 @@ returns-then-rules-ne0 c = λ size quiet starts. rw (ne_eqb (length c.args.rules
 
 pub returns-then-faults-ne0 : goal.returns-then-faults-ne0
 unfolding is_cut
-returns-then-faults-ne0 c = λ size quiet starts.     let a = c.args in
+returns-then-faults-ne0 c = λ size quiet starts. let a = c.args in
     rw (eq-eqb (length a.rules.now % 4) 0 c.if-rules-ne0.false, ne_eqb (length a.faults.now % 4) 0 c.if-faults-ne0.true) refl
 
 pub returns : goal.returns
 unfolding is_cut
-returns c = λ size quiet starts.     let a = c.args in
+returns c = λ size quiet starts. let a = c.args in
     rw (eq-eqb (length a.rules.now % 4) 0 c.if-rules-ne0.false, eq-eqb (length a.faults.now % 4) 0 c.if-faults-ne0.false, c.adds_up.ensures) refl

@@ -1,5 +1,4 @@
 -- `is_long`: each table alone may be too long.
-use borrow.Author.Rules.{rules}
 use borrow.Author.Tests.{lt-ltb}
 use native.Mathlib.Omega.{arith}
 use mathlib.Core.Path.{sym}

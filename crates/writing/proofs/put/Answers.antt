@@ -1,5 +1,4 @@
 -- `put`: what reading refuses, then no room, then the bytes.
-use borrow.Author.Rules.{rules}
 use lib.ListN.{length}
 use Rattle.writing.proofs.WriteLaw.{puts-refused, puts-accepted, placed-refused, placed-short, placed-there}
 use Rattle.writing.proofs.put.Goals as goal

@@ -1,8 +1,7 @@
 -- `write`: cut tables, a sheet too long, then the sheet spelled and put.
-use borrow.Author.Rules.{rules}
 use native.Mathlib.Omega.{arith}
 use mathlib.Core.Path.{◌≡◌, sym, ◌∙◌}
-use Rattle.writing.specs.Drawing.{Drawing, drawing, is_cut}
+use Rattle.writing.specs.Drawing.{drawing, is_cut}
 use Rattle.writing.proofs.laws.DrawingLaw.{whole}
 use Rattle.writing.proofs.WriteLaw.{Sized, write-cut, write-long, spell-room, spelled-inside, write-spelled}
 use Rattle.writing.proofs.write.Goals as goal

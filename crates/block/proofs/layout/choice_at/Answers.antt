@@ -1,4 +1,4 @@
-use Rattle.lists.specs.Proving.{rules, arith, sym}
+use Rattle.lists.specs.Proving.{arith, sym}
 use Rattle.block.specs.laws.ChoiceLaw.{chosen_none, chosen-some}
 use Rattle.block.proofs.layout.choice_at.Goals as goal
 

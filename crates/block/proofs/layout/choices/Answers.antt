@@ -1,4 +1,3 @@
-use Rattle.lists.specs.Proving.{rules}
 use Rattle.block.proofs.layout.choices.Goals as goal
 
 pub returns : goal.returns

@@ -1,4 +1,4 @@
-use Rattle.lists.specs.Proving.{rules, sym}
+use Rattle.lists.specs.Proving.{sym}
 use Rattle.block.specs.laws.ChoiceLaw.{start-waked}
 use Rattle.block.proofs.layout.initial.Goals as goal
 

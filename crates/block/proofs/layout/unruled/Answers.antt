@@ -1,4 +1,4 @@
-use Rattle.lists.specs.Proving.{rules, arith}
+use Rattle.lists.specs.Proving.{arith}
 use native.Mathlib.Nat.{div-le_self, mod-le}
 use Rattle.block.proofs.layout.unruled.Goals as goal
 

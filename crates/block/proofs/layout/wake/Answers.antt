@@ -1,4 +1,4 @@
-use Rattle.lists.specs.Proving.{rules, refl}
+use Rattle.lists.specs.Proving.{refl}
 use Rattle.block.proofs.layout.wake.Goals as goal
 
 pub returns : goal.returns

@@ -1,4 +1,3 @@
-use Rattle.lists.specs.Proving.{rules}
 use Rattle.block.specs.laws.LoggedLaw.{observed-reset, observed-nothing}
 use Rattle.block.proofs.logged.observe.Goals as goal
 

@@ -1,4 +1,4 @@
-use Rattle.lists.specs.Proving.{rules, arith, refl, sym, List·getD-eq-default}
+use Rattle.lists.specs.Proving.{arith, refl, sym, List·getD-eq-default}
 use Rattle.block.specs.laws.LoggedLaw.{observed-short, observed-seen}
 use Rattle.block.proofs.logged.seen_at.Goals as goal
 

@@ -1,6 +1,5 @@
-use Rattle.lists.specs.Proving.{rules, ◌+◌, ◌-◌, ◌≤◌, refl, length}
+use Rattle.lists.specs.Proving.{refl}
 use Rattle.block.proofs.PackingLaw.{fill_none, fill_more, fill-all}
-use Rattle.block.specs.Packing.{Copied}
 use Rattle.block.proofs.packing.copy.Goals as goal
 
 pub loop-k-init : goal.loop-k-init

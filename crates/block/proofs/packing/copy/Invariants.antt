@@ -1,5 +1,5 @@
-use Rattle.lists.specs.Proving.{rules, ◌+◌, ◌-◌, ◌≤◌, refl, length}
-use Rattle.block.proofs.PackingLaw.{fill_none, fill_more, fill-all}
+use Rattle.std.specs.Prelude.{◌+◌, ◌-◌, ◌≤◌}
+use Rattle.lists.specs.Proving.{length}
 use Rattle.block.specs.Packing.{Copied}
 use Rattle.block.proofs.packing.copy.Given as goal
 

@@ -1,5 +1,4 @@
-use Rattle.lists.specs.Proving.{rules, arith, ◌-◌}
-use Rattle.block.proofs.PackingLaw.{fill_none, fill_more, fill-all}
+use Rattle.std.specs.Prelude.{◌-◌}
 use Rattle.block.specs.Packing.{ChoicesCopied}
 use Rattle.block.proofs.packing.copy_choices.Given as goal
 

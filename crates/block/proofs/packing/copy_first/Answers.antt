@@ -1,6 +1,5 @@
-use Rattle.lists.specs.Proving.{rules, arith, ◌-◌}
+use Rattle.lists.specs.Proving.{arith}
 use Rattle.block.proofs.PackingLaw.{fill_none, fill_more, fill-all}
-use Rattle.block.specs.Packing.{FirstCopied}
 use Rattle.block.proofs.packing.copy_first.Goals as goal
 
 pub loop-k-init : goal.loop-k-init

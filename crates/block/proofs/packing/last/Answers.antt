@@ -1,4 +1,4 @@
-use Rattle.lists.specs.Proving.{rules, arith}
+use Rattle.lists.specs.Proving.{arith}
 use Rattle.block.proofs.packing.last.Goals as goal
 
 pub returns : goal.returns

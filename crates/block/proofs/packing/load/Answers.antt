@@ -1,5 +1,5 @@
 -- `load`: the tables that were read are the sheet's.
-use Rattle.lists.specs.Proving.{rules, sym, ◌∙◌}
+use Rattle.lists.specs.Proving.{sym, ◌∙◌}
 use Rattle.block.proofs.LoadLaw.{refused_none, read, read_of, loads}
 use Rattle.block.proofs.packing.load.Goals as goal
 

@@ -1,5 +1,5 @@
 -- `tabulate`: the places of the copies, one after another.
-use Rattle.lists.specs.Proving.{rules, length-set}
+use Rattle.lists.specs.Proving.{length-set}
 use Rattle.block.proofs.TabulateLaw.{few, tabled}
 use Rattle.block.proofs.packing.tabulate.Goals as goal
 

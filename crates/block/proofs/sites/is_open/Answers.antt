@@ -1,5 +1,4 @@
 -- `is_open`: each way out is one of the tests.
-use Rattle.lists.specs.Proving.{rules}
 use Rattle.block.proofs.SitesLaw.{open-no-input, open-choices}
 use Rattle.block.proofs.sites.is_open.Goals as goal
 

@@ -1,7 +1,8 @@
 -- `number`: what holds after the pairs before an index.
-use Rattle.lists.specs.Proving.{arith, ◌-◌, ◌*◌, ◌<◌, sym, ◌∙◌, ⊎_elim}
+use Rattle.std.specs.Prelude.{◌<◌}
+use Rattle.lists.specs.Proving.{arith, sym, ◌∙◌}
 use Rattle.block.specs.Sites.{waking_first}
-use Rattle.block.proofs.SitesLaw.{Numbering, number-start, number-open, number-shut, number-end, few-before, room}
+use Rattle.block.proofs.SitesLaw.{number-start, number-open, number-shut, number-end, few-before, room}
 use Rattle.block.proofs.sites.number.Goals as goal
 use Rattle.block.proofs.sites.number.Goals.{then-is_open, else-is_open}
 

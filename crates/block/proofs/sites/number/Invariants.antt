@@ -1,7 +1,7 @@
 -- `number`: what holds after the pairs before an index.
-use Rattle.lists.specs.Proving.{arith, ◌-◌, ◌*◌, ◌<◌, sym, ◌∙◌, ⊎_elim}
+use Rattle.std.specs.Prelude.{◌-◌, ◌*◌}
 use Rattle.block.specs.Sites.{waking_first}
-use Rattle.block.proofs.SitesLaw.{Numbering, number-start, number-open, number-shut, number-end, few-before, room}
+use Rattle.block.proofs.SitesLaw.{Numbering}
 use Rattle.block.proofs.sites.number.Given as goal
 
 abbrev pub invariant-loop-i : goal.invariant-loop-i

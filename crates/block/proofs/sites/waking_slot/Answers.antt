@@ -1,4 +1,4 @@
-use Rattle.lists.specs.Proving.{rules, arith, refl, lt-ltb, le-ltb}
+use Rattle.lists.specs.Proving.{arith, refl, lt-ltb, le-ltb}
 use Rattle.block.proofs.sites.waking_slot.Goals as goal
 
 pub returns-then-waking-le1 : goal.returns-then-waking-le1

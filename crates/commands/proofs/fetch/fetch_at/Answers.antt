@@ -1,5 +1,4 @@
 use Rattle.commands.specs.laws.FetchLaw as laws
-use borrow.Author.Rules.{rules}
 use Rattle.commands.proofs.fetch.fetch_at.Goals as goal
 
 pub returns-then-w-sheet : goal.returns-then-w-sheet

@@ -1,5 +1,4 @@
 use borrow.Author.Tests.{le-ltb, lt-ltb}
-use borrow.Author.Rules.{rules}
 use Rattle.commands.proofs.fetch.operand_of.Goals as goal
 
 pub returns-then-i-w : goal.returns-then-i-w

@@ -18,9 +18,9 @@ returns-then-byte-eq7 c = rw c.if-byte-eq7.true
 
 pub returns : goal.returns
 returns c = simp (
-      ne_eqb _ _ c.if-byte-eq7.false,
-      ne_eqb _ _ c.if-byte-eq5.false,
-      ne_eqb _ _ c.if-byte-eq3.false,
-      ne_eqb _ _ c.if-byte-eq2.false,
-      ne_eqb _ _ c.if-byte-eq1.false,
-    )
+  ne_eqb _ _ c.if-byte-eq7.false,
+  ne_eqb _ _ c.if-byte-eq5.false,
+  ne_eqb _ _ c.if-byte-eq3.false,
+  ne_eqb _ _ c.if-byte-eq2.false,
+  ne_eqb _ _ c.if-byte-eq1.false,
+)

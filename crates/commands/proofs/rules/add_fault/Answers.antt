@@ -2,8 +2,6 @@ use Rattle.commands.proofs.FaultLaw.{fault-taken, fault-many, fault-same, fault-
 use Rattle.sheet.specs.laws.CommandLaw.{row_in}
 use mathlib.Core.Path.{◌∙◌, sym}
 use native.Mathlib.Omega.{arith}
-use borrow.Author.Rules.{rules}
-use borrow.Author.Tests.{not-true, not-false}
 use Rattle.commands.proofs.rules.add_fault.Goals as goal
 
 pub returns-then-not-in_range : goal.returns-then-not-in_range

@@ -1,7 +1,6 @@
 use Rattle.sheet.specs.laws.RowTableLaw.{rule-digits}
 use Rattle.commands.proofs.PressLaw.{press-taken, press-none, press-many, press-outside}
 use native.Mathlib.Omega.{arith}
-use borrow.Author.Rules.{rules}
 use Rattle.commands.proofs.rules.add_press.Goals as goal
 
 pub returns-then-t-lt16 : goal.returns-then-t-lt16

@@ -2,7 +2,6 @@ use Rattle.commands.proofs.RuleLaw.{rule-taken, rule-unordered, rule-outside}
 use Rattle.sheet.specs.laws.CommandLaw.{row_in}
 use mathlib.Core.Path.{◌∙◌, sym}
 use native.Mathlib.Omega.{arith}
-use borrow.Author.Rules.{rules}
 use Rattle.commands.proofs.rules.add_rule.Goals as goal
 
 pub bounds-output-p : goal.bounds-output-p

@@ -1,5 +1,4 @@
 use Rattle.commands.proofs.StateLaw as laws
-use borrow.Author.Rules.{rules}
 use Rattle.commands.proofs.rules.apply.Goals as goal
 
 pub returns-then-item-eq1 : goal.returns-then-item-eq1

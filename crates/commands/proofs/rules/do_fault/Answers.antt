@@ -1,5 +1,4 @@
 use Rattle.commands.proofs.StateLaw as laws
-use borrow.Author.Rules.{rules}
 use Rattle.commands.proofs.rules.do_fault.Goals as goal
 
 pub returns : goal.returns

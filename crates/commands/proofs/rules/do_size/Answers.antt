@@ -1,6 +1,5 @@
 use mathlib.Core.Path.{◌∙◌, sym}
 use Rattle.commands.proofs.StateLaw as laws
-use borrow.Author.Rules.{rules}
 use Rattle.commands.proofs.rules.do_size.Goals as goal
 
 pub returns-then-one_to_sixteen-3 : goal.returns-then-one_to_sixteen-3

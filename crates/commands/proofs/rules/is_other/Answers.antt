@@ -2,7 +2,6 @@ use Rattle.sheet.specs.laws.RowTableLaw.{rule-digits}
 use Rattle.sheet.specs.Sheet.{rule_at}
 use Rattle.commands.proofs.FaultLaw.{other_none, other-output, other-target}
 use native.Mathlib.Omega.{arith}
-use borrow.Author.Rules.{rules}
 use Rattle.commands.proofs.rules.is_other.Goals as goal
 
 pub returns-then-o : goal.returns-then-o

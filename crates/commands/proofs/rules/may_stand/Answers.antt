@@ -1,5 +1,4 @@
 use borrow.Author.Tests.{ne_eqb}
-use borrow.Author.Rules.{rules}
 use Rattle.commands.proofs.rules.may_stand.Goals as goal
 
 pub returns-then-byte-eq1 : goal.returns-then-byte-eq1
@@ -28,12 +27,12 @@ returns-then-byte-eq8 c = rw c.if-byte-eq8.true c.is_during-then-byte-eq8.ensure
 
 pub returns : goal.returns
 returns c = simp (
-      ne_eqb _ _ c.if-byte-eq8.false,
-      ne_eqb _ _ c.if-byte-eq7.false,
-      ne_eqb _ _ c.if-byte-eq6.false,
-      ne_eqb _ _ c.if-byte-eq5.false,
-      ne_eqb _ _ c.if-byte-eq4.false,
-      ne_eqb _ _ c.if-byte-eq3.false,
-      ne_eqb _ _ c.if-byte-eq2.false,
-      ne_eqb _ _ c.if-byte-eq1.false,
-    )
+  ne_eqb _ _ c.if-byte-eq8.false,
+  ne_eqb _ _ c.if-byte-eq7.false,
+  ne_eqb _ _ c.if-byte-eq6.false,
+  ne_eqb _ _ c.if-byte-eq5.false,
+  ne_eqb _ _ c.if-byte-eq4.false,
+  ne_eqb _ _ c.if-byte-eq3.false,
+  ne_eqb _ _ c.if-byte-eq2.false,
+  ne_eqb _ _ c.if-byte-eq1.false,
+)

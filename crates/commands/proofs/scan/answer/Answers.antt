@@ -1,5 +1,4 @@
 use Rattle.commands.proofs.ScanLaw as laws
-use borrow.Author.Rules.{rules}
 use Rattle.commands.proofs.scan.answer.Goals as goal
 
 pub returns-in-Accepted : goal.returns-in-Accepted

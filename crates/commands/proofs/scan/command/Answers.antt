@@ -1,7 +1,6 @@
 use mathlib.Core.Path.{◌∙◌, sym}
 use Rattle.commands.proofs.ObeyLaw as laws
 use Rattle.commands.specs.laws.FetchLaw.{fetched-as}
-use borrow.Author.Rules.{rules}
 use Rattle.commands.proofs.scan.command.Goals as goal
 
 pub obey-requires : goal.obey-requires

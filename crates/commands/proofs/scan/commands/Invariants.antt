@@ -1,8 +1,6 @@
 use lib.ListN.{length}
 use Prim.Native.Nat.{◌-◌, ◌≤◌}
 use Rattle.commands.proofs.ScanLaw as laws
-use borrow.Author.Rules.{rules}
-use native.Mathlib.Omega.{arith}
 use Rattle.commands.proofs.scan.commands.Given as goal
 
 abbrev pub invariant-loop-next : goal.invariant-loop-next

@@ -9,7 +9,6 @@ use Rattle.commands.specs.laws.FetchLaw.{WholeAt, as-whole}
 use Rattle.sheet.specs.laws.ReadingLaw.{known-range}
 use Rattle.commands.proofs.ObeyLaw as obeying
 use Rattle.commands.proofs.ScanLaw as laws
-use borrow.Author.Rules.{rules}
 use Rattle.commands.proofs.scan.obey.Goals as goal
 
 pub finish-end-requires : goal.finish-end-requires

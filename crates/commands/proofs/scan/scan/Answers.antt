@@ -1,5 +1,4 @@
 use Rattle.commands.proofs.ScanLaw as laws
-use borrow.Author.Rules.{rules}
 use Rattle.commands.proofs.scan.scan.Goals as goal
 
 pub returns-then-sheet-le16384 : goal.returns-then-sheet-le16384

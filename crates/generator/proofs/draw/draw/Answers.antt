@@ -1,4 +1,4 @@
-use Rattle.std.proofs.Common.{refl, rules}
+use Rattle.std.proofs.Common.{refl}
 use Rattle.generator.specs.Generating.{drawn}
 use Rattle.generator.proofs.draw.draw.Goals as goal
 

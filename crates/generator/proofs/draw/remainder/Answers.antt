@@ -1,4 +1,4 @@
-use Rattle.std.proofs.Common.{mod-lt, arith, rules}
+use Rattle.std.proofs.Common.{mod-lt, arith}
 use Rattle.generator.proofs.draw.remainder.Goals as goal
 
 pub overflow_cast-result-2 : goal.overflow_cast-result-2

@@ -1,5 +1,5 @@
 -- `draw_pair`: three draws, each from the seed that the one before left.
-use Rattle.std.proofs.Common.{refl, rules}
+use Rattle.std.proofs.Common.{refl}
 use Rattle.generator.specs.Generating.{rule_from}
 use Rattle.generator.proofs.pairs.draw_pair.Goals as goal
 

@@ -1,4 +1,4 @@
-use Rattle.std.proofs.Common.{arith, rules}
+use Rattle.std.proofs.Common.{arith}
 use Rattle.generator.proofs.laws.GeneratedLaw.{few-pairs}
 use Rattle.generator.proofs.pairs.pairs_of.Goals as goal
 

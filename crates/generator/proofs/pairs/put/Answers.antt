@@ -1,4 +1,4 @@
-use Rattle.std.proofs.Common.{arith, length-set, rules}
+use Rattle.std.proofs.Common.{arith, length-set}
 use Rattle.generator.proofs.TableLaw.{spelled-row}
 use Rattle.generator.proofs.pairs.put.Goals as goal
 

@@ -1,5 +1,4 @@
 -- `put_fault`: a fault is not drawn, has no other output, is one too many, or is put.
-use Rattle.std.proofs.Common.{rules}
 use Rattle.generator.proofs.StandingLaw.{fault-not-drawn, fault-one-output, fault-too-many, fault-put}
 use Rattle.generator.proofs.pairs.put_fault.Goals as goal
 

@@ -1,5 +1,5 @@
 -- `put_pair`: pair i is that of the state i / k and the input i % k.
-use Rattle.std.proofs.Common.{◌/◌, ◌%◌, arith, rules}
+use Rattle.std.proofs.Common.{◌/◌, ◌%◌, arith}
 use Rattle.generator.proofs.laws.PairLaw.{pair-state, pair-input}
 use Rattle.generator.proofs.laws.DraftLaw.{rule-in}
 use Rattle.generator.proofs.laws.GeneratedLaw.{few-pairs}

@@ -1,7 +1,5 @@
 -- `put_pairs`: the rows of the first i pairs stand in the tables.
-use Rattle.std.proofs.Common.{◌≡◌, ◌-◌, ◌*◌, ◌≤◌, arith}
-use Rattle.generator.specs.Generating.{drafted}
-use Rattle.generator.specs.words.Standing.{Standing}
+use Rattle.std.proofs.Common.{◌≡◌, ◌*◌, arith}
 use Rattle.generator.proofs.laws.GeneratedLaw.{few-pairs}
 use Rattle.generator.proofs.StandingLaw.{standing-start, standing-few, standing-ready, standing-more}
 use Rattle.generator.proofs.pairs.put_pairs.Goals as goal

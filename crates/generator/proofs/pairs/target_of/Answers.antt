@@ -1,4 +1,4 @@
-use Rattle.std.proofs.Common.{rules, eq-eqb, ne_eqb}
+use Rattle.std.proofs.Common.{eq-eqb, ne_eqb}
 use Rattle.generator.proofs.pairs.target_of.Goals as goal
 
 pub returns-then-x-eq0 : goal.returns-then-x-eq0

@@ -1,4 +1,3 @@
-use Rattle.lists.specs.Proving.{rules}
 use Rattle.logs.specs.laws.SuitesLaw.{located, roomy, logged}
 use Rattle.logs.proofs.suite.log_suite.Goals as goal
 

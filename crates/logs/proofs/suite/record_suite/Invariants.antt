@@ -1,6 +1,6 @@
 -- `record_suite`: the tests before t are written.
-use Rattle.lists.specs.Proving.{rules, arith, ◌-◌}
-use Rattle.logs.proofs.RecordLaw.{Suiting, suite-start, suite-room, suite-more, suite-end}
+use Rattle.std.specs.Prelude.{◌-◌}
+use Rattle.logs.proofs.RecordLaw.{Suiting}
 use Rattle.logs.proofs.suite.record_suite.Given as goal
 
 abbrev pub invariant-loop-t : goal.invariant-loop-t

@@ -1,11 +1,9 @@
 -- `record_test`: the inputs before `at` are written.
-use Rattle.lists.specs.Proving.{rules, arith, ◌+◌, refl, ◌∙◌, get_or, set, length-set}
+use Rattle.std.specs.Prelude.{◌+◌}
+use Rattle.lists.specs.Proving.{arith, ◌∙◌, get_or, set, length-set}
 use Rattle.lists.specs.Lists.{joined}
-use Rattle.model.specs.Log.{test_log}
-use Rattle.block.specs.Tabulated.{rule_of}
 use Rattle.block.specs.Logged.{log_bytes}
-use Rattle.logs.specs.Tests.{inputs_at}
-use Rattle.logs.proofs.RecordLaw.{written_none, written_one, written_both, Testing, testing-start, testing-next, testing-more, testing-end}
+use Rattle.logs.proofs.RecordLaw.{written_none, written_one, written_both, testing-start, testing-next, testing-more, testing-end}
 use Rattle.logs.proofs.suite.record_test.Goals as goal
 
 pub bounds-log-from : goal.bounds-log-from
@@ -32,7 +30,7 @@ pub overflow_add-log-in-loop-left : goal.overflow_add-log-in-loop-left
 overflow_add-log-in-loop-left c = omega (arith, (testing-next c.requires.test_at.low c.loop-left.invariant c.loop-left-test.true).room, c.loop-left.invariant.wrote.long, length-set c.args.log.now c.args.from 16)
 
 pub bounds-log-to-in-loop-left-2 : goal.bounds-log-to-in-loop-left-2
-bounds-log-to-in-loop-left-2 c = 
+bounds-log-to-in-loop-left-2 c =
     let old = c.loop-left.log in
     let to = c.loop-left.to in
     omega (arith, (testing-next c.requires.test_at.low c.loop-left.invariant c.loop-left-test.true).room, length-set old to 17, length-set (set old to 17) (to + 1) (get_or c.args.sheet.now (c.loop-left.at + 1) 0))
@@ -41,7 +39,7 @@ pub overflow_add-to-in-loop-left : goal.overflow_add-to-in-loop-left
 overflow_add-to-in-loop-left c = omega (arith, (testing-next c.requires.test_at.low c.loop-left.invariant c.loop-left-test.true).room, c.loop-left.invariant.wrote.long, length-set c.args.log.now c.args.from 16)
 
 pub loop-left-preserved : goal.loop-left-preserved
-loop-left-preserved c = 
+loop-left-preserved c =
     rw c.rule_target-s.ensures (testing-more c.requires.test_at.low c.loop-left.invariant c.loop-left-test.true c.place-k.ensures.0 c.rule_output.ensures)
 
 pub shape_of-log : goal.shape_of-log

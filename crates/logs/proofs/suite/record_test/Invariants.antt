@@ -1,11 +1,9 @@
 -- `record_test`: the inputs before `at` are written.
-use Rattle.lists.specs.Proving.{rules, arith, ◌+◌, refl, ◌∙◌, get_or, set, length-set}
-use Rattle.lists.specs.Lists.{joined}
 use Rattle.model.specs.Log.{test_log}
 use Rattle.block.specs.Tabulated.{rule_of}
 use Rattle.block.specs.Logged.{log_bytes}
 use Rattle.logs.specs.Tests.{inputs_at}
-use Rattle.logs.proofs.RecordLaw.{written_none, written_one, written_both, Testing, testing-start, testing-next, testing-more, testing-end}
+use Rattle.logs.proofs.RecordLaw.{Testing}
 use Rattle.logs.proofs.suite.record_test.Given as goal
 
 abbrev pub invariant-loop-left : goal.invariant-loop-left

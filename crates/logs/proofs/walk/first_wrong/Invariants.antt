@@ -1,6 +1,7 @@
 -- `first_wrong`: the mutant gives the observations before i.
-use Rattle.lists.specs.Proving.{rules, arith, ◌-◌, length}
-use Rattle.logs.proofs.WrongLaw.{Walking, walk_start, walk-reset, walk-nothing, walk-right, walk-wrong, walk_end}
+use Rattle.std.specs.Prelude.{◌-◌}
+use Rattle.lists.specs.Proving.{length}
+use Rattle.logs.proofs.WrongLaw.{Walking}
 use Rattle.logs.proofs.walk.first_wrong.Given as goal
 
 abbrev pub invariant-loop-i : goal.invariant-loop-i

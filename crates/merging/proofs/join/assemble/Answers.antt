@@ -1,5 +1,4 @@
 -- `assemble`: one part after another.
-use Rattle.lists.specs.Proving.{rules}
 use Rattle.writing.proofs.laws.SpelledLaw.{spelled-both}
 use Rattle.merging.proofs.join.assemble.Goals as goal
 

@@ -1,5 +1,5 @@
 -- `join`: another machine, or the united parts within the limits.
-use Rattle.lists.specs.Proving.{rules, arith, ◌≡◌, refl, sym, ◌∙◌, not-true, not-false}
+use Rattle.lists.specs.Proving.{arith, refl, sym, ◌∙◌}
 use lib.Seq.{length-take-le}
 use Rattle.renaming.specs.Merging.{merged}
 use Rattle.merging.proofs.PartsLaw.{head-inside, fault-part, fault-room, start-part, start-room}

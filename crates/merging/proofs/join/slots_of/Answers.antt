@@ -1,5 +1,4 @@
 -- `slots_of`: where a mutant wakes counts as one.
-use Rattle.lists.specs.Proving.{rules}
 use Rattle.merging.proofs.JoinLaw.{slots-plain, slots-waking}
 use Rattle.merging.proofs.join.slots_of.Goals as goal
 

@@ -1,5 +1,4 @@
 -- `is_open`: in the first, or in the second.
-use Rattle.lists.specs.Proving.{rules}
 use Rattle.merging.proofs.OpenLaw.{either_first, either_second}
 use Rattle.merging.proofs.outline.is_open.Goals as goal
 

@@ -1,5 +1,6 @@
 -- `open_at`: those before x are counted.
-use Rattle.lists.specs.Proving.{rules, arith, sym, ◌∙◌, ap, ◌≡◌, refl, ◌-◌, ◌≤◌, ⊎_elim}
+use Rattle.std.specs.Prelude.{◌≡◌}
+use Rattle.lists.specs.Proving.{arith, sym, ◌∙◌, ap, refl}
 use Rattle.lists.specs.Lists.{count}
 use Rattle.merging.specs.words.Outlined.{either_open}
 use Rattle.merging.proofs.OpenLaw.{count_yes, count_no}
@@ -15,9 +16,9 @@ is_open-requires c = (omega arith, omega arith)
 
 pub loop-x-preserved : goal.loop-x-preserved
 loop-x-preserved c = elim c.if-is_open.branch [
-    then-is_open w ↦ (omega arith, omega (arith, w.n-is), w.n-is ∙ count_yes _ _ _ (sym c.is_open.ensures ∙ w.if-is_open.true) c.loop-x.invariant.2)
-    | else-is_open w ↦ (omega arith, omega (arith, w.n-is), w.n-is ∙ count_no _ _ _ (sym c.is_open.ensures ∙ w.if-is_open.false) c.loop-x.invariant.2)
-    ]
+  | then-is_open w ↦ (omega arith, omega (arith, w.n-is), w.n-is ∙ count_yes _ _ _ (sym c.is_open.ensures ∙ w.if-is_open.true) c.loop-x.invariant.2)
+  | else-is_open w ↦ (omega arith, omega (arith, w.n-is), w.n-is ∙ count_no _ _ _ (sym c.is_open.ensures ∙ w.if-is_open.false) c.loop-x.invariant.2)
+]
 
 pub returns : goal.returns
 returns c = let a = c.args in

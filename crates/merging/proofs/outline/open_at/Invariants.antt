@@ -1,8 +1,7 @@
 -- `open_at`: those before x are counted.
-use Rattle.lists.specs.Proving.{rules, arith, sym, ◌∙◌, ap, ◌≡◌, refl, ◌-◌, ◌≤◌, ⊎_elim}
+use Rattle.std.specs.Prelude.{◌≡◌, ◌-◌, ◌≤◌}
 use Rattle.lists.specs.Lists.{count}
 use Rattle.merging.specs.words.Outlined.{either_open}
-use Rattle.merging.proofs.OpenLaw.{count_yes, count_no}
 use Rattle.merging.proofs.outline.open_at.Given as goal
 
 abbrev pub invariant-loop-x : goal.invariant-loop-x

@@ -1,7 +1,6 @@
 -- `open_pairs`: those at the states before s are counted.
-use Rattle.lists.specs.Proving.{rules, arith, ◌∙◌, ap₂, ◌≡◌, refl, ◌-◌, ◌*◌, ◌≤◌}
+use Rattle.std.specs.Prelude.{◌≡◌, ◌-◌, ◌*◌, ◌≤◌}
 use Rattle.merging.specs.words.Outlined.{open_both}
-use Rattle.merging.proofs.OpenLaw.{open_more}
 use Rattle.merging.proofs.outline.open_pairs.Given as goal
 
 abbrev pub invariant-loop-s : goal.invariant-loop-s

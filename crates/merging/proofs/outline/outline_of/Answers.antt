@@ -1,5 +1,5 @@
 -- `outline_of`: each part ends as many bytes later as it has.
-use Rattle.lists.specs.Proving.{rules, arith, refl}
+use Rattle.lists.specs.Proving.{arith, refl}
 use Rattle.merging.proofs.PartsLaw.{counts, short, some-waking, laid}
 use Rattle.merging.proofs.outline.outline_of.Goals as goal
 

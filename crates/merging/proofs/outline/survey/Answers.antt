@@ -1,5 +1,5 @@
 -- `survey`: of the tables, the choices.
-use Rattle.lists.specs.Proving.{rules, refl}
+use Rattle.lists.specs.Proving.{refl}
 use Rattle.merging.proofs.MergeLaw.{surveyed}
 use Rattle.merging.proofs.outline.survey.Goals as goal
 

@@ -10,19 +10,15 @@ use Rattle.mutation.proofs.FailureLaw.{inside, found-reached, first_found}
 use Rattle.mutation.proofs.suite.first_failed_logged.Goals as goal
 
 pub returns-in-Refused : goal.returns-in-Refused
-returns-in-Refused c = let =.§at-machine-of c in
-    λ sh su.
-    sym (ap failed_answer (mutant-refused su.tabled (at-machine-of.machine-of.ensures sh su.tabled) c.in-Refused.is (accepted (finding_of sh at-machine-of.§entry.args.mutant.now))))
+returns-in-Refused c = λ sh su.
+    sym (ap failed_answer (mutant-refused su.tabled (c.machine_of-machine.ensures sh su.tabled) c.in-Refused.is (accepted (finding_of sh c.args.mutant.now))))
 
 pub slice_bounds-wrong_along-end : goal.slice_bounds-wrong_along-end
-slice_bounds-wrong_along-end c = let (sh, su) = (entry c).requires in
+slice_bounds-wrong_along-end c = let (sh, su) = c.requires in
     (c.log_suite-n.ensures sh su).inside
 
-pub slice_bounds-wrong_along-end-2 : goal.slice_bounds-wrong_along-end-2
-slice_bounds-wrong_along-end-2 c = sym (length-take-le _ _ (slice-reshare-prefix-wrong-along c))
-
 pub use_tried-set-requires : goal.use_tried-set-requires
-use_tried-set-requires c = let (sh, su) = (entry c).requires in
+use_tried-set-requires c = let (sh, su) = c.requires in
     let pl = plays su.tabled (c.machine_of-machine.ensures sh su.tabled) c.in_default.is in
     (inside su, found-reached su pl (c.log_suite-n.ensures sh su) c.wrong_along-found.ensures)
 

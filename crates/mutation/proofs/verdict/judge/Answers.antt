@@ -3,4 +3,4 @@ use borrow.Author.Rules.{rules}
 use Rattle.mutation.proofs.verdict.judge.Goals as goal
 
 pub returns : goal.returns
-returns c = let e = c.judge_counting.ensures in record { answer = e.0; board = e.1.0; sequence = e.1.1.0; told = e.1.1.1.0 }
+returns c = let e = c.judge_counting.ensures in record { answer = e.answer; board = e.board; sequence = e.sequence; told = e.told }

@@ -12,46 +12,44 @@ use Rattle.logs.specs.laws.SuitesLaw.{suite-short, suite-long}
 use Rattle.mutation.proofs.JudgingLaw.{by-log}
 use Rattle.mutation.proofs.verdict.judge_suite.Goals as goal
 
-abbrev Read : tie.After-slice-known2 → Sheet → Type 0
-Read c sh = let a = (entry c).args in ReadFrom sh a.sheet.now a.starts.now a.lengths.now a.tests a.block.now
--- the suite's log, in either array
-
 pub log_suite-n-requires : goal.log_suite-n-requires
 log_suite-n-requires c = let (sh, rd) = c.requires.0 in (sh, suite-short rd (omega (arith, c.if-sheet-le1024.true)))
 
 pub slice_bounds-short-end : goal.slice_bounds-short-end
-slice_bounds-short-end c = let short-log : (sh : Sheet) → Read c sh → (log : List ℕ) × Logged sh log c.log_suite-n.result = λ sh rd. (_, c.log_suite-n.ensures sh (suite-short rd (omega (arith, c.if-sheet-le1024.true)))) in
+slice_bounds-short-end c = let short-log : (sh : Sheet) → ReadFrom sh c.args.sheet.now c.args.starts.now c.args.lengths.now c.args.tests c.args.block.now → (log : List ℕ) × Logged sh log c.log_suite-n.result = λ sh rd. (_, c.log_suite-n.ensures sh (suite-short rd (omega (arith, c.if-sheet-le1024.true)))) in
     let (sh, rd) = c.requires.0 in (short-log sh rd).1.inside
 
 pub slice_bounds-conclude-end : goal.slice_bounds-conclude-end
-slice_bounds-conclude-end c = sym (length-take-le _ _ (array-share-prefix-short c))
+slice_bounds-conclude-end c = let short-log : (sh : Sheet) → ReadFrom sh c.args.sheet.now c.args.starts.now c.args.lengths.now c.args.tests c.args.block.now → (log : List ℕ) × Logged sh log c.log_suite-n.result = λ sh rd. (_, c.log_suite-n.ensures sh (suite-short rd (omega (arith, c.if-sheet-le1024.true)))) in
+    let (sh, rd) = c.requires.0 in sym (length-take-le _ _ (short-log sh rd).1.inside)
 
 pub conclude-requires : goal.conclude-requires
-conclude-requires c = let short-log : (sh : Sheet) → Read c sh → (log : List ℕ) × Logged sh log c.log_suite-n.result = λ sh rd. (_, c.log_suite-n.ensures sh (suite-short rd (omega (arith, c.if-sheet-le1024.true)))) in
+conclude-requires c = let short-log : (sh : Sheet) → ReadFrom sh c.args.sheet.now c.args.starts.now c.args.lengths.now c.args.tests c.args.block.now → (log : List ℕ) × Logged sh log c.log_suite-n.result = λ sh rd. (_, c.log_suite-n.ensures sh (suite-short rd (omega (arith, c.if-sheet-le1024.true)))) in
     let pre = c.requires in
     let (sh, rd) = pre.0 in
     ((sh, by-log rd (short-log sh rd).1), pre.1)
 
 pub returns-then-sheet-le1024 : goal.returns-then-sheet-le1024
-returns-then-sheet-le1024 c = let short-log : (sh : Sheet) → Read c sh → (log : List ℕ) × Logged sh log c.log_suite-n.result = λ sh rd. (_, c.log_suite-n.ensures sh (suite-short rd (omega (arith, c.if-sheet-le1024.true)))) in
+returns-then-sheet-le1024 c = let short-log : (sh : Sheet) → ReadFrom sh c.args.sheet.now c.args.starts.now c.args.lengths.now c.args.tests c.args.block.now → (log : List ℕ) × Logged sh log c.log_suite-n.result = λ sh rd. (_, c.log_suite-n.ensures sh (suite-short rd (omega (arith, c.if-sheet-le1024.true)))) in
     record { judges = λ sh rd. c.conclude.ensures.judges sh (by-log rd (short-log sh rd).1); measured = c.conclude.ensures.measured }
 
 pub log_suite-n-requires-2 : goal.log_suite-n-requires-2
 log_suite-n-requires-2 c = let (sh, rd) = c.requires.0 in (sh, suite-long rd (omega arith))
 
 pub slice_bounds-long-end : goal.slice_bounds-long-end
-slice_bounds-long-end c = let long-log : (sh : Sheet) → Read c sh → (log : List ℕ) × Logged sh log c.log_suite-n-2.result = λ sh rd. (_, c.log_suite-n-2.ensures sh (suite-long rd (omega arith))) in
+slice_bounds-long-end c = let long-log : (sh : Sheet) → ReadFrom sh c.args.sheet.now c.args.starts.now c.args.lengths.now c.args.tests c.args.block.now → (log : List ℕ) × Logged sh log c.log_suite-n-2.result = λ sh rd. (_, c.log_suite-n-2.ensures sh (suite-long rd (omega arith))) in
     let (sh, rd) = c.requires.0 in (long-log sh rd).1.inside
 
 pub slice_bounds-conclude-end-2 : goal.slice_bounds-conclude-end-2
-slice_bounds-conclude-end-2 c = sym (length-take-le _ _ (array-share-prefix-long c))
+slice_bounds-conclude-end-2 c = let long-log : (sh : Sheet) → ReadFrom sh c.args.sheet.now c.args.starts.now c.args.lengths.now c.args.tests c.args.block.now → (log : List ℕ) × Logged sh log c.log_suite-n-2.result = λ sh rd. (_, c.log_suite-n-2.ensures sh (suite-long rd (omega arith))) in
+    let (sh, rd) = c.requires.0 in sym (length-take-le _ _ (long-log sh rd).1.inside)
 
 pub conclude-requires-2 : goal.conclude-requires-2
-conclude-requires-2 c = let long-log : (sh : Sheet) → Read c sh → (log : List ℕ) × Logged sh log c.log_suite-n-2.result = λ sh rd. (_, c.log_suite-n-2.ensures sh (suite-long rd (omega arith))) in
+conclude-requires-2 c = let long-log : (sh : Sheet) → ReadFrom sh c.args.sheet.now c.args.starts.now c.args.lengths.now c.args.tests c.args.block.now → (log : List ℕ) × Logged sh log c.log_suite-n-2.result = λ sh rd. (_, c.log_suite-n-2.ensures sh (suite-long rd (omega arith))) in
     let pre = c.requires in
     let (sh, rd) = pre.0 in
     ((sh, by-log rd (long-log sh rd).1), pre.1)
 
 pub returns : goal.returns
-returns c = let long-log : (sh : Sheet) → Read c sh → (log : List ℕ) × Logged sh log c.log_suite-n-2.result = λ sh rd. (_, c.log_suite-n-2.ensures sh (suite-long rd (omega arith))) in
+returns c = let long-log : (sh : Sheet) → ReadFrom sh c.args.sheet.now c.args.starts.now c.args.lengths.now c.args.tests c.args.block.now → (log : List ℕ) × Logged sh log c.log_suite-n-2.result = λ sh rd. (_, c.log_suite-n-2.ensures sh (suite-long rd (omega arith))) in
     record { judges = λ sh rd. c.conclude-2.ensures.judges sh (by-log rd (long-log sh rd).1); measured = c.conclude-2.ensures.measured }

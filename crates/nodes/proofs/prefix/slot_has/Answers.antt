@@ -16,5 +16,5 @@ pub returns-then-t-ge16 : goal.returns-then-t-ge16
 returns-then-t-ge16 c = λ e. void e
 
 pub returns : goal.returns
-returns c = 
+returns c =
     λ e. slot-some _ c.transition-step.result c.requires.0 c.requires.1 c.pair_of-k.ensures (sym c.site.ensures ∙ c.if-site-i.false) (rw c.wide-2.ensures.0) c.if-c-eq256.false c.transition-step.ensures (rw (← c.wide.ensures.0) (c.means.ensures e))

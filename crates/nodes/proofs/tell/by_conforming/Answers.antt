@@ -6,5 +6,5 @@ pub returns-then-not-propose : goal.returns-then-not-propose
 returns-then-not-propose c = λ e. void (sym c.unknown.ensures ∙ e)
 
 pub closed-ok-requires : goal.closed-ok-requires
-closed-ok-requires c = 
+closed-ok-requires c =
     record { wf = c.requires.wf; tables = c.requires.free }

@@ -2,7 +2,7 @@ use Rattle.lists.specs.Proving.{rules}
 use Rattle.nodes.proofs.tell.by_test.Goals as goal
 
 pub fails-ok-requires : goal.fails-ok-requires
-fails-ok-requires c = 
+fails-ok-requires c =
     record { wf = c.requires.wf; tables = c.requires.free }
 
 pub returns : goal.returns

@@ -1,4 +1,3 @@
-use Rattle.lists.specs.Proving.{rules}
 use Rattle.renaming.specs.Renaming.{met_by}
 use Rattle.renaming.proofs.laws.MetLaw.{met-states}
 use Rattle.numbering.proofs.SearchLaw.{look-state, look-met, look-past}

@@ -1,5 +1,5 @@
 -- `meet`: no state, one met before, or a new one.
-use Rattle.lists.specs.Proving.{rules, arith}
+use Rattle.lists.specs.Proving.{arith}
 use Rattle.numbering.proofs.SearchLaw.{meet-none, meet-old, meet-room, meet-new}
 use Rattle.numbering.proofs.first_reached.meet.Goals as goal
 

@@ -1,11 +1,5 @@
 -- `meet_from`: the states that s leads to by the inputs below x.
-use Rattle.lists.specs.Proving.{rules, arith, ◌-◌, ◌<◌, ◌≤◌, List}
-use Prim.Native.Nat.{ℕ}
-use Rattle.sheet.specs.Sheet.{Sheet}
-use Rattle.renaming.specs.Renaming.{meet_from}
-use Rattle.renaming.proofs.laws.MetLaw.{Met}
-use Rattle.renaming.proofs.laws.MarkLaw.{Marked}
-use Rattle.numbering.specs.words.Searched.{Searched}
+use Rattle.lists.specs.Proving.{arith}
 use Rattle.numbering.proofs.SearchLaw.{read-there, from-none, from-room, from_more, from_all}
 use Rattle.numbering.proofs.first_reached.meet_from.Goals as goal
 
@@ -29,12 +23,12 @@ loop-x-smaller c = omega (arith, c.loop-x-test.true)
 
 pub loop-x-preserved : goal.loop-x-preserved
 loop-x-preserved c = (
-      omega (arith, c.loop-x-test.true),
-      λ sh met h l hm m.
-          let is = read-there h _ _ _ l c.loop-x-test.true c.place.ensures.0 in
-          from_more h _ l met _ c.loop-x-test.true _ is
-          (c.meet-met.ensures _ (c.loop-x.invariant.1 sh met h l hm m) (from-room h _ l met _ c.loop-x-test.true _ is hm)),
-    )
+  omega (arith, c.loop-x-test.true),
+  λ sh met h l hm m.
+      let is = read-there h _ _ _ l c.loop-x-test.true c.place.ensures.0 in
+      from_more h _ l met _ c.loop-x-test.true _ is
+      (c.meet-met.ensures _ (c.loop-x.invariant.1 sh met h l hm m) (from-room h _ l met _ c.loop-x-test.true _ is hm)),
+)
 
 pub returns : goal.returns
 returns c = λ sh met h l hm m. from_all sh _ met c.loop-x.invariant.0 c.loop-x-test.false (c.loop-x.invariant.1 sh met h l hm m)

@@ -1,9 +1,5 @@
 -- `numbers_of`: the search has looked at the first i states.
-use Rattle.lists.specs.Proving.{rules, arith, ◌-◌, ◌≤◌}
-use Rattle.sheet.specs.Sheet.{Sheet}
-use Rattle.renaming.specs.Renaming.{met_by}
-use Rattle.renaming.proofs.laws.MarkLaw.{Marked}
-use Rattle.numbering.specs.words.Searched.{Searched}
+use Rattle.lists.specs.Proving.{arith}
 use Rattle.numbering.proofs.SearchLaw.{look-more, looked-none, looked-all}
 use Rattle.numbering.proofs.first_reached.numbers_of.Goals as goal
 

@@ -1,5 +1,4 @@
 use borrow.Author.Tests.{le-ltb, lt-ltb}
-use borrow.Author.Rules.{rules}
 use Rattle.reading.proofs.filling.choices_of.Goals as goal
 
 pub returns-then-next-lt16 : goal.returns-then-next-lt16

@@ -1,7 +1,4 @@
-use Prim.Native.Nat.{◌-◌, ◌≤◌}
 use native.Mathlib.Omega.{arith}
-use Rattle.sheet.specs.Sheet.{Sheet}
-use Rattle.reading.specs.words.Places.{Table, Countable}
 use Rattle.reading.proofs.FillLaw as laws
 use Rattle.reading.proofs.filling.count_choices.Goals as goal
 

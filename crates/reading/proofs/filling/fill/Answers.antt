@@ -1,5 +1,4 @@
 -- the places, from each to the one before
-use Prim.Native.Nat.{◌≤◌}
 use native.Mathlib.Omega.{arith}
 use mathlib.Core.Path.{refl}
 use Rattle.sheet.specs.Sheet.{Sheet}
@@ -7,7 +6,6 @@ use Rattle.reading.specs.words.Places.{Fillable, LaidOut}
 use Rattle.reading.proofs.FillLaw.{faults-none, tests-none}
 use Rattle.reading.proofs.SpanLaw.{faults-are, tests-are}
 use Rattle.reading.proofs.LoadLaw as laws
-use borrow.Author.Rules.{rules}
 use Rattle.reading.proofs.filling.fill.Goals as goal
 
 pub layout_of-layout-requires : goal.layout_of-layout-requires

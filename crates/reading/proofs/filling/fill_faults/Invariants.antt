@@ -1,12 +1,10 @@
-use Prim.Native.Nat.{◌-◌, ◌<◌, ◌≤◌}
+use Prim.Native.Nat.{◌-◌, ◌≤◌}
 use mathlib.Core.Path.{◌≡◌}
 use mathlib.Core.List.{List, []}
-use native.Mathlib.Omega.{arith}
 use lib.ListN.{length}
 use Rattle.sheet.specs.declared.Row.{Row}
 use Rattle.reading.specs.words.Places.{FaultsFrom, FaultTables}
 use Rattle.reading.proofs.FillLaw as laws
-use borrow.Author.Rules.{rules}
 use Rattle.reading.proofs.filling.fill_faults.Given as goal
 
 abbrev pub invariant-loop-i : goal.invariant-loop-i

@@ -1,6 +1,5 @@
 use native.Mathlib.Omega.{arith}
 use Rattle.reading.proofs.FillLaw as laws
-use borrow.Author.Rules.{rules}
 use Rattle.reading.proofs.filling.note_fault.Goals as goal
 
 pub overflow_add-count : goal.overflow_add-count

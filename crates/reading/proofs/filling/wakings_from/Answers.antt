@@ -1,11 +1,5 @@
-use Prim.Native.Nat.{ℕ, ◌-◌, ◌≤◌}
-use mathlib.Core.Path.{◌≡◌}
-use mathlib.Core.List.{List}
 use native.Mathlib.Omega.{arith}
-use lib.ListN.{length}
-use Rattle.reading.specs.words.Places.{StartsFrom}
 use Rattle.reading.proofs.FillLaw as laws
-use borrow.Author.Rules.{rules}
 use Rattle.reading.proofs.filling.wakings_from.Goals as goal
 
 pub loop-i-init : goal.loop-i-init

@@ -1,6 +1,5 @@
 use Rattle.sheet.specs.laws.EncodedLaw.{encoded}
 use Rattle.reading.proofs.PlaceLaw.{quiet-fetched}
-use borrow.Author.Rules.{rules}
 use Rattle.reading.proofs.part.is_quiet.Goals as goal
 
 pub returns : goal.returns

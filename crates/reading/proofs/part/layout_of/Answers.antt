@@ -3,7 +3,6 @@ use native.Mathlib.Omega.{arith}
 use lib.ListN.{length}
 use mathlib.Core.Path.{refl, ◌∙◌}
 use Rattle.reading.proofs.SpanLaw as laws
-use borrow.Author.Rules.{rules}
 use Rattle.reading.proofs.part.layout_of.Goals as goal
 
 pub overflow_mul-faults : goal.overflow_mul-faults

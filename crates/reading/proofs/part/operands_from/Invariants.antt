@@ -1,12 +1,10 @@
 use Prim.Native.Nat.{ℕ, ◌+◌, ◌*◌, ◌-◌, ◌≤◌}
 use mathlib.Core.Path.{◌≡◌}
 use mathlib.Core.List.{List, ◌++◌}
-use native.Mathlib.Omega.{arith}
 use lib.ListN.{length, drop}
 use Rattle.sheet.specs.Encode.{operand_bytes}
 use Rattle.sheet.specs.laws.InjectiveLaw.{Else}
 use Rattle.reading.proofs.PlaceLaw as laws
-use borrow.Author.Rules.{rules}
 use Rattle.reading.proofs.part.operands_from.Given as goal
 
 abbrev pub invariant-loop-at : goal.invariant-loop-at

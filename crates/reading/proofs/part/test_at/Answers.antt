@@ -1,7 +1,6 @@
 use mathlib.Core.Path.{refl}
 use native.Mathlib.Omega.{arith}
 use Rattle.reading.proofs.PlaceLaw as laws
-use borrow.Author.Rules.{rules}
 use Rattle.reading.proofs.part.test_at.Goals as goal
 
 pub operands_from-n-requires : goal.operands_from-n-requires

@@ -1,10 +1,8 @@
 use Prim.Native.Nat.{ℕ, ◌-◌, ◌<◌, ◌≤◌}
-use mathlib.Core.Path.{◌≡◌, ap, ◌∙◌}
+use mathlib.Core.Path.{◌≡◌}
 use mathlib.Core.List.{List, [], ◌∷◌, ◌++◌}
-use native.Mathlib.Omega.{arith}
 use lib.ListN.{length, drop}
 use Rattle.sheet.specs.Encode.{test_bytes}
-use Rattle.reading.specs.words.Places.{span_from}
 use Rattle.reading.proofs.PlaceLaw as laws
 use Rattle.reading.proofs.part.test_from.Given as goal
 

@@ -1,4 +1,5 @@
-use Rattle.lists.specs.Proving.{◌+◌, ◌-◌, ◌≡◌, length}
+use Rattle.std.specs.Prelude.{◌+◌, ◌-◌, ◌≡◌}
+use Rattle.lists.specs.Proving.{length}
 use Rattle.store.specs.Store.{StoreOk}
 use Rattle.refutation.proofs.BranchLaw.{Trying, Splitting}
 use Rattle.refutation.proofs.branch.+explore.Given as goal

@@ -1,5 +1,5 @@
 -- `settled_as`: the choices before j are settled.
-use Rattle.lists.specs.Proving.{◌-◌}
+use Rattle.std.specs.Prelude.{◌-◌}
 use Rattle.search.proofs.AfterLaw.{FilledTo}
 use Rattle.search.proofs.settle.settled_as.Given as goal
 

@@ -44,8 +44,8 @@ loop-j-preserved c = (
   omega arith,
   c.loop-j.invariant.1,
   c.loop-j.invariant.2,
-  λ sh t w. rw add-one (walk-on w {j = c.loop-j.j} (c.loop-j.invariant.3 sh t w) (omega (arith, c.if-part-position.false, c.loop-j-test.true)) c.place-at.ensures.value)
-  )
+  λ sh t w. rw add-one (walk-on w {j = c.loop-j.j} (c.loop-j.invariant.3 sh t w) (omega (arith, c.if-part-position.false, c.loop-j-test.true)) c.place-at.ensures.value),
+)
 
 pub overflow_mul-position : goal.overflow_mul-position
 overflow_mul-position c = omega (arith, c.if-part-position.false)

@@ -11,7 +11,7 @@ use Rattle.station.proofs.WalkLaw.{state-low, press-low, walk-on, walk-output, w
 use Rattle.station.proofs.hearing.output_in.Given as goal
 
 abbrev pub invariant-loop-j : goal.invariant-loop-j
-invariant-loop-j l =     (l.j ≤ l.position) × (length l.targets ≡ 256) × (length l.outputs ≡ 256) × ((sh : Sheet) (t : List ℕ) → Walk sh t l.part l.outputs l.targets → after sh.rules 0 (take l.j t) ≡ some l.s)
+invariant-loop-j l = (l.j ≤ l.position) × (length l.targets ≡ 256) × (length l.outputs ≡ 256) × ((sh : Sheet) (t : List ℕ) → Walk sh t l.part l.outputs l.targets → after sh.rules 0 (take l.j t) ≡ some l.s)
 
 abbrev pub decreases-loop-j : goal.decreases-loop-j
 decreases-loop-j l = l.position - l.j

@@ -9,5 +9,5 @@ pub returns-then-e-n : goal.returns-then-e-n
 returns-then-e-n c = learns_none c.place-e.ensures
 
 pub returns : goal.returns
-returns c = 
+returns c =
     learns-more c.place-e.ensures c.if-not-ok.false c.write.ensures

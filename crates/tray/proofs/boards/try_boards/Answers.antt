@@ -1,5 +1,6 @@
 -- `try_boards`: the results of the first i stand at the front.
-use Rattle.lists.specs.Proving.{rules, arith, ◌-◌, ◌≤◌, ◌≡◌, ◌∙◌, length}
+use Rattle.std.specs.Prelude.{◌-◌, ◌≤◌, ◌≡◌}
+use Rattle.lists.specs.Proving.{rules, arith, ◌∙◌, length}
 use Rattle.sheet.specs.Sheet.{Sheet}
 use Rattle.model.specs.Mutant.{slots}
 use Rattle.search.specs.Search.{ForSheet}
@@ -29,7 +30,7 @@ pub offset_bounds-results-i : goal.offset_bounds-results-i
 offset_bounds-results-i c = let slots-count : (sh : Sheet) → ForSheet sh c.args.block.now c.args.log.now → c.wide-count.result ≡ length (slots sh) = λ sh su. c.wide-count.ensures.0 ∙ c.slots.ensures ∙ su.tabled.count in
     let pre = c.requires in
     let inv = c.loop-i.invariant.1 pre.0 pre.1 pre.2 in
-    omega (arith, c.well_formed, c.fits, inv.long, tried-room pre.2 c.loop-i-test.true (slots-count pre.0 pre.1) inv)
+    omega (arith, c.well_formed, inv.long, tried-room pre.2 c.loop-i-test.true (slots-count pre.0 pre.1) inv)
 
 pub bounds-results-i : goal.bounds-results-i
 bounds-results-i c = let slots-count : (sh : Sheet) → ForSheet sh c.args.block.now c.args.log.now → c.wide-count.result ≡ length (slots sh) = λ sh su. c.wide-count.ensures.0 ∙ c.slots.ensures ∙ su.tabled.count in

@@ -11,44 +11,42 @@ use Rattle.tray.proofs.boards.try_suite.Goals as goal
 by-log : {sh : Sheet} {s starts lengths m log : List ℕ} {tests n : ℕ} → ReadFrom sh s starts lengths tests m → Logged sh log n → ForSheet sh m (take n log)
 by-log rd lg = record { tabled = rd.loads.tabled; suite = lg.is }
 
-abbrev Read : tie.After-slice-known → Sheet → Type 0
-Read c sh = let a = (entry c).args in ReadFrom sh a.sheet.now a.starts.now a.lengths.now a.tests a.block.now
--- the suite's log, in either array
-
 pub log_suite-n-requires : goal.log_suite-n-requires
 log_suite-n-requires c = let pre = c.requires in (pre.0, suite-short pre.1 (omega (arith, c.if-sheet-le1024.true)))
 
 pub slice_bounds-short-end : goal.slice_bounds-short-end
-slice_bounds-short-end c = let short-log : (sh : Sheet) → Read c sh → (log : List ℕ) × Logged sh log c.log_suite-n.result = λ sh rd. (_, c.log_suite-n.ensures sh (suite-short rd (omega (arith, c.if-sheet-le1024.true)))) in
+slice_bounds-short-end c = let short-log : (sh : Sheet) → ReadFrom sh c.args.sheet.now c.args.starts.now c.args.lengths.now c.args.tests c.args.block.now → (log : List ℕ) × Logged sh log c.log_suite-n.result = λ sh rd. (_, c.log_suite-n.ensures sh (suite-short rd (omega (arith, c.if-sheet-le1024.true)))) in
     let pre = c.requires in (short-log pre.0 pre.1).1.inside
 
 pub slice_bounds-try_boards-end : goal.slice_bounds-try_boards-end
-slice_bounds-try_boards-end c = sym (length-take-le _ _ (array-share-prefix-short c))
+slice_bounds-try_boards-end c = let short-log : (sh : Sheet) → ReadFrom sh c.args.sheet.now c.args.starts.now c.args.lengths.now c.args.tests c.args.block.now → (log : List ℕ) × Logged sh log c.log_suite-n.result = λ sh rd. (_, c.log_suite-n.ensures sh (suite-short rd (omega (arith, c.if-sheet-le1024.true)))) in
+    let pre = c.requires in sym (length-take-le _ _ (short-log pre.0 pre.1).1.inside)
 
 pub try_boards-requires : goal.try_boards-requires
-try_boards-requires c = let short-log : (sh : Sheet) → Read c sh → (log : List ℕ) × Logged sh log c.log_suite-n.result = λ sh rd. (_, c.log_suite-n.ensures sh (suite-short rd (omega (arith, c.if-sheet-le1024.true)))) in
+try_boards-requires c = let short-log : (sh : Sheet) → ReadFrom sh c.args.sheet.now c.args.starts.now c.args.lengths.now c.args.tests c.args.block.now → (log : List ℕ) × Logged sh log c.log_suite-n.result = λ sh rd. (_, c.log_suite-n.ensures sh (suite-short rd (omega (arith, c.if-sheet-le1024.true)))) in
     let pre = c.requires in
     (pre.0, by-log pre.1 (short-log pre.0 pre.1).1, pre.2)
 
 pub returns-then-sheet-le1024 : goal.returns-then-sheet-le1024
-returns-then-sheet-le1024 c = let short-log : (sh : Sheet) → Read c sh → (log : List ℕ) × Logged sh log c.log_suite-n.result = λ sh rd. (_, c.log_suite-n.ensures sh (suite-short rd (omega (arith, c.if-sheet-le1024.true)))) in
+returns-then-sheet-le1024 c = let short-log : (sh : Sheet) → ReadFrom sh c.args.sheet.now c.args.starts.now c.args.lengths.now c.args.tests c.args.block.now → (log : List ℕ) × Logged sh log c.log_suite-n.result = λ sh rd. (_, c.log_suite-n.ensures sh (suite-short rd (omega (arith, c.if-sheet-le1024.true)))) in
     λ sh rd tr. c.try_boards.ensures sh (by-log rd (short-log sh rd).1) tr
 
 pub log_suite-n-requires-2 : goal.log_suite-n-requires-2
 log_suite-n-requires-2 c = let pre = c.requires in (pre.0, suite-long pre.1 (omega arith))
 
 pub slice_bounds-long-end : goal.slice_bounds-long-end
-slice_bounds-long-end c = let long-log : (sh : Sheet) → Read c sh → (log : List ℕ) × Logged sh log c.log_suite-n-2.result = λ sh rd. (_, c.log_suite-n-2.ensures sh (suite-long rd (omega arith))) in
+slice_bounds-long-end c = let long-log : (sh : Sheet) → ReadFrom sh c.args.sheet.now c.args.starts.now c.args.lengths.now c.args.tests c.args.block.now → (log : List ℕ) × Logged sh log c.log_suite-n-2.result = λ sh rd. (_, c.log_suite-n-2.ensures sh (suite-long rd (omega arith))) in
     let pre = c.requires in (long-log pre.0 pre.1).1.inside
 
 pub slice_bounds-try_boards-end-2 : goal.slice_bounds-try_boards-end-2
-slice_bounds-try_boards-end-2 c = sym (length-take-le _ _ (array-share-prefix-long c))
+slice_bounds-try_boards-end-2 c = let long-log : (sh : Sheet) → ReadFrom sh c.args.sheet.now c.args.starts.now c.args.lengths.now c.args.tests c.args.block.now → (log : List ℕ) × Logged sh log c.log_suite-n-2.result = λ sh rd. (_, c.log_suite-n-2.ensures sh (suite-long rd (omega arith))) in
+    let pre = c.requires in sym (length-take-le _ _ (long-log pre.0 pre.1).1.inside)
 
 pub try_boards-requires-2 : goal.try_boards-requires-2
-try_boards-requires-2 c = let long-log : (sh : Sheet) → Read c sh → (log : List ℕ) × Logged sh log c.log_suite-n-2.result = λ sh rd. (_, c.log_suite-n-2.ensures sh (suite-long rd (omega arith))) in
+try_boards-requires-2 c = let long-log : (sh : Sheet) → ReadFrom sh c.args.sheet.now c.args.starts.now c.args.lengths.now c.args.tests c.args.block.now → (log : List ℕ) × Logged sh log c.log_suite-n-2.result = λ sh rd. (_, c.log_suite-n-2.ensures sh (suite-long rd (omega arith))) in
     let pre = c.requires in
     (pre.0, by-log pre.1 (long-log pre.0 pre.1).1, pre.2)
 
 pub returns : goal.returns
-returns c = let long-log : (sh : Sheet) → Read c sh → (log : List ℕ) × Logged sh log c.log_suite-n-2.result = λ sh rd. (_, c.log_suite-n-2.ensures sh (suite-long rd (omega arith))) in
+returns c = let long-log : (sh : Sheet) → ReadFrom sh c.args.sheet.now c.args.starts.now c.args.lengths.now c.args.tests c.args.block.now → (log : List ℕ) × Logged sh log c.log_suite-n-2.result = λ sh rd. (_, c.log_suite-n-2.ensures sh (suite-long rd (omega arith))) in
     λ sh rd tr. c.try_boards-2.ensures sh (by-log rd (long-log sh rd).1) tr

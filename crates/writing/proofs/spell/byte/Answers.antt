@@ -1,4 +1,3 @@
-use borrow.Author.Rules.{rules}
 use Rattle.writing.proofs.laws.SpelledLaw.{spelled-byte}
 use Rattle.writing.proofs.spell.byte.Goals as goal
 

@@ -1,8 +1,7 @@
 -- `bytes`: those before i are spelled.
-use Prim.Native.Nat.{◌-◌}
 use native.Mathlib.Omega.{arith}
-use lib.ListN.{length, drop, drop_of_length-le}
-use Rattle.writing.proofs.laws.SpelledLaw.{Spelling, spelling-start, spelling-room, spelling-more, spelling-end}
+use lib.ListN.{drop_of_length-le}
+use Rattle.writing.proofs.laws.SpelledLaw.{spelling-start, spelling-room, spelling-more, spelling-end}
 use Rattle.writing.proofs.RestLaw.{bytes_next}
 use Rattle.writing.proofs.spell.bytes.Goals as goal
 

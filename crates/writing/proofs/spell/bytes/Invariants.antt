@@ -1,9 +1,7 @@
 -- `bytes`: those before i are spelled.
 use Prim.Native.Nat.{◌-◌}
-use native.Mathlib.Omega.{arith}
-use lib.ListN.{length, drop, drop_of_length-le}
-use Rattle.writing.proofs.laws.SpelledLaw.{Spelling, spelling-start, spelling-room, spelling-more, spelling-end}
-use Rattle.writing.proofs.RestLaw.{bytes_next}
+use lib.ListN.{length, drop}
+use Rattle.writing.proofs.laws.SpelledLaw.{Spelling}
 use Rattle.writing.proofs.spell.bytes.Given as goal
 
 abbrev pub invariant-loop-i : goal.invariant-loop-i

@@ -1,10 +1,8 @@
 -- `operands`: those before i are spelled.
 use Prim.Native.Nat.{◌-◌}
-use native.Mathlib.Omega.{arith}
 use lib.ListN.{length, drop}
 use Rattle.sheet.specs.Encode.{operand_bytes}
-use Rattle.writing.proofs.laws.SpelledLaw.{Spelling, spelling-start, spelling-room, spelling-more, spelling-end}
-use Rattle.writing.proofs.RestLaw.{operands_next, operands-none}
+use Rattle.writing.proofs.laws.SpelledLaw.{Spelling}
 use Rattle.writing.proofs.spell.operands.Given as goal
 
 abbrev pub invariant-loop-i : goal.invariant-loop-i

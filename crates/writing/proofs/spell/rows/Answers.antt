@@ -1,10 +1,6 @@
 -- `rows`: those before i are spelled.
-use Prim.Native.Nat.{◌-◌, ◌≤◌}
 use native.Mathlib.Omega.{arith}
-use lib.ListN.{length, drop}
-use Rattle.sheet.specs.Encode.{row_bytes}
-use Rattle.writing.specs.Drawing.{rows_of}
-use Rattle.writing.proofs.laws.SpelledLaw.{Spelling, spelling-start, spelling-room, spelling-more, spelling-end}
+use Rattle.writing.proofs.laws.SpelledLaw.{spelling-start, spelling-room, spelling-more, spelling-end}
 use Rattle.writing.proofs.RestLaw.{rows_next, rows_none}
 use Rattle.writing.proofs.spell.rows.Goals as goal
 

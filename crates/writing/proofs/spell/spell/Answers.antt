@@ -1,5 +1,4 @@
 -- `spell`: one part after another, each where the one before ended.
-use borrow.Author.Rules.{rules}
 use Prim.Native.Nat.{ℕ}
 use native.Mathlib.Omega.{arith}
 use mathlib.Core.Path.{refl}
@@ -17,6 +16,7 @@ drawn d =
 
 abbrev quiet_on : Sheet → List ℕ
 quiet_on sh = quiet_bytes sh.quiet ++ rules_on sh
+
 -- the bytes after a call: all but the rest is spelled, as far as `to`
 
 abbrev Until : List ℕ → Sheet → ℕ → (Sheet → List ℕ) → Type 0

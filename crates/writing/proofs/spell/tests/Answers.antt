@@ -1,11 +1,6 @@
 -- `tests`: those before i are spelled, and `start` is where the inputs of the others begin.
-use borrow.Author.Rules.{rules}
-use Prim.Native.Nat.{◌+◌, ◌-◌, ◌≤◌}
 use native.Mathlib.Omega.{arith}
-use lib.ListN.{length, drop}
-use Rattle.sheet.specs.Encode.{test_bytes}
-use Rattle.writing.specs.Drawing.{tests_of, total}
-use Rattle.writing.proofs.laws.SpelledLaw.{Spelling, spelling-start, spelling-room, spelling-more, spelling-end}
+use Rattle.writing.proofs.laws.SpelledLaw.{spelling-start, spelling-room, spelling-more, spelling-end}
 use Rattle.writing.proofs.RestLaw.{tests-next, tests-none, total-next}
 use Rattle.writing.proofs.spell.tests.Goals as goal
 
