@@ -1,5 +1,6 @@
 -- A test added: what is spelled is the longer sheet, and the refusals in their order.
-use Rattle.lists.specs.Proving.{arith, ℕ, ◌+◌, ◌-◌, ◌*◌, ◌<◌, ◌≤◌, ◌≡◌, refl, sym, ◌∙◌, ap, subst, List, [], ◌∷◌, ◌++◌, length, take, length-append, never}
+use Rattle.std.specs.Prelude.{◌+◌, ◌-◌, ◌*◌, ◌<◌, ◌≤◌, ◌≡◌, ◌∷◌, ◌++◌}
+use Rattle.lists.specs.Proving.{arith, ℕ, refl, sym, ◌∙◌, ap, subst, List, [], length, take, length-append, never}
 use mathlib.Core.List.{append-nil}
 use lib.Seq.{take_at}
 use Rattle.sheet.specs.declared.Reading.{Reading as ReadAnswer}

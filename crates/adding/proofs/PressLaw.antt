@@ -1,5 +1,6 @@
 -- A press by the block's rules, and all presses of a test one after another.
-use Rattle.lists.specs.Proving.{arith, ℕ, ◌+◌, ◌/◌, ◌%◌, ◌<◌, ◌≤◌, ◌≡◌, refl, sym, ◌∙◌, ap, Option, some, none, List, ◌∷◌, length, get_or, drop, drop-cons, add-one, never}
+use Rattle.std.specs.Prelude.{◌+◌, ◌/◌, ◌%◌, ◌<◌, ◌≤◌, ◌≡◌, ◌∷◌}
+use Rattle.lists.specs.Proving.{arith, ℕ, refl, sym, ◌∙◌, ap, Option, some, none, List, length, get_or, drop, drop-cons, add-one, never}
 use lib.ListN.{drop_of_length-le}
 use borrow.Author.Tests.{le-leb, lt-leb}
 use Rattle.lists.specs.Lists.{maybe}

@@ -1,5 +1,6 @@
 -- What reading hands over of an accepted sheet, for the block.
-use Rattle.lists.specs.Proving.{ℕ, ◌≡◌, refl, sym, ◌∙◌, ap, List, never}
+use Rattle.std.specs.Prelude.{◌≡◌}
+use Rattle.lists.specs.Proving.{ℕ, refl, sym, ◌∙◌, ap, List, never}
 use Rattle.sheet.specs.declared.Reading.{Reading as ReadAnswer}
 use Rattle.sheet.specs.declared.Reading.TheVariants as answer
 use Rattle.sheet.specs.declared.Summary.{Summary}

@@ -1,5 +1,6 @@
 -- Filling the block, cell by cell.
-use Rattle.lists.specs.Proving.{arith, ℕ, ◌+◌, ◌<◌, ◌≤◌, ◌≡◌, refl, sym, ◌∙◌, subst, ◌⊎◌, inl, inr, List, length, set, length-set, get_or-set_same, get_or-set_other, below_more}
+use Rattle.std.specs.Prelude.{◌+◌, ◌<◌, ◌≤◌, ◌≡◌, ◌⊎◌}
+use Rattle.lists.specs.Proving.{arith, ℕ, refl, sym, ◌∙◌, subst, inl, inr, List, length, set, length-set, get_or-set_same, get_or-set_other, below_more}
 use Rattle.block.specs.Packing.{Filled}
 
 pub fill_none : {m : List ℕ} (base size : ℕ) (Right : ℕ → ℕ → Type 0) → length m ≡ 1620 → Filled m m base size 0 Right

@@ -1,5 +1,6 @@
 -- Numbering the slots: what holds after the pairs before an index.
-use Rattle.lists.specs.Proving.{arith, ℕ, zero, suc, ◌+◌, ◌-◌, ◌*◌, ◌/◌, ◌%◌, ◌<◌, ◌≤◌, ◌≡◌, refl, sym, ◌∙◌, ap, Bool, true, false, cond, ◌&&◌, by_cases, List, [], ◌∷◌, ◌++◌, length, get_or, set, drop, replicate, length-set, length-replicate, length-append, get_or-replicate, get_or-set_same, get_or-set_other, drop-cons, append_snoc, ltb, ℕ_discrete, dec_lt, add-one, lt-ltb, le-ltb}
+use Rattle.std.specs.Prelude.{◌+◌, ◌-◌, ◌*◌, ◌/◌, ◌%◌, ◌<◌, ◌≤◌, ◌≡◌, ◌&&◌, ◌∷◌, ◌++◌}
+use Rattle.lists.specs.Proving.{arith, ℕ, zero, suc, refl, sym, ◌∙◌, ap, Bool, true, false, cond, by_cases, List, [], length, get_or, set, drop, replicate, length-set, length-replicate, length-append, get_or-replicate, get_or-set_same, get_or-set_other, drop-cons, append_snoc, ltb, ℕ_discrete, dec_lt, add-one, lt-ltb, le-ltb}
 use mathlib.Core.List.{append-nil}
 use lib.Seq.{set_at}
 use Rattle.lists.specs.Lists.{overlay}

@@ -1,5 +1,6 @@
 -- The numbers that the code gives to the suspects of a sheet are those of its mutants' slots.
-use Rattle.lists.specs.Proving.{arith, ℕ, zero, suc, ◌+◌, ◌*◌, ◌/◌, ◌%◌, ◌<◌, ◌≤◌, ◌≡◌, refl, sym, ◌∙◌, ap, ap₂, subst, Bool, true, false, cond, ◌&&◌, by_cases, some, none, List, [], ◌∷◌, ◌++◌, length, get_or, replicate, length-replicate, length-append, ltb, ltb-true, lt-ltb, le-ltb}
+use Rattle.std.specs.Prelude.{◌+◌, ◌*◌, ◌/◌, ◌%◌, ◌<◌, ◌≤◌, ◌≡◌, ◌&&◌, ◌∷◌, ◌++◌}
+use Rattle.lists.specs.Proving.{arith, ℕ, zero, suc, refl, sym, ◌∙◌, ap, ap₂, subst, Bool, true, false, cond, by_cases, some, none, List, [], length, get_or, replicate, length-replicate, length-append, ltb, ltb-true, lt-ltb, le-ltb}
 use native.Mathlib.Decide.{dec_le}
 use native.Mathlib.Nat.{add_assoc}
 use mathlib.Core.Path.{fun_ext}

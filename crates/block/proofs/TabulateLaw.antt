@@ -1,5 +1,6 @@
 -- The block, filled from the tables of a sheet.
-use Rattle.lists.specs.Proving.{arith, ℕ, ◌+◌, ◌-◌, ◌/◌, ◌%◌, ◌<◌, ◌≤◌, ◌≡◌, refl, sym, ◌∙◌, ap, Bool, true, false, cond, ◌⊎◌, inl, inr, ⊎_elim, by_cases, some, none, List, ◌++◌, length, get_or, set, drop, replicate, length-set, get_or-replicate, List·getD-eq-default, get_or-set_same, get_or-set_other, ltb, dec_lt}
+use Rattle.std.specs.Prelude.{◌+◌, ◌-◌, ◌/◌, ◌%◌, ◌<◌, ◌≤◌, ◌≡◌, ◌⊎◌, ◌++◌}
+use Rattle.lists.specs.Proving.{arith, ℕ, refl, sym, ◌∙◌, ap, Bool, true, false, cond, inl, inr, ⊎_elim, by_cases, some, none, List, length, get_or, set, drop, replicate, length-set, get_or-replicate, List·getD-eq-default, get_or-set_same, get_or-set_other, ltb, dec_lt}
 use lib.ListN.{get_or-append}
 use lib.Seq.{get_or-append-add, get_or-drop}
 use Rattle.lists.specs.Lists.{maybe}

@@ -3,6 +3,7 @@
 // Called by `sweep`, which shows what its functions require.
 
 #![tactic(auto)]
+
 mod ask;
 mod looks;
 mod order;

@@ -1,5 +1,6 @@
 -- Cursors that go on, notes of what is refuted, and the suspect that is picked.
-use Rattle.lists.specs.Proving.{arith, ℕ, ◌+◌, ◌/◌, ◌%◌, ◌^◌, ◌<◌, ◌≤◌, ◌≡◌, refl, sym, ◌∙◌, ap, subst, ◌⊎◌, inl, inr, List, length, get_or, set, length-set, get_or-set_same, get_or-set_other, ℕ_discrete}
+use Rattle.std.specs.Prelude.{◌+◌, ◌/◌, ◌%◌, ◌^◌, ◌<◌, ◌≤◌, ◌≡◌, ◌⊎◌}
+use Rattle.lists.specs.Proving.{arith, ℕ, refl, sym, ◌∙◌, ap, subst, inl, inr, List, length, get_or, set, length-set, get_or-set_same, get_or-set_other, ℕ_discrete}
 use Rattle.block.specs.Layout.{slots_of}
 use Rattle.cubes.specs.Sets.{Has, Joined}
 use Rattle.cubes.specs.laws.SetLaw.{nothing}

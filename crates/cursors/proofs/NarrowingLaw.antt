@@ -1,5 +1,6 @@
 -- Cubes that are narrowed: none of it, one literal, more; and the suspects that a test meets.
-use Rattle.lists.specs.Proving.{arith, ℕ, ◌^◌, ◌<◌, ◌≡◌, refl, sym, ◌∙◌, ap, subst, ⊎_elim, List, length, get_or, set, length-set, get_or-set_other, ℕ_discrete}
+use Rattle.std.specs.Prelude.{◌^◌, ◌<◌, ◌≡◌}
+use Rattle.lists.specs.Proving.{arith, ℕ, refl, sym, ◌∙◌, ap, subst, ⊎_elim, List, length, get_or, set, length-set, get_or-set_other, ℕ_discrete}
 use Rattle.cubes.specs.Sets.{Has, HasAll, Joined}
 use Rattle.cubes.specs.laws.SetLaw.{nothing, alone}
 use Rattle.leaves.specs.Members.{Exact}

@@ -1,5 +1,6 @@
 -- Counting nodes and keeping a witness, in the notes.
-use Rattle.lists.specs.Proving.{arith, ℕ, ◌+◌, ◌%◌, ◌<◌, ◌≤◌, ◌≡◌, ◌∙◌, List, [], ◌∷◌, length, get_or, set, get_or-set_same, get_or-set_other, ℕ_discrete}
+use Rattle.std.specs.Prelude.{◌+◌, ◌%◌, ◌<◌, ◌≤◌, ◌≡◌, ◌∷◌}
+use Rattle.lists.specs.Proving.{arith, ℕ, ◌∙◌, List, [], length, get_or, set, get_or-set_same, get_or-set_other, ℕ_discrete}
 use Rattle.leaves.specs.Noted.{Changed, Keeps, nodes_of}
 use Rattle.leaves.specs.laws.NotedLaw.{changed-none, changed-set, changed-more, changed-wider}
 

@@ -1,5 +1,6 @@
 -- Writing a log: what holds between two observations, and between two tests.
-use Rattle.lists.specs.Proving.{arith, ℕ, zero, suc, ◌+◌, ◌-◌, ◌*◌, ◌<◌, ◌≤◌, ◌≡◌, refl, sym, ◌∙◌, ap, subst, List, [], ◌∷◌, ◌++◌, length, get_or, set, take, length-set, length-append, append_snoc, add-one}
+use Rattle.std.specs.Prelude.{◌+◌, ◌-◌, ◌*◌, ◌<◌, ◌≤◌, ◌≡◌, ◌∷◌, ◌++◌}
+use Rattle.lists.specs.Proving.{arith, ℕ, zero, suc, refl, sym, ◌∙◌, ap, subst, List, [], length, get_or, set, take, length-set, length-append, append_snoc, add-one}
 use mathlib.Core.List.{append_assoc, append-nil}
 use lib.Seq.{take-suc-set}
 use Rattle.lists.specs.Lists.{joined}

@@ -1,5 +1,6 @@
 -- A tabulated mutant along a log: what holds after i observations that it gives.
-use Rattle.lists.specs.Proving.{arith, ℕ, ◌+◌, ◌-◌, ◌/◌, ◌%◌, ◌<◌, ◌≤◌, ◌≡◌, refl, sym, ◌∙◌, some, none, List, length, get_or, drop, add-one, eq-eqb, ne_eqb}
+use Rattle.std.specs.Prelude.{◌+◌, ◌-◌, ◌/◌, ◌%◌, ◌<◌, ◌≤◌, ◌≡◌}
+use Rattle.lists.specs.Proving.{arith, ℕ, refl, sym, ◌∙◌, some, none, List, length, get_or, drop, add-one, eq-eqb, ne_eqb}
 use lib.ListN.{drop_of_length-le}
 use Rattle.model.specs.Log.{failed_in}
 use Rattle.block.specs.Layout.{pair}

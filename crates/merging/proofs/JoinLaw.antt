@@ -1,5 +1,6 @@
 -- From the parts of two sheets to the merged one.
-use Rattle.lists.specs.Proving.{arith, ℕ, zero, suc, ◌+◌, ◌-◌, ◌*◌, ◌/◌, ◌≤◌, ◌<◌, ◌≡◌, refl, sym, ◌∙◌, ap, subst, Bool, true, false, cond, List, [], ◌∷◌, ◌++◌, length, take, drop, ltb, lt-ltb, le-ltb, length-append}
+use Rattle.std.specs.Prelude.{◌+◌, ◌-◌, ◌*◌, ◌/◌, ◌≤◌, ◌<◌, ◌≡◌, ◌∷◌, ◌++◌}
+use Rattle.lists.specs.Proving.{arith, ℕ, zero, suc, refl, sym, ◌∙◌, ap, subst, Bool, true, false, cond, List, [], length, take, drop, ltb, lt-ltb, le-ltb, length-append}
 use mathlib.Core.Bool.{◌||◌}
 use mathlib.Core.List.{map, append_assoc}
 use lib.Seq.{take_at}

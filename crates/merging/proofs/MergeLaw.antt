@@ -1,5 +1,6 @@
 -- From the bytes of two sheets to the answer, and what it tells.
-use Rattle.lists.specs.Proving.{ℕ, ◌*◌, ◌<◌, ◌≡◌, refl, sym, ◌∙◌, ap, ap₂, Bool, true, false, List, drop, length, take, ltb, lt-ltb, never}
+use Rattle.std.specs.Prelude.{◌*◌, ◌<◌, ◌≡◌}
+use Rattle.lists.specs.Proving.{ℕ, refl, sym, ◌∙◌, ap, ap₂, Bool, true, false, List, drop, length, take, ltb, lt-ltb, never}
 use lib.Seq.{take_at}
 use Rattle.lists.specs.Lists.{overlay}
 use Rattle.sheet.specs.declared.Reading.{Reading as ReadAnswer}

@@ -1,5 +1,6 @@
 -- A pair is open in the merged sheet exactly if it is open in one of the two.
-use Rattle.lists.specs.Proving.{arith, ℕ, zero, suc, ◌+◌, ◌/◌, ◌%◌, ◌≤◌, ◌<◌, ◌≡◌, refl, sym, ◌∙◌, ap, ap₂, subst, Bool, true, false, cond, ⊎_elim, Option, none, some, List, [], ◌∷◌, length, get_or, ltb, lt-ltb, le-ltb, ltb-true, add-one}
+use Rattle.std.specs.Prelude.{◌+◌, ◌/◌, ◌%◌, ◌≤◌, ◌<◌, ◌≡◌, ◌∷◌}
+use Rattle.lists.specs.Proving.{arith, ℕ, zero, suc, refl, sym, ◌∙◌, ap, ap₂, subst, Bool, true, false, cond, ⊎_elim, Option, none, some, List, [], length, get_or, ltb, lt-ltb, le-ltb, ltb-true, add-one}
 use mathlib.Core.Bool.{◌||◌}
 use mathlib.Core.List.{Memᴰ}
 use Rattle.lists.specs.Lists.{maybe, All, count}

@@ -1,5 +1,6 @@
 -- The parts of a sheet's bytes: where they end, and the commands they hold.
-use Rattle.lists.specs.Proving.{arith, eq-eqb, le-ltb, ℕ, ◌+◌, ◌-◌, ◌*◌, ◌≤◌, ◌≡◌, refl, sym, ◌∙◌, ap, Bool, true, false, cond, inr, List, [], ◌∷◌, ◌++◌, length, take, length-append}
+use Rattle.std.specs.Prelude.{◌+◌, ◌-◌, ◌*◌, ◌≤◌, ◌≡◌, ◌∷◌, ◌++◌}
+use Rattle.lists.specs.Proving.{arith, eq-eqb, le-ltb, ℕ, refl, sym, ◌∙◌, ap, Bool, true, false, cond, inr, List, [], length, take, length-append}
 use mathlib.Core.List.{map, append_assoc}
 use lib.Seq.{take_at, drop_at}
 use Rattle.lists.specs.Lists.{Before, precedes, joined}

@@ -1,5 +1,6 @@
 -- What makes two states exchangeable.
-use Rattle.lists.specs.Proving.{arith, ℕ, ◌+◌, ◌*◌, ◌/◌, ◌%◌, ◌^◌, ◌<◌, ◌≤◌, ◌≡◌, refl, sym, ◌∙◌, ap, ap₂, subst, ◌⊎◌, inl, inr, List, length, get_or, set, replicate, length-set, get_or-replicate, get_or-set_same, get_or-set_other, below_more}
+use Rattle.std.specs.Prelude.{◌+◌, ◌*◌, ◌/◌, ◌%◌, ◌^◌, ◌<◌, ◌≤◌, ◌≡◌, ◌⊎◌}
+use Rattle.lists.specs.Proving.{arith, ℕ, refl, sym, ◌∙◌, ap, ap₂, subst, inl, inr, List, length, get_or, set, replicate, length-set, get_or-replicate, get_or-set_same, get_or-set_other, below_more}
 use mathlib.Core.Path.{fun_ext}
 use native.Mathlib.Nat.{mod-lt, mod-eq_of_lt, div-eq_of_lt, div-add-mod', mul-add-div_right, mul-add-mod_self_right, div-lt_iff_lt-mul}
 use Rattle.model.specs.Machine.{Move}

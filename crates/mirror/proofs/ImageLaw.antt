@@ -1,5 +1,6 @@
 -- A mutant with two states exchanged gives the same outputs, and is sought if the other is; there is one if the states can be exchanged.
-use Rattle.lists.specs.Proving.{arith, ℕ, zero, suc, ◌/◌, ◌%◌, ◌<◌, ◌≤◌, ◌≡◌, refl, sym, ◌∙◌, ap, ap₂, subst, List, [], ◌∷◌, length, get_or, ℕ_discrete, dec_lt, lt-ltb, le-ltb}
+use Rattle.std.specs.Prelude.{◌/◌, ◌%◌, ◌<◌, ◌≤◌, ◌≡◌, ◌∷◌}
+use Rattle.lists.specs.Proving.{arith, ℕ, zero, suc, refl, sym, ◌∙◌, ap, ap₂, subst, List, [], length, get_or, ℕ_discrete, dec_lt, lt-ltb, le-ltb}
 use native.Mathlib.Nat.{div-add-mod'}
 use Rattle.model.specs.Machine.{Move, outputs_from, ConformingFrom}
 use Rattle.model.specs.Mutant.{idle}

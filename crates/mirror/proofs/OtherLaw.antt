@@ -1,5 +1,6 @@
 -- Exchanging two numbers; sets and beginnings whose members have a property.
-use Rattle.lists.specs.Proving.{arith, ℕ, ◌+◌, ◌^◌, ◌<◌, ◌≤◌, ◌≡◌, refl, sym, ◌∙◌, subst, ⊎_elim, ℕ_discrete, below_more, eq-eqb, ne_eqb}
+use Rattle.std.specs.Prelude.{◌+◌, ◌^◌, ◌<◌, ◌≤◌, ◌≡◌}
+use Rattle.lists.specs.Proving.{arith, ℕ, refl, sym, ◌∙◌, subst, ⊎_elim, ℕ_discrete, below_more, eq-eqb, ne_eqb}
 use Rattle.cubes.specs.Sets.{Joined}
 use Rattle.cubes.specs.laws.SetLaw.{nothing, alone}
 use Rattle.mirror.specs.Mirror.{other, Each, Below}

@@ -1,5 +1,6 @@
 -- A cube in which no mutant is sought, and which does not tell two exchangeable states apart but at one suspect.
-use Rattle.lists.specs.Proving.{arith, ℕ, ◌/◌, ◌%◌, ◌<◌, ◌≡◌, refl, sym, ◌∙◌, ap, subst, ⊎_elim, by_cases, List, get_or, ℕ_discrete, dec_lt}
+use Rattle.std.specs.Prelude.{◌/◌, ◌%◌, ◌<◌, ◌≡◌}
+use Rattle.lists.specs.Proving.{arith, ℕ, refl, sym, ◌∙◌, ap, subst, ⊎_elim, by_cases, List, get_or, ℕ_discrete, dec_lt}
 use native.Mathlib.Nat.{div-add-mod'}
 use Rattle.model.specs.Machine.{Move}
 use Rattle.block.specs.Layout.{pair, waking, site_at}

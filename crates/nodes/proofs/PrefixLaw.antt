@@ -1,5 +1,6 @@
 -- A cube has every mutant that extends a prefix.
-use Rattle.lists.specs.Proving.{arith, ℕ, ◌+◌, ◌<◌, ◌≤◌, ◌≡◌, refl, sym, ◌∙◌, ap, ap₂, subst, List, get_or, below_more}
+use Rattle.std.specs.Prelude.{◌+◌, ◌<◌, ◌≤◌, ◌≡◌}
+use Rattle.lists.specs.Proving.{arith, ℕ, refl, sym, ◌∙◌, ap, ap₂, subst, List, get_or, below_more}
 use Rattle.model.specs.Machine.{Move}
 use Rattle.block.specs.Layout.{site_at}
 use Rattle.block.specs.Tabulated.{Wf, Ranged, choices_at, choice_of, chosen, StepIs}

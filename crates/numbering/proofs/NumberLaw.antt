@@ -1,5 +1,6 @@
 -- From the bytes to the answer.
-use Rattle.lists.specs.Proving.{arith, ℕ, ◌/◌, ◌%◌, ◌<◌, ◌≤◌, ◌≡◌, refl, sym, ◌∙◌, ap, subst, cond, List, length, get_or, take, lt-ltb, never}
+use Rattle.std.specs.Prelude.{◌/◌, ◌%◌, ◌<◌, ◌≤◌, ◌≡◌}
+use Rattle.lists.specs.Proving.{arith, ℕ, refl, sym, ◌∙◌, ap, subst, cond, List, length, get_or, take, lt-ltb, never}
 use Rattle.lists.specs.Lists.{overlay}
 use Rattle.sheet.specs.declared.Reading.{Reading as ReadAnswer}
 use Rattle.sheet.specs.declared.Reading.TheVariants as read

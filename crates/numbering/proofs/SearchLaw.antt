@@ -1,5 +1,6 @@
 -- The search: one state more, all states that a state leads to, and one look more.
-use Rattle.lists.specs.Proving.{arith, ℕ, suc, ◌+◌, ◌%◌, ◌<◌, ◌≤◌, ◌≡◌, refl, sym, ◌∙◌, ap, subst, Option, some, none, List, get_or, set, replicate, add-one, lt-ltb, le-ltb}
+use Rattle.std.specs.Prelude.{◌+◌, ◌%◌, ◌<◌, ◌≤◌, ◌≡◌}
+use Rattle.lists.specs.Proving.{arith, ℕ, suc, refl, sym, ◌∙◌, ap, subst, Option, some, none, List, get_or, set, replicate, add-one, lt-ltb, le-ltb}
 use Rattle.lists.specs.Lists.{maybe, first}
 use lib.ListN.{drop}
 use Rattle.lists.specs.laws.ListLaw.{all-at-index}

@@ -1,5 +1,6 @@
 -- The suspect that is met is not settled.
-use Rattle.lists.specs.Proving.{arith, ℕ, ◌≡◌, refl, List, length}
+use Rattle.std.specs.Prelude.{◌≡◌}
+use Rattle.lists.specs.Proving.{arith, ℕ, refl, List, length}
 use Rattle.leaves.specs.Members.{Exact}
 use Rattle.leaves.specs.Noted.{Changed}
 use Rattle.leaves.specs.laws.MembersLaw.{exact-free}

@@ -3,6 +3,7 @@
 // Called by `sweep` and `making`.
 
 #![tactic(auto)]
+
 ghost use Rattle.std.specs.Prelude.{◌≡◌, true, ℕ, ◌+◌, ◌<◌, ◌≤◌, length, get_or, set, replicate};
 ghost use Rattle.leaves.specs.Noted.{Changed};
 ghost use Rattle.block.specs.Tabulated.{Wf};

@@ -1,5 +1,6 @@
 -- Along a record byte by byte: its commands, and the specification's state.
-use Rattle.lists.specs.Proving.{arith, ℕ_discrete, dec_lt, ℕ, zero, suc, ◌+◌, ◌-◌, ◌%◌, ◌<◌, ◌≤◌, ◌≡◌, refl, sym, ◌∙◌, ap, ap₂, subst, Bool, true, false, cond, ◌&&◌, Option, some, none, List, [], ◌∷◌, length, get_or, drop, drop-cons, add-one, eqb, eq-eqb, ne_eqb, ltb, lt-ltb, le-ltb, List·getD-eq-default, ltb-true, never}
+use Rattle.std.specs.Prelude.{◌+◌, ◌-◌, ◌%◌, ◌<◌, ◌≤◌, ◌≡◌, ◌&&◌, ◌∷◌}
+use Rattle.lists.specs.Proving.{arith, ℕ_discrete, dec_lt, ℕ, zero, suc, refl, sym, ◌∙◌, ap, ap₂, subst, Bool, true, false, cond, Option, some, none, List, [], length, get_or, drop, drop-cons, add-one, eqb, eq-eqb, ne_eqb, ltb, lt-ltb, le-ltb, List·getD-eq-default, ltb-true, never}
 use Rattle.lists.specs.laws.TestLaw.{both}
 use mathlib.Core.Bool.{not}
 use lib.ListN.{length-drop, drop_of_length-le}

@@ -1,5 +1,6 @@
 -- The operations on a record: what the scan, the specification and the search found is the answer.
-use Rattle.lists.specs.Proving.{arith, ℕ, ◌*◌, ◌<◌, ◌≤◌, ◌≡◌, refl, sym, ◌∙◌, ap, subst, Bool, true, false, Option, some, none, List, [], length, take, drop, lt-ltb, le-ltb, never}
+use Rattle.std.specs.Prelude.{◌*◌, ◌<◌, ◌≤◌, ◌≡◌}
+use Rattle.lists.specs.Proving.{arith, ℕ, refl, sym, ◌∙◌, ap, subst, Bool, true, false, Option, some, none, List, [], length, take, drop, lt-ltb, le-ltb, never}
 use mathlib.Core.Bool.{not}
 use lib.Seq.{take_at}
 use Rattle.lists.specs.Lists.{is_none, overlay, Before}

@@ -1,14 +1,14 @@
 -- The choices of a suspect in turn, each refuted by a cube.
-use Rattle.lists.specs.Proving.{arith, ℕ, ◌+◌, ◌-◌, ◌<◌, ◌≤◌, ◌≡◌, refl, sym, ◌∙◌, ap, ap₂, subst, true, List, length, get_or, set, replicate, length-replicate, get_or-replicate, List·getD-eq-default, dec_lt, below_more}
+use Rattle.std.specs.Prelude.{◌+◌, ◌-◌, ◌<◌, ◌≤◌, ◌≡◌}
+use Rattle.lists.specs.Proving.{arith, ℕ, sym, ◌∙◌, ap, subst, true, List, length, get_or, set, replicate, length-replicate, get_or-replicate, List·getD-eq-default, dec_lt}
 use Rattle.model.specs.Machine.{Move}
 use Rattle.block.specs.Layout.{site_at}
-use Rattle.block.specs.Tabulated.{Wf, Ranged, choices_at, choice_of, chosen, StepIs}
+use Rattle.block.specs.Tabulated.{Wf, choices_at, choice_of, StepIs}
 use Rattle.block.specs.declared.layout.Step.{Step}
-use Rattle.block.specs.laws.ChoiceLaw.{chosen-some, choice-at}
+use Rattle.block.specs.laws.ChoiceLaw.{choice-at}
 use Rattle.cubes.specs.Sets.{Has}
-use Rattle.cubes.specs.Cube.{Means, MeansStep, NoneIn, Joining, Adds, MeetsAll, AddsOk, Extends}
+use Rattle.cubes.specs.Cube.{MeansStep, NoneIn, Joining, Adds, MeetsAll, AddsOk}
 use Rattle.cubes.specs.declared.goal.Goal.{Goal}
-use Rattle.cubes.specs.laws.LiteralLaw.{any-means}
 use Rattle.cubes.specs.laws.JoinLaw.{DoneTo, join-none, join_more, join-all, done-skip, done_all}
 use Rattle.mirror.specs.Reflect.{ReflectedOk}
 use Rattle.mirror.specs.laws.MirrorLaw.{under-meets}

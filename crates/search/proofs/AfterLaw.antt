@@ -1,5 +1,6 @@
 -- The first wanted mutant after a given one: of those that have its first i choices, for smaller and smaller i.
-use Rattle.lists.specs.Proving.{arith, ℕ, zero, suc, ◌+◌, ◌-◌, ◌<◌, ◌≤◌, ◌≡◌, refl, sym, ◌∙◌, subst, inl, inr, by_cases, List, [], ◌∷◌, length, get_or, set, length-set, length-replicate, get_or-replicate, get_or-set_same, get_or-set_other, ℕ_discrete, dec_lt, below_more}
+use Rattle.std.specs.Prelude.{◌+◌, ◌-◌, ◌<◌, ◌≤◌, ◌≡◌, ◌∷◌}
+use Rattle.lists.specs.Proving.{arith, ℕ, zero, suc, refl, sym, ◌∙◌, subst, inl, inr, by_cases, List, [], length, get_or, set, length-set, length-replicate, get_or-replicate, get_or-set_same, get_or-set_other, ℕ_discrete, below_more}
 use Rattle.std.proofs.Common.{ext_get_or}
 use Rattle.lists.specs.Lists.{Before}
 use Rattle.sheet.specs.Sheet.{Sheet}
@@ -17,7 +18,7 @@ use Rattle.search.specs.declared.settle.Found.{Found}
 use Rattle.search.specs.declared.settle.Found.TheVariants.{Nothing, First, GaveUp}
 use Rattle.search.specs.declared.settle.Beginning.{Beginning}
 use Rattle.search.specs.declared.settle.Beginning.TheVariants.{After}
-use Rattle.search.specs.Search.{Wanted, Begins, next, after, In, NoneOf, FirstOf, Prefix, Answers, Searching, Settled, Leaving, unsettled}
+use Rattle.search.specs.Search.{Wanted, Begins, next, after, In, NoneOf, FirstOf, Answers, Searching, Settled, Leaving, unsettled}
 use Rattle.search.proofs.SearchLaw.{before_at}
 
 -- the same up to a place, and a larger number there: it stands after

@@ -1,5 +1,6 @@
 -- A mutant with all its choices, by tables: whether it is wanted, and what is shown of it.
-use Rattle.lists.specs.Proving.{arith, ℕ, suc, ◌+◌, ◌*◌, ◌<◌, ◌≤◌, ◌≡◌, refl, sym, ◌∙◌, ap, subst, Bool, true, false, Option, some, none, List, ◌∷◌, ◌++◌, length, get_or, set, take, drop, length-append, drop-cons, append_snoc, never}
+use Rattle.std.specs.Prelude.{◌+◌, ◌*◌, ◌<◌, ◌≤◌, ◌≡◌, ◌∷◌, ◌++◌}
+use Rattle.lists.specs.Proving.{arith, ℕ, suc, refl, sym, ◌∙◌, ap, subst, Bool, true, false, Option, some, none, List, length, get_or, set, take, drop, length-append, drop-cons, append_snoc, never}
 use Rattle.std.proofs.Common.{mul-le-mul, length-drop, length-take-le, get_or-take, take-suc, take_at}
 use lib.Seq.{set_at}
 use Rattle.lists.specs.Lists.{overlay}

@@ -1,5 +1,6 @@
 -- The first wanted mutant, choice by choice in dictionary order.
-use Rattle.lists.specs.Proving.{arith, ℕ, zero, suc, ◌+◌, ◌<◌, ◌≤◌, ◌≡◌, refl, sym, ◌∙◌, ap, subst, Bool, true, false, cond, ◌⊎◌, inl, inr, by_cases, Option, some, none, List, [], ◌∷◌, length, get_or, set, take, length-set, length-replicate, get_or-replicate, List·getD-eq-default, get_or-set_same, get_or-set_other, ℕ_discrete, dec_lt, below_more, never}
+use Rattle.std.specs.Prelude.{◌+◌, ◌<◌, ◌≤◌, ◌≡◌, ◌⊎◌, ◌∷◌}
+use Rattle.lists.specs.Proving.{arith, ℕ, zero, suc, refl, sym, ◌∙◌, subst, Bool, true, false, cond, inl, inr, by_cases, Option, some, none, List, [], length, get_or, set, take, length-set, length-replicate, get_or-replicate, List·getD-eq-default, get_or-set_same, get_or-set_other, ℕ_discrete, dec_lt, below_more, never}
 use Rattle.std.proofs.Common.{length-take-le, get_or-take, ext_get_or}
 use Rattle.lists.specs.Lists.{Before}
 use Rattle.sheet.specs.Sheet.{Sheet}

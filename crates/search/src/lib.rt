@@ -3,6 +3,7 @@
 // Called by `mutation`, which shows what its functions require.
 
 #![tactic(auto)]
+
 mod attempts;
 mod check;
 mod settle;

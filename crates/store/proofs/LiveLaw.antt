@@ -1,5 +1,6 @@
 -- A row of notes that admits every entry: none of it, one note more, all.
-use Rattle.lists.specs.Proving.{arith, ℕ, ◌+◌, ◌*◌, ◌<◌, ◌≤◌, ◌≡◌, ◌∙◌, ap, List, length, get_or, set, get_or-set_same, get_or-set_other, ℕ_discrete}
+use Rattle.std.specs.Prelude.{◌+◌, ◌*◌, ◌<◌, ◌≤◌, ◌≡◌}
+use Rattle.lists.specs.Proving.{arith, ℕ, ◌∙◌, ap, List, length, get_or, set, get_or-set_same, get_or-set_other, ℕ_discrete}
 use Rattle.leaves.specs.laws.NotedLaw.{changed-none, changed-set, changed-more}
 use Rattle.store.specs.Live.{Admitted}
 

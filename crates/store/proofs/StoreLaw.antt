@@ -1,5 +1,6 @@
 -- The store of refutations.
-use Rattle.lists.specs.Proving.{arith, ℕ, ◌+◌, ◌*◌, ◌<◌, ◌≤◌, ◌≡◌, refl, sym, ◌∙◌, ap, subst, Bool, true, ◌⊎◌, inl, inr, List, length, get_or, set, replicate, length-set, length-replicate, get_or-replicate, get_or-set_same, get_or-set_other, ℕ_discrete, dec_lt, below_more}
+use Rattle.std.specs.Prelude.{◌+◌, ◌*◌, ◌<◌, ◌≤◌, ◌≡◌, ◌⊎◌}
+use Rattle.lists.specs.Proving.{arith, ℕ, refl, sym, ◌∙◌, ap, subst, Bool, true, inl, inr, List, length, get_or, set, replicate, length-set, length-replicate, get_or-replicate, get_or-set_same, get_or-set_other, ℕ_discrete, dec_lt, below_more}
 use Rattle.block.specs.Layout.{site_at}
 use Rattle.block.specs.Tabulated.{Wf, choice_of, chosen}
 use Rattle.cubes.specs.Cube.{Means, NoneIn}

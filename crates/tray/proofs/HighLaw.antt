@@ -1,5 +1,6 @@
 -- The first choice of a tray that is too high.
-use Rattle.lists.specs.Proving.{arith, ℕ, zero, suc, ◌+◌, ◌-◌, ◌*◌, ◌<◌, ◌≤◌, ◌≡◌, refl, sym, ◌∙◌, ap, Bool, true, false, not-true, cond, Option, none, some, List, [], ◌∷◌, ◌++◌, length, take, drop, eqb, ltb, eq-eqb, never}
+use Rattle.std.specs.Prelude.{◌+◌, ◌-◌, ◌*◌, ◌<◌, ◌≤◌, ◌≡◌, ◌∷◌, ◌++◌}
+use Rattle.lists.specs.Proving.{arith, ℕ, zero, suc, refl, sym, ◌∙◌, ap, Bool, true, false, not-true, cond, Option, none, some, List, [], length, take, drop, eqb, ltb, eq-eqb, never}
 use native.Mathlib.Nat.{suc-mul, zero-mul, mul-zero, le_of_suc-le-suc}
 use lib.ListN.{length-drop, drop_of_length-le}
 use lib.Seq.{drop-drop, length-take-le}

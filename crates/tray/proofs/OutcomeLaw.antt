@@ -1,5 +1,6 @@
 -- From an accepted sheet to the answer, and what it tells.
-use Rattle.lists.specs.Proving.{arith, ℕ, ◌*◌, ◌<◌, ◌≤◌, ◌≡◌, refl, sym, ◌∙◌, ap, subst, Bool, true, false, Option, none, some, List, length, take, drop, eqb, eqb-true, eq-eqb, lt-ltb, le-ltb, never}
+use Rattle.std.specs.Prelude.{◌*◌, ◌<◌, ◌≤◌, ◌≡◌}
+use Rattle.lists.specs.Proving.{arith, ℕ, refl, sym, ◌∙◌, ap, subst, Bool, true, false, Option, none, some, List, length, take, drop, eqb, eqb-true, eq-eqb, lt-ltb, le-ltb, never}
 use lib.ListN.{length-map}
 use lib.Seq.{take_at}
 use Rattle.lists.specs.Lists.{index_or, overlay}

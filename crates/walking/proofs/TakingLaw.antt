@@ -43,9 +43,7 @@ use Rattle.search.specs.declared.settle.Beginning.TheVariants.{Front, After}
 use Rattle.search.specs.Search.{Wanted, In, part_from, NoneOf, ForSheet, LastOk, Leaving}
 use Rattle.search.specs.Shown.{Room, Untouched, Shown}
 use Rattle.search.specs.laws.JudgementLaw.{any}
-use denote.Enum.Declared.{tag_of}
 use mathlib.Core.Logic.{◌⊎◌, inl, inr}
-use Rattle.walking.specs.contracts.Place.{the_type}
 use Rattle.walking.specs.declared.Place.{Place}
 use Rattle.walking.specs.declared.Place.TheVariants as place
 use Rattle.walking.specs.declared.Taken.{Taken}
@@ -106,7 +104,7 @@ last-is sh (after l) e = fit-mutant sh l e
 last-is sh end e = tt
 
 -- nothing is asked at the start and at the end
-pub no_last : (sh : Sheet) (p : Place) (last : List ℕ) → (tag_of the_type p ≡ 0) ⊎ (tag_of the_type p ≡ 2) → fit.Mutant ≡ fit_answer (with_standing sh (standing p last) (accepted tt))
+pub no_last : (sh : Sheet) (p : Place) (last : List ℕ) → (p ≡ place.Start) ⊎ (p ≡ place.End) → fit.Mutant ≡ fit_answer (with_standing sh (standing p last) (accepted tt))
 no_last sh place.Start last t = refl
 no_last sh place.Last last (inl e) = never (cc)
 no_last sh place.Last last (inr e) = never (cc)

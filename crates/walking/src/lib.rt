@@ -3,6 +3,7 @@
 // says of them (specs/laws/WalkedLaw.antt). Called by users, and by `ranthelo`.
 
 #![tactic(auto)]
+
 ghost use Rattle.std.specs.Prelude.{◌≡◌, length};
 ghost use Rattle.lists.specs.Lists.{overlay};
 ghost use Rattle.sheet.specs.Sheet.{Sheet};

@@ -1,5 +1,6 @@
 -- A walk that begins before a reset; however it halts, a reset stands there.
-use Rattle.lists.specs.Proving.{ℕ, ◌<◌, ◌≡◌, List, length, get_or}
+use Rattle.std.specs.Prelude.{◌<◌, ◌≡◌}
+use Rattle.lists.specs.Proving.{ℕ, List, length, get_or}
 use Rattle.model.specs.Log.{GivesFrom}
 use Rattle.block.specs.Tabulated.{Wf, step_of, start_of}
 use Rattle.block.specs.Logged.{GivesOf}

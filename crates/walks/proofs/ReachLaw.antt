@@ -1,5 +1,6 @@
 -- The pairs of states in reach.
-use Rattle.lists.specs.Proving.{arith, ℕ, ◌+◌, ◌/◌, ◌%◌, ◌^◌, ◌<◌, ◌≤◌, ◌≡◌, refl, sym, ◌∙◌, ap, subst, ⊎_elim, by_cases, List, length, get_or, set, replicate, length-set, length-replicate, get_or-replicate, List·getD-eq-default, get_or-set_same, get_or-set_other, ℕ_discrete, dec_lt, below_more}
+use Rattle.std.specs.Prelude.{◌+◌, ◌/◌, ◌%◌, ◌^◌, ◌<◌, ◌≤◌, ◌≡◌}
+use Rattle.lists.specs.Proving.{arith, ℕ, refl, sym, ◌∙◌, ap, subst, ⊎_elim, by_cases, List, length, get_or, set, replicate, length-set, length-replicate, get_or-replicate, List·getD-eq-default, get_or-set_same, get_or-set_other, ℕ_discrete, dec_lt, below_more}
 use Rattle.model.specs.Machine.{Move}
 use Rattle.block.specs.Layout.{pair, waking, rule_output, rule_target, states_of, inputs_of}
 use Rattle.block.specs.Tabulated.{Wf, Ranged, choice_of, chosen, step_of, start_of}

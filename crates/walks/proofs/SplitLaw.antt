@@ -1,5 +1,6 @@
 -- A settled part by the choices of a suspect.
-use Rattle.lists.specs.Proving.{arith, ℕ, ◌+◌, ◌<◌, ◌≤◌, ◌≡◌, sym, ◌∙◌, ap, subst, true, by_cases, List, length, get_or, set, List·getD-eq-default, get_or-set_same, get_or-set_other, ℕ_discrete, dec_lt}
+use Rattle.std.specs.Prelude.{◌+◌, ◌<◌, ◌≤◌, ◌≡◌}
+use Rattle.lists.specs.Proving.{arith, ℕ, sym, ◌∙◌, ap, subst, true, by_cases, List, length, get_or, set, List·getD-eq-default, get_or-set_same, get_or-set_other, ℕ_discrete, dec_lt}
 use Rattle.block.specs.Tabulated.{Ranged}
 use Rattle.cubes.specs.Sets.{Has, Joined}
 use Rattle.cubes.specs.Cube.{Sought, Conform, Extends}

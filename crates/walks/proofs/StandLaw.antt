@@ -1,5 +1,6 @@
 -- Mutants that have the choices settled at some suspects, along a log.
-use Rattle.lists.specs.Proving.{arith, ℕ, ◌/◌, ◌%◌, ◌^◌, ◌<◌, ◌≤◌, ◌≡◌, refl, sym, ◌∙◌, ap, subst, List, [], ◌∷◌, get_or, drop, ℕ_discrete}
+use Rattle.std.specs.Prelude.{◌/◌, ◌%◌, ◌^◌, ◌<◌, ◌≤◌, ◌≡◌, ◌∷◌}
+use Rattle.lists.specs.Proving.{arith, ℕ, refl, sym, ◌∙◌, ap, subst, List, [], get_or, drop, ℕ_discrete}
 use Rattle.model.specs.Log.{GivesFrom}
 use Rattle.model.specs.Machine.{Move}
 use Rattle.block.specs.Layout.{pair, waking, site_at, states_of, inputs_of}

@@ -1,5 +1,6 @@
 -- `press`: 5, then 8, then 9, each at the press's index; else the state that the rule leads to.
-use Rattle.lists.specs.Proving.{arith, ◌≡◌, sym, ◌∙◌, ap, never}
+use Rattle.std.specs.Prelude.{◌≡◌}
+use Rattle.lists.specs.Proving.{arith, sym, ◌∙◌, ap, never}
 use Rattle.block.specs.Layout.{pair}
 use Rattle.block.specs.laws.TabledLaw.{well-formed}
 use Rattle.adding.specs.declared.Pressed.TheVariants.{To}

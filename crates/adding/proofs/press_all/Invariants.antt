@@ -1,5 +1,6 @@
 -- `press_all`: press by press, until one is refused.
-use Rattle.lists.specs.Proving.{◌-◌, length}
+use Rattle.std.specs.Prelude.{◌-◌}
+use Rattle.lists.specs.Proving.{length}
 use Rattle.adding.proofs.PressLaw.{Pressing}
 use Rattle.adding.proofs.press_all.Given as goal
 

@@ -1,6 +1,7 @@
 -- `spell_longer`: all but END, the test, END.
 -- all but the last byte
-use Rattle.lists.specs.Proving.{arith, sym, ◌≡◌, ◌-◌, length, take, List, ℕ}
+use Rattle.std.specs.Prelude.{◌≡◌, ◌-◌}
+use Rattle.lists.specs.Proving.{arith, sym, length, take, List, ℕ}
 use lib.Seq.{length-take-le}
 use Rattle.sheet.specs.laws.PartLaw.{presses-length}
 use Rattle.writing.proofs.laws.SpelledLaw.{spelled-both}

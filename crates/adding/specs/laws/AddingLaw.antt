@@ -1,5 +1,6 @@
 -- What a test added to a sheet comes to: the longer sheet is accepted, and each refusal is the one that 02 names.
-use Rattle.lists.specs.Proving.{arith, ℕ, suc, ◌+◌, ◌<◌, ◌≤◌, ◌≡◌, refl, sym, ◌∙◌, ap, Bool, true, false, Option, some, none, List, [], ◌∷◌, length, take, drop, ltb, lt-ltb, le-ltb, never}
+use Rattle.std.specs.Prelude.{◌+◌, ◌<◌, ◌≤◌, ◌≡◌, ◌∷◌}
+use Rattle.lists.specs.Proving.{arith, ℕ, suc, refl, sym, ◌∙◌, ap, Bool, true, false, Option, some, none, List, [], length, take, drop, ltb, lt-ltb, le-ltb, never}
 use Rattle.std.proofs.Math.Dec.{leb}
 use Rattle.std.proofs.Common.{take_at}
 use borrow.Author.Tests.{leb-false, le-leb, lt-leb, ltb-false}

@@ -1,5 +1,6 @@
 -- The transitions of a pair, and the move of a mutant.
-use Rattle.lists.specs.Proving.{arith, ℕ, ◌+◌, ◌-◌, ◌/◌, ◌%◌, ◌<◌, ◌≤◌, ◌≡◌, refl, sym, ◌∙◌, ap, subst, Bool, true, false, cond, some, List, get_or, eqb, ltb, ℕ_discrete, dec_lt, eq-eqb, ne_eqb, ltb-true, lt-ltb, le-ltb, never}
+use Rattle.std.specs.Prelude.{◌+◌, ◌-◌, ◌/◌, ◌%◌, ◌<◌, ◌≤◌, ◌≡◌}
+use Rattle.lists.specs.Proving.{arith, ℕ, refl, sym, ◌∙◌, ap, subst, Bool, true, false, cond, some, List, get_or, eqb, ltb, ℕ_discrete, dec_lt, eq-eqb, ne_eqb, ltb-true, lt-ltb, le-ltb, never}
 use Rattle.std.proofs.Common.{mod-lt}
 use Rattle.model.specs.Machine.{Move}
 use Rattle.block.specs.Layout.{pair, waking, rule_output, rule_target, site_at, first_fault, mutated, diverted, choices_of, states_of, inputs_of, wake_at}

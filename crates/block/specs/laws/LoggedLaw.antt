@@ -1,5 +1,6 @@
 -- What is observed at an offset of a log, and the bytes of observations.
-use Rattle.lists.specs.Proving.{arith, ℕ, ◌+◌, ◌*◌, ◌/◌, ◌%◌, ◌<◌, ◌≡◌, refl, ◌∙◌, ap, List, [], ◌∷◌, ◌++◌, length, get_or, drop, drop-cons, add-one, ne_eqb}
+use Rattle.std.specs.Prelude.{◌+◌, ◌*◌, ◌/◌, ◌%◌, ◌<◌, ◌≡◌, ◌∷◌, ◌++◌}
+use Rattle.lists.specs.Proving.{arith, ℕ, refl, ◌∙◌, ap, List, [], length, get_or, drop, drop-cons, add-one, ne_eqb}
 use Rattle.std.proofs.Math.Seq.{get_or-drop}
 use Rattle.lists.specs.Lists.{All, joined}
 use Rattle.lists.specs.laws.ListLaw.{joined-append}

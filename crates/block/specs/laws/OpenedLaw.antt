@@ -1,5 +1,6 @@
 -- A sheet that is read: what is known of an accepted one, and of a refused one.
-use Rattle.lists.specs.Proving.{ℕ, ◌≡◌, refl, sym, ◌∙◌, ap, ap₂, List, never}
+use Rattle.std.specs.Prelude.{◌≡◌}
+use Rattle.lists.specs.Proving.{ℕ, refl, sym, ◌∙◌, ap, ap₂, List, never}
 use Rattle.sheet.specs.declared.Reading.{Reading as ReadAnswer}
 use Rattle.sheet.specs.declared.Reading.TheVariants as read
 use Rattle.sheet.specs.declared.Summary.{Summary}

@@ -1,5 +1,6 @@
 -- The block that holds a sheet's tables has the sheet's specification and mutants.
-use Rattle.lists.specs.Proving.{arith, ℕ, zero, suc, ◌+◌, ◌-◌, ◌/◌, ◌%◌, ◌<◌, ◌≤◌, ◌≡◌, refl, sym, ◌∙◌, ap, Bool, true, false, cond, ◌&&◌, by_cases, Option, some, none, List, [], ◌∷◌, length, get_or, replicate, List·getD-eq-default, eqb, ltb, ℕ_discrete, dec_lt, ne_eqb, ltb-true, lt-ltb, never}
+use Rattle.std.specs.Prelude.{◌+◌, ◌-◌, ◌/◌, ◌%◌, ◌<◌, ◌≤◌, ◌≡◌, ◌&&◌, ◌∷◌}
+use Rattle.lists.specs.Proving.{arith, ℕ, zero, suc, refl, sym, ◌∙◌, ap, Bool, true, false, cond, by_cases, Option, some, none, List, [], length, get_or, replicate, List·getD-eq-default, eqb, ltb, ℕ_discrete, dec_lt, ne_eqb, ltb-true, lt-ltb, never}
 use Rattle.std.proofs.Math.Path.{fun_ext}
 use Rattle.sheet.specs.declared.Row.{Row}
 use Rattle.lists.specs.Lists.{maybe, is_none, first}

@@ -1,5 +1,6 @@
 -- A set of pairs of states that is closed under some mutants makes each of them conforming.
-use Rattle.lists.specs.Proving.{arith, ℕ, ◌+◌, ◌*◌, ◌<◌, ◌≤◌, ◌≡◌, refl, sym, ◌∙◌, ap, ap₂, subst, Option, some, none, List, [], ◌∷◌, get_or, ℕ_discrete, below_more, never}
+use Rattle.std.specs.Prelude.{◌+◌, ◌*◌, ◌<◌, ◌≤◌, ◌≡◌, ◌∷◌}
+use Rattle.lists.specs.Proving.{arith, ℕ, refl, sym, ◌∙◌, ap, ap₂, subst, Option, some, none, List, [], get_or, ℕ_discrete, below_more, never}
 use Rattle.std.proofs.Math.Option.{some-injective}
 use Rattle.lists.specs.Lists.{maybe}
 use Rattle.model.specs.Machine.{Move, prepend, outputs_from, specified_from, ConformingFrom}

@@ -1,5 +1,6 @@
 -- The facts of a block, as they are filled.
-use Rattle.lists.specs.Proving.{arith, ℕ, ◌+◌, ◌*◌, ◌<◌, ◌≤◌, ◌≡◌, sym, ◌∙◌, ap, subst, Bool, true, false, List, length, get_or, below_more, never}
+use Rattle.std.specs.Prelude.{◌+◌, ◌*◌, ◌<◌, ◌≤◌, ◌≡◌}
+use Rattle.lists.specs.Proving.{arith, ℕ, sym, ◌∙◌, ap, subst, Bool, true, false, List, length, get_or, below_more, never}
 use Rattle.cubes.specs.Sets.{Has, Grows, Put}
 use Rattle.block.specs.Layout.{site_at, choices_of}
 use Rattle.block.specs.Tabulated.{Wf, choice_of}

@@ -1,5 +1,6 @@
 -- What literals mean.
-use Rattle.lists.specs.Proving.{arith, ℕ, ◌+◌, ◌*◌, ◌/◌, ◌%◌, ◌^◌, ◌≤◌, ◌≡◌, sym, ◌∙◌, ap, subst, inl, inr, List, get_or}
+use Rattle.std.specs.Prelude.{◌+◌, ◌*◌, ◌/◌, ◌%◌, ◌^◌, ◌≤◌, ◌≡◌}
+use Rattle.lists.specs.Proving.{arith, ℕ, sym, ◌∙◌, ap, subst, inl, inr, List, get_or}
 use Rattle.std.specs.Int.Bits.{bit_and, and_self}
 use Rattle.std.proofs.lemmas.Nat.{and_shr, and_mod, and_le_l}
 use Rattle.model.specs.Machine.{Move}

@@ -1,6 +1,6 @@
 -- One bit of a number, and so sets of numbers below 16.
-use Rattle.lists.specs.Proving.{arith, ℕ, ◌*◌, ◌/◌, ◌%◌, ◌^◌, ◌<◌, ◌≡◌, refl, sym, ◌∙◌, ap, subst, ◌⊎◌, inl, inr, List, length, get_or, set, length-set, get_or-set_same, get_or-set_other, ℕ_discrete}
-use Rattle.std.specs.Prelude.{min}
+use Rattle.lists.specs.Proving.{arith, ℕ, refl, sym, ◌∙◌, ap, subst, inl, inr, List, length, get_or, set, length-set, get_or-set_same, get_or-set_other, ℕ_discrete}
+use Rattle.std.specs.Prelude.{min, ◌*◌, ◌/◌, ◌%◌, ◌^◌, ◌<◌, ◌≡◌, ◌⊎◌}
 use Rattle.std.proofs.Math.Nat.{div-eq_of_lt}
 use Rattle.std.specs.Int.Bits.{bit_or, bit_and, and_step}
 use Rattle.std.proofs.lemmas.Nat.{and_shr}

@@ -1,5 +1,6 @@
 -- Where the mutants of a cube start.
-use Rattle.lists.specs.Proving.{arith, ℕ, ◌+◌, ◌*◌, ◌%◌, ◌^◌, ◌<◌, ◌≤◌, ◌≡◌, sym, ◌∙◌, ap, subst, by_cases, List, get_or, ℕ_discrete}
+use Rattle.std.specs.Prelude.{◌+◌, ◌*◌, ◌%◌, ◌^◌, ◌<◌, ◌≤◌, ◌≡◌}
+use Rattle.lists.specs.Proving.{arith, ℕ, sym, ◌∙◌, ap, subst, by_cases, List, get_or, ℕ_discrete}
 use Rattle.model.specs.Machine.{Move}
 use Rattle.block.specs.Layout.{waking, site_at}
 use Rattle.block.specs.Tabulated.{Wf, Ranged, choice_of, chosen, start_of, StepIs}

@@ -1,5 +1,6 @@
 -- The transition of a mutant in a cube at a suspect.
-use Rattle.lists.specs.Proving.{arith, ℕ, ◌<◌, ◌≡◌, sym, ◌∙◌, ap, subst, List, get_or}
+use Rattle.std.specs.Prelude.{◌<◌, ◌≡◌}
+use Rattle.lists.specs.Proving.{arith, ℕ, sym, ◌∙◌, ap, subst, List, get_or}
 use Rattle.model.specs.Machine.{Move}
 use Rattle.block.specs.Layout.{pair, site_at, states_of, inputs_of, choices_of}
 use Rattle.block.specs.Tabulated.{Wf, Ranged, choice_of, chosen, step_of}

@@ -1,5 +1,6 @@
 -- A cube along a log.
-use Rattle.lists.specs.Proving.{arith, ℕ, zero, suc, ◌+◌, ◌*◌, ◌/◌, ◌%◌, ◌^◌, ◌<◌, ◌≤◌, ◌≡◌, sym, ◌∙◌, subst, Bool, true, false, cond, List, [], ◌∷◌, length, get_or, drop, below_more, eqb, ne_eqb}
+use Rattle.std.specs.Prelude.{◌+◌, ◌*◌, ◌/◌, ◌%◌, ◌^◌, ◌<◌, ◌≤◌, ◌≡◌, ◌∷◌}
+use Rattle.lists.specs.Proving.{arith, ℕ, zero, suc, sym, ◌∙◌, subst, Bool, true, false, cond, List, [], length, get_or, drop, below_more, eqb, ne_eqb}
 use Rattle.model.specs.Log.{reset, seen, GivesFrom}
 use Rattle.model.specs.Machine.{Move}
 use Rattle.cubes.specs.Sets.{Has, Joined}

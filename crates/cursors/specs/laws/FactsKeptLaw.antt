@@ -1,5 +1,6 @@
 -- Facts that stay while tests are noted.
-use Rattle.lists.specs.Proving.{arith, ℕ, ◌≤◌, ◌≡◌, refl, ◌∙◌, List, length, set, length-set, get_or-set_other}
+use Rattle.std.specs.Prelude.{◌≤◌, ◌≡◌}
+use Rattle.lists.specs.Proving.{arith, ℕ, refl, ◌∙◌, List, length, set, length-set, get_or-set_other}
 use Rattle.cursors.specs.FactsKept.{FactsKept}
 
 pub kept-none : {facts : List ℕ} → length facts ≡ 1088 → FactsKept facts facts

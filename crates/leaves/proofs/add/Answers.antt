@@ -1,4 +1,5 @@
-use Rattle.lists.specs.Proving.{ℕ, ◌^◌, ◌∙◌, ap, subst}
+use Rattle.std.specs.Prelude.{◌^◌}
+use Rattle.lists.specs.Proving.{ℕ, ◌∙◌, ap, subst}
 use Rattle.cubes.specs.Sets.{Joined}
 use Rattle.leaves.proofs.add.Goals as goal
 

@@ -1,4 +1,5 @@
-use Rattle.lists.specs.Proving.{◌-◌, ◌≤◌, ◌≡◌, length}
+use Rattle.std.specs.Prelude.{◌-◌, ◌≤◌, ◌≡◌}
+use Rattle.lists.specs.Proving.{length}
 use Rattle.leaves.specs.Members.{Exact}
 use Rattle.leaves.proofs.exact.Given as goal
 

@@ -1,4 +1,5 @@
-use Rattle.lists.specs.Proving.{ℕ, ◌≡◌, subst, true, false}
+use Rattle.std.specs.Prelude.{◌≡◌}
+use Rattle.lists.specs.Proving.{ℕ, subst, true, false}
 use Rattle.cubes.specs.Sets.{Has}
 use Rattle.leaves.proofs.in_set.Goals as goal
 

@@ -1,4 +1,5 @@
-use Rattle.lists.specs.Proving.{arith, ℕ, ◌%◌, ◌^◌, sym, subst}
+use Rattle.std.specs.Prelude.{◌%◌, ◌^◌}
+use Rattle.lists.specs.Proving.{arith, ℕ, sym, subst}
 use lib.Bits.{bit_or}
 use Rattle.cubes.specs.Sets.{Joined}
 use Rattle.cubes.specs.laws.SetLaw.{one_shl, union-or}

@@ -1,5 +1,6 @@
 -- Cubes that steer: their literals one by one, and which suspects are free in the cube of a settled part.
-use Rattle.lists.specs.Proving.{arith, ℕ, zero, suc, ◌+◌, ◌<◌, ◌≡◌, ◌⊎◌, inl, inr, List, [], ◌∷◌, length, get_or, set, List·getD-eq-default, dec_lt}
+use Rattle.std.specs.Prelude.{◌+◌, ◌<◌, ◌≡◌, ◌⊎◌, ◌∷◌}
+use Rattle.lists.specs.Proving.{arith, ℕ, zero, suc, inl, inr, List, [], length, get_or, set, List·getD-eq-default, dec_lt}
 use Rattle.cubes.specs.Sets.{Has}
 use Rattle.cubes.specs.Cube.{Means}
 use Rattle.cubes.specs.laws.SetLaw.{nothing}

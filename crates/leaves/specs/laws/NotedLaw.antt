@@ -1,5 +1,6 @@
 -- Notes that stay as they are: none changed, one, more.
-use Rattle.lists.specs.Proving.{arith, ℕ, ◌<◌, ◌≤◌, ◌≡◌, refl, ◌∙◌, List, set, length-set, get_or-set_other}
+use Rattle.std.specs.Prelude.{◌<◌, ◌≤◌, ◌≡◌}
+use Rattle.lists.specs.Proving.{arith, ℕ, refl, ◌∙◌, List, set, length-set, get_or-set_other}
 use Rattle.leaves.specs.Noted.{Changed}
 
 pub changed-none : {from to : ℕ} {notes : List ℕ} → Changed from to notes notes

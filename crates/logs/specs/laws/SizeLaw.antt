@@ -1,5 +1,6 @@
 -- The bytes of a suite's log: how many they are, and that inputs and outputs are below 16.
-use Rattle.lists.specs.Proving.{arith, ℕ, suc, ◌+◌, ◌*◌, ◌≤◌, ◌≡◌, refl, Option, some, none, List, [], ◌∷◌, ◌++◌, length, length-append}
+use Rattle.std.specs.Prelude.{◌+◌, ◌*◌, ◌≤◌, ◌≡◌, ◌∷◌, ◌++◌}
+use Rattle.lists.specs.Proving.{arith, ℕ, suc, refl, Option, some, none, List, [], length, length-append}
 use Rattle.lists.specs.Lists.{maybe, All, joined}
 use Rattle.lists.specs.laws.AllLaw.{all_append}
 use Rattle.sheet.specs.Sheet.{Sheet}

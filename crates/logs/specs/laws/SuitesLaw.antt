@@ -1,5 +1,6 @@
 -- The suite of an accepted sheet: where its tests stand, and that their log is the suite's.
-use Rattle.lists.specs.Proving.{arith, ℕ, ◌*◌, ◌≤◌, ◌≡◌, refl, sym, ◌∙◌, ap, List, [], length, take}
+use Rattle.std.specs.Prelude.{◌*◌, ◌≤◌, ◌≡◌}
+use Rattle.lists.specs.Proving.{arith, ℕ, refl, sym, ◌∙◌, ap, List, [], length, take}
 use Rattle.std.proofs.Common.{append-nil}
 use Rattle.sheet.specs.Sheet.{Sheet}
 use Rattle.sheet.specs.Tables.{tables_of}

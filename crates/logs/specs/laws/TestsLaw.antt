@@ -1,5 +1,6 @@
 -- The tests of an accepted sheet are where its tables say, and their log is the suite's.
-use Rattle.lists.specs.Proving.{arith, ℕ, zero, suc, ◌+◌, ◌-◌, ◌*◌, ◌<◌, ◌≤◌, ◌≡◌, refl, ◌∙◌, ap, cond, Option, List, [], ◌∷◌, ◌++◌, length, get_or, length-append, append_snoc, ltb, lt-ltb}
+use Rattle.std.specs.Prelude.{◌+◌, ◌-◌, ◌*◌, ◌<◌, ◌≤◌, ◌≡◌, ◌∷◌, ◌++◌}
+use Rattle.lists.specs.Proving.{arith, ℕ, zero, suc, refl, ◌∙◌, ap, cond, Option, List, [], length, get_or, length-append, append_snoc, ltb, lt-ltb}
 use Rattle.std.proofs.Common.{suc-le-suc, add-zero, append_assoc, get_or-append-add}
 use Rattle.sheet.specs.Sheet.{Sheet}
 use Rattle.sheet.specs.Encode.{operand_bytes, press_bytes, encode}

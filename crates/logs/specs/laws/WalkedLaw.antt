@@ -1,5 +1,6 @@
 -- The first wrong output that a tabulated mutant gives along a log.
-use Rattle.lists.specs.Proving.{arith, ℕ, suc, ◌%◌, ◌<◌, ◌≤◌, ◌≡◌, refl, sym, ◌∙◌, Bool, true, false, cond, none, List, [], ◌∷◌, get_or, eqb, eq-eqb}
+use Rattle.std.specs.Prelude.{◌%◌, ◌<◌, ◌≤◌, ◌≡◌, ◌∷◌}
+use Rattle.lists.specs.Proving.{arith, ℕ, suc, refl, sym, ◌∙◌, Bool, true, false, cond, none, List, [], get_or, eqb, eq-eqb}
 use Rattle.lists.specs.Lists.{All}
 use Rattle.sheet.specs.Sheet.{Sheet}
 use Rattle.sheet.specs.WellFormed.{WellFormed}

@@ -1,5 +1,6 @@
 -- For callers: what `exchange_all` leaves, and how `reflect` fits into a join.
-use Rattle.lists.specs.Proving.{arith, ℕ, ◌+◌, ◌<◌, ◌≡◌, List, get_or}
+use Rattle.std.specs.Prelude.{◌+◌, ◌<◌, ◌≡◌}
+use Rattle.lists.specs.Proving.{arith, ℕ, List, get_or}
 use Rattle.cubes.specs.Cube.{MeetsAll}
 use Rattle.mirror.specs.Mirror.{SwapsOk}
 use Rattle.mirror.specs.Reflect.{Under}

@@ -1,5 +1,6 @@
 -- What is told of a settled part.
-use Rattle.lists.specs.Proving.{ℕ, ◌≡◌, sym, subst, true, List}
+use Rattle.std.specs.Prelude.{◌≡◌}
+use Rattle.lists.specs.Proving.{ℕ, sym, subst, true, List}
 use Rattle.block.specs.Tabulated.{Wf}
 use Rattle.cubes.specs.Cube.{AllConform}
 use Rattle.cubes.specs.declared.goal.Goal.{Goal}

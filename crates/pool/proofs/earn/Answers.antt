@@ -1,4 +1,3 @@
-use borrow.Author.Rules.{rules}
 use native.Mathlib.Omega.{arith}
 use Rattle.leaves.specs.laws.NotedLaw.{changed-set}
 use Rattle.pool.proofs.earn.Goals as goal

@@ -1,6 +1,4 @@
-use borrow.Author.Rules.{rules}
 use native.Mathlib.Omega.{arith}
-use Prim.Native.Nat.{◌+◌, ◌≤◌, ◌-◌}
 use Rattle.pool.proofs.most_agreed.Goals as goal
 
 pub loop-w-preserved : goal.loop-w-preserved

@@ -1,8 +1,5 @@
-use borrow.Author.Rules.{rules}
-use native.Mathlib.Omega.{arith}
 use Prim.Native.Nat.{◌≤◌, ◌-◌}
 use Rattle.leaves.specs.Noted.{Changed}
-use Rattle.leaves.specs.laws.NotedLaw.{changed-none, changed-more}
 use Rattle.pool.proofs.test_survivors.Given as goal
 
 abbrev pub invariant-loop-w : goal.invariant-loop-w

@@ -1,6 +1,6 @@
 -- The mutants that give a record; the suite's own record.
-use Rattle.lists.specs.Proving.{arith, ℕ, zero, suc, ◌-◌, ◌<◌, ◌≤◌, ◌≡◌, refl, sym, ◌∙◌, ap, Bool, true, false, cond, Option, some, none, List, [], ◌∷◌, ◌++◌, ◌⊎◌, inl, inr, ⊎_elim, eqb, eq-eqb, never}
-use Rattle.std.specs.Prelude.{not}
+use Rattle.lists.specs.Proving.{arith, ℕ, zero, suc, refl, sym, ◌∙◌, ap, Bool, true, false, cond, Option, some, none, List, [], inl, inr, ⊎_elim, eqb, eq-eqb, never}
+use Rattle.std.specs.Prelude.{not, ◌-◌, ◌<◌, ◌≤◌, ◌≡◌, ◌∷◌, ◌++◌, ◌⊎◌}
 use mathlib.Core.List.Memᴰ
 use mathlib.Core.List.{Memᴰ}
 use Rattle.lists.specs.Lists.{is_none, Ascending, Before}

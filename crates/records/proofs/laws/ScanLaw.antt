@@ -1,5 +1,6 @@
 -- What the scan for the first broken command finds: whole commands, or the offset of the first that is none.
-use Rattle.lists.specs.Proving.{arith, ℕ, zero, suc, ◌+◌, ◌<◌, ◌≤◌, ◌≡◌, refl, sym, ◌∙◌, ap, subst, Bool, true, false, cond, ◌&&◌, Option, some, none, List, [], ◌∷◌, ◌++◌, length, get_or, drop, length-append, eqb, eqb-true, eq-eqb, ltb, ltb-true, lt-ltb, never}
+use Rattle.std.specs.Prelude.{◌+◌, ◌<◌, ◌≤◌, ◌≡◌, ◌&&◌, ◌∷◌, ◌++◌}
+use Rattle.lists.specs.Proving.{arith, ℕ, zero, suc, refl, sym, ◌∙◌, ap, subst, Bool, true, false, cond, Option, some, none, List, [], length, get_or, drop, length-append, eqb, eqb-true, eq-eqb, ltb, ltb-true, lt-ltb, never}
 use Rattle.lists.specs.Lists.{All, joined}
 use Rattle.lists.specs.laws.TestLaw.{both, and_both, clash}
 use mathlib.Core.List.{append_assoc, append-nil}

@@ -1,5 +1,6 @@
 -- The record of the test suite itself: it is whole, and a mutant passes the suite exactly if it gives it.
-use Rattle.lists.specs.Proving.{arith, ℕ, ◌≡◌, refl, sym, ◌∙◌, false, Option, some, none, List, [], ◌∷◌}
+use Rattle.std.specs.Prelude.{◌≡◌, ◌∷◌}
+use Rattle.lists.specs.Proving.{arith, ℕ, refl, sym, ◌∙◌, false, Option, some, none, List, []}
 use Rattle.lists.specs.Lists.{maybe, All}
 use Rattle.lists.specs.laws.AllLaw.{all_append}
 use Rattle.sheet.specs.Sheet.{Sheet}

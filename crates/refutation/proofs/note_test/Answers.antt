@@ -1,4 +1,3 @@
-use Rattle.lists.specs.Proving.{rules}
 use Rattle.refutation.proofs.FactsLaw.{ready-kept}
 use Rattle.refutation.proofs.note_test.Goals as goal
 

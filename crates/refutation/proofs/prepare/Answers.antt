@@ -1,4 +1,3 @@
-use Rattle.lists.specs.Proving.{rules, not-false}
 use Rattle.store.specs.laws.ToldLaw.{void}
 use Rattle.refutation.proofs.FactsLaw.{prepared}
 use Rattle.refutation.proofs.prepare.Goals as goal

@@ -1,4 +1,4 @@
-use Rattle.lists.specs.Proving.{rules, sym, ◌∙◌, not-false}
+use Rattle.lists.specs.Proving.{sym, ◌∙◌}
 use Rattle.store.specs.laws.ToldLaw.{void, told_none}
 use Rattle.refutation.proofs.told_from.Goals as goal
 

@@ -1,5 +1,6 @@
 -- What the search for a nonconforming mutant finds is the judgement.
-use Rattle.lists.specs.Proving.{arith, ℕ, ◌≡◌, refl, ◌∙◌, ap, Option, some, none, List, length, never}
+use Rattle.std.specs.Prelude.{◌≡◌}
+use Rattle.lists.specs.Proving.{arith, ℕ, refl, ◌∙◌, ap, Option, some, none, List, length, never}
 use Rattle.lists.specs.Lists.{overlay}
 use Rattle.sheet.specs.Sheet.{Sheet}
 use Rattle.model.specs.Suite.{Passes, compare_of, complete, survivor, judge_of}

@@ -1,5 +1,6 @@
 -- A mutant laid out in tables, along a log.
-use Rattle.lists.specs.Proving.{arith, ℕ, ◌*◌, ◌/◌, ◌%◌, ◌<◌, ◌≡◌, refl, ◌∙◌, List}
+use Rattle.std.specs.Prelude.{◌*◌, ◌/◌, ◌%◌, ◌<◌, ◌≡◌}
+use Rattle.lists.specs.Proving.{arith, ℕ, refl, ◌∙◌, List}
 use Rattle.sheet.specs.Sheet.{Sheet}
 use Rattle.sheet.specs.WellFormed.{WellFormed}
 use Rattle.model.specs.Mutant.{step}

@@ -1,5 +1,6 @@
 -- What is told where nothing is.
-use Rattle.lists.specs.Proving.{ℕ, ◌≡◌, sym, ◌∙◌, true, false, List, never}
+use Rattle.std.specs.Prelude.{◌≡◌}
+use Rattle.lists.specs.Proving.{ℕ, sym, ◌∙◌, true, false, List, never}
 use Rattle.cubes.specs.declared.goal.Goal.{Goal}
 use Rattle.store.specs.Store.{ToldOk, Tells}
 use Rattle.store.specs.declared.entries.Told.{Told}

@@ -9,4 +9,4 @@ unfolding fit_of
 returns-in-Last c = λ sh tb. rw c.in-Last.is (c.fits.ensures sh tb)
 
 pub returns-in-Start : goal.returns-in-Start
-returns-in-Start c = λ sh tb. no_last sh c.args.place _ c.in-Start.keys2
+returns-in-Start c = λ sh tb. no_last sh c.args.place _ c.in-Start.is

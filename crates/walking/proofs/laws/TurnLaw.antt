@@ -1,5 +1,6 @@
 -- One call of a walk: what a take and a test added leave.
-use Rattle.lists.specs.Proving.{ℕ, ◌*◌, ◌≤◌, ◌≡◌, refl, ◌∙◌, ap, subst, Bool, true, false, Option, some, none, List, [], ◌∷◌, ◌++◌, length, take, drop, ltb, le-ltb}
+use Rattle.std.specs.Prelude.{◌*◌, ◌≤◌, ◌≡◌, ◌∷◌, ◌++◌}
+use Rattle.lists.specs.Proving.{ℕ, refl, ◌∙◌, ap, subst, Bool, true, false, Option, some, none, List, [], length, take, drop, ltb, le-ltb}
 use mathlib.Core.List.Memᴰ
 use Rattle.std.proofs.Common.{take_at}
 use Rattle.lists.specs.Lists.{overlay}

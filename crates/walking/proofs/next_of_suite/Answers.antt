@@ -12,10 +12,10 @@ pub slice_bounds-short-end : goal.slice_bounds-short-end
 slice_bounds-short-end c = let given = c.requires.0 in (c.log_suite-n.ensures given.0 (suite-short given.1 (omega (arith, c.if-sheet-le1024.true)))).inside
 
 pub slice_bounds-next-end : goal.slice_bounds-next-end
-slice_bounds-next-end c = sym (length-take-le _ _ (array-share-prefix-short c))
+slice_bounds-next-end c = let given = c.requires.0 in sym (length-take-le _ _ (c.log_suite-n.ensures given.0 (suite-short given.1 (omega (arith, c.if-sheet-le1024.true)))).inside)
 
 pub next-requires : goal.next-requires
-next-requires c = 
+next-requires c =
     let given = c.requires in
     let rd = given.0.1 in
     ((given.0.0, by-log rd (c.log_suite-n.ensures given.0.0 (suite-short rd (omega (arith, c.if-sheet-le1024.true)))), given.0.2), given.1)
@@ -30,10 +30,10 @@ pub slice_bounds-long-end : goal.slice_bounds-long-end
 slice_bounds-long-end c = let given = c.requires.0 in (c.log_suite-n-2.ensures given.0 (suite-long given.1 (omega arith))).inside
 
 pub slice_bounds-next-end-2 : goal.slice_bounds-next-end-2
-slice_bounds-next-end-2 c = sym (length-take-le _ _ (array-share-prefix-long c))
+slice_bounds-next-end-2 c = let given = c.requires.0 in sym (length-take-le _ _ (c.log_suite-n-2.ensures given.0 (suite-long given.1 (omega arith))).inside)
 
 pub next-requires-2 : goal.next-requires-2
-next-requires-2 c = 
+next-requires-2 c =
     let given = c.requires in
     let rd = given.0.1 in
     ((given.0.0, by-log rd (c.log_suite-n-2.ensures given.0.0 (suite-long rd (omega arith))), given.0.2), given.1)

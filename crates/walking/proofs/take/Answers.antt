@@ -13,7 +13,7 @@ returns-in_default c = let a = c.args in
     let x = take-refused a.sheet.now _ a.board.now a.sequence.now c.load-reading.result c.in_default.field-0 c.in_default.field-1 _ c.load-reading.ensures.value c.in_default.is (ap₂ Refused z.0 z.1) in record { answer = x.0.answer; board = x.0.board; sequence = x.0.sequence; told = x.1 }
 
 pub take_read-requires : goal.take_read-requires
-take_read-requires c = 
+take_read-requires c =
     let x = opened c.args.sheet.now c.load-reading.ensures.value c.in-Accepted.is c.load-reading.ensures.loads in
     (x.sheet, x.holds)
 

@@ -1,4 +1,5 @@
-use Rattle.lists.specs.Proving.{◌/◌, refl, lt-ltb, le-ltb}
+use Rattle.std.specs.Prelude.{◌/◌}
+use Rattle.lists.specs.Proving.{refl, lt-ltb, le-ltb}
 use Rattle.block.proofs.layout.stay.Goals as goal
 
 pub returns-then-target-states : goal.returns-then-target-states

@@ -1,5 +1,6 @@
 -- a pair of a state and an input
-use Rattle.lists.specs.Proving.{arith, ◌<◌, refl}
+use Rattle.std.specs.Prelude.{◌<◌}
+use Rattle.lists.specs.Proving.{arith, refl}
 use Rattle.block.specs.laws.ChoiceLaw.{is-waking, is-rule, is-fault, is_none}
 use Rattle.block.proofs.layout.transition.Goals as goal
 

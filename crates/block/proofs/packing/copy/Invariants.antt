@@ -1,4 +1,5 @@
-use Rattle.lists.specs.Proving.{◌+◌, ◌-◌, ◌≤◌, length}
+use Rattle.std.specs.Prelude.{◌+◌, ◌-◌, ◌≤◌}
+use Rattle.lists.specs.Proving.{length}
 use Rattle.block.specs.Packing.{Copied}
 use Rattle.block.proofs.packing.copy.Given as goal
 

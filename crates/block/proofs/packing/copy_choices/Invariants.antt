@@ -1,4 +1,4 @@
-use Rattle.lists.specs.Proving.{◌-◌}
+use Rattle.std.specs.Prelude.{◌-◌}
 use Rattle.block.specs.Packing.{ChoicesCopied}
 use Rattle.block.proofs.packing.copy_choices.Given as goal
 

@@ -1,4 +1,4 @@
-use Rattle.lists.specs.Proving.{◌-◌}
+use Rattle.std.specs.Prelude.{◌-◌}
 use Rattle.block.specs.Packing.{FirstCopied}
 use Rattle.block.proofs.packing.copy_first.Given as goal
 

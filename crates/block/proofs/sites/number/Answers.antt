@@ -1,5 +1,6 @@
 -- `number`: what holds after the pairs before an index.
-use Rattle.lists.specs.Proving.{arith, ◌<◌, sym, ◌∙◌}
+use Rattle.std.specs.Prelude.{◌<◌}
+use Rattle.lists.specs.Proving.{arith, sym, ◌∙◌}
 use Rattle.block.specs.Sites.{waking_first}
 use Rattle.block.proofs.SitesLaw.{number-start, number-open, number-shut, number-end, few-before, room}
 use Rattle.block.proofs.sites.number.Goals as goal

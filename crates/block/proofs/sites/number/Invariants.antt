@@ -1,5 +1,5 @@
 -- `number`: what holds after the pairs before an index.
-use Rattle.lists.specs.Proving.{◌-◌, ◌*◌}
+use Rattle.std.specs.Prelude.{◌-◌, ◌*◌}
 use Rattle.block.specs.Sites.{waking_first}
 use Rattle.block.proofs.SitesLaw.{Numbering}
 use Rattle.block.proofs.sites.number.Given as goal

@@ -1,4 +1,3 @@
-use borrow.Author.Rules.{rules}
 use native.Mathlib.Omega.{arith}
 use Rattle.clearing.proofs.AskLaw.{refutes-none, refutes-some}
 use Rattle.clearing.proofs.ask.cleared_by.Goals as goal

@@ -1,4 +1,3 @@
-use borrow.Author.Rules.{rules}
 use Rattle.lists.specs.laws.TestLaw.{never}
 use Rattle.clearing.proofs.AskLaw.{meant_is}
 use Rattle.clearing.proofs.ask.meant.Goals as goal

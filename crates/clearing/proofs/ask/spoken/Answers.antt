@@ -1,10 +1,7 @@
 -- `spoken`: the set has the slots before j.
-use borrow.Author.Rules.{rules}
 use native.Mathlib.Omega.{arith}
 use mathlib.Core.Path.{refl}
-use Prim.Native.Nat.{◌-◌, ◌≤◌}
 use Rattle.clearing.proofs.AskLaw.{speaks-none, speaks_more, speaks-all}
-use Rattle.clearing.specs.Asking.{Speaks}
 use Rattle.clearing.proofs.ask.spoken.Goals as goal
 
 pub loop-j-init : goal.loop-j-init

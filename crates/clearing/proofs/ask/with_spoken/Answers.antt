@@ -1,4 +1,3 @@
-use borrow.Author.Rules.{rules}
 use Rattle.clearing.proofs.AskLaw.{to_same, to-joined}
 use Rattle.clearing.proofs.ask.with_spoken.Goals as goal
 

@@ -1,4 +1,3 @@
-use borrow.Author.Rules.{rules}
 use Rattle.clearing.proofs.looks.by_conforming.Goals as goal
 
 pub returns : goal.returns

@@ -1,4 +1,3 @@
-use borrow.Author.Rules.{rules}
 use Rattle.cubes.specs.declared.goal.Goal.TheVariants.{Nonconforming}
 use Rattle.clearing.proofs.looks.by_test.Goals as goal
 

@@ -1,4 +1,3 @@
-use borrow.Author.Rules.{rules}
 use Rattle.block.specs.laws.TabledLaw.{well-formed}
 use Rattle.cubes.specs.declared.goal.Goal.TheVariants.{Nonconforming}
 use Rattle.clearing.specs.laws.BlamesLaw.{blames-by}

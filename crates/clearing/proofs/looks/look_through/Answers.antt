@@ -1,5 +1,4 @@
 -- `look_through`: the mutant along the log, and held against the specification.
-use borrow.Author.Rules.{rules}
 use Prim.Native.Nat.{ℕ}
 use lib.ListN.{length-replicate}
 use Rattle.clearing.specs.laws.BlamesLaw.{blames}

@@ -1,7 +1,5 @@
 -- `advance`: the slots above the highest of the set have no choice left.
-use borrow.Author.Rules.{rules}
-use native.Mathlib.Omega.{arith}
-use Rattle.clearing.proofs.OrderLaw.{Advancing, advancing-none, advancing-more, advancing-ends, advancing-falls, few-choices, blame-long}
+use Rattle.clearing.proofs.OrderLaw.{Advancing}
 use Rattle.clearing.proofs.order.advance.Given as goal
 
 abbrev pub invariant-loop-set : goal.invariant-loop-set

@@ -1,8 +1,6 @@
 -- `settle`: the numbers between j and i are 0.
-use borrow.Author.Rules.{rules}
 use native.Mathlib.Omega.{arith}
-use Prim.Native.Nat.{◌-◌}
-use Rattle.clearing.proofs.OrderLaw.{ResetTo, reset-none, reset-more, reset-all}
+use Rattle.clearing.proofs.OrderLaw.{reset-none, reset-more, reset-all}
 use Rattle.clearing.proofs.order.settle.Goals as goal
 
 pub loop-i-init : goal.loop-i-init

@@ -1,4 +1,4 @@
-use Rattle.lists.specs.Proving.{◌-◌}
+use Rattle.std.specs.Prelude.{◌-◌}
 use Rattle.cubes.specs.Cube.{In}
 use Rattle.cubes.specs.laws.ConformLaw.{ClosedTo}
 use Rattle.cubes.proofs.conform.closed.Given as goal

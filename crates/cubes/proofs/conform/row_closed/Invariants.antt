@@ -1,4 +1,4 @@
-use Rattle.lists.specs.Proving.{◌-◌}
+use Rattle.std.specs.Prelude.{◌-◌}
 use Rattle.cubes.specs.Cube.{In}
 use Rattle.cubes.specs.laws.ConformLaw.{RowTo}
 use Rattle.cubes.proofs.conform.row_closed.Given as goal

@@ -1,4 +1,5 @@
-use Rattle.lists.specs.Proving.{◌-◌, length}
+use Rattle.std.specs.Prelude.{◌-◌}
+use Rattle.lists.specs.Proving.{length}
 use Rattle.cubes.specs.laws.WalkLaw.{Walking}
 use Rattle.cubes.proofs.failing.fails.Given as goal
 

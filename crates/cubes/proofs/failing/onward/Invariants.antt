@@ -1,4 +1,4 @@
-use Rattle.lists.specs.Proving.{◌-◌}
+use Rattle.std.specs.Prelude.{◌-◌}
 use Rattle.cubes.specs.laws.WalkLaw.{OnTo}
 use Rattle.cubes.proofs.failing.onward.Given as goal
 

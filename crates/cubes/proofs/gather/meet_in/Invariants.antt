@@ -1,4 +1,4 @@
-use Rattle.lists.specs.Proving.{◌-◌}
+use Rattle.std.specs.Prelude.{◌-◌}
 use Rattle.cubes.specs.laws.JoinLaw.{MeetsTo}
 use Rattle.cubes.proofs.gather.meet_in.Given as goal
 

@@ -1,4 +1,5 @@
-use Rattle.lists.specs.Proving.{◌+◌, sym, ◌∙◌, get_or, eqb-true}
+use Rattle.std.specs.Prelude.{◌+◌}
+use Rattle.lists.specs.Proving.{sym, ◌∙◌, get_or, eqb-true}
 use Rattle.cubes.specs.laws.LiteralLaw.{sounds-any, sounds-some}
 use Rattle.cubes.proofs.literals.sounds.Goals as goal
 

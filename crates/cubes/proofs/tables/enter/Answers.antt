@@ -1,4 +1,5 @@
-use Rattle.lists.specs.Proving.{arith, ◌+◌, ◌*◌}
+use Rattle.std.specs.Prelude.{◌+◌, ◌*◌}
+use Rattle.lists.specs.Proving.{arith}
 use Rattle.cubes.specs.laws.FreeLaw.{entered-not, step-few, entered}
 use Rattle.cubes.proofs.tables.enter.Goals as goal
 

@@ -1,4 +1,4 @@
-use Rattle.lists.specs.Proving.{◌-◌}
+use Rattle.std.specs.Prelude.{◌-◌}
 use Rattle.cubes.specs.laws.FreeLaw.{AllTo}
 use Rattle.cubes.proofs.tables.enter_all.Given as goal
 

@@ -1,4 +1,5 @@
-use Rattle.lists.specs.Proving.{rules, arith, ◌-◌, ◌≤◌, length}
+use Rattle.std.specs.Prelude.{◌-◌, ◌≤◌}
+use Rattle.lists.specs.Proving.{rules, arith, length}
 use Rattle.cursors.specs.FactsKept.{FactsKept}
 use Rattle.cursors.specs.laws.FactsKeptLaw.{kept-none, kept_set, kept_more}
 use Rattle.cursors.proofs.observed.find_tests.Given as goal

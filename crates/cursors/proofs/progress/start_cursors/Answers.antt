@@ -1,4 +1,5 @@
-use Rattle.lists.specs.Proving.{rules, arith, ◌-◌, ◌≤◌}
+use Rattle.std.specs.Prelude.{◌-◌, ◌≤◌}
+use Rattle.lists.specs.Proving.{rules, arith}
 use Rattle.cursors.specs.Steering.{Begun}
 use Rattle.cursors.proofs.MarkingLaw.{begun-none, begun_more, begun_all}
 use Rattle.cursors.proofs.progress.start_cursors.Goals as goal

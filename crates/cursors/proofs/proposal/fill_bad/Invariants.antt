@@ -1,4 +1,5 @@
-use Rattle.lists.specs.Proving.{rules, ◌≤◌}
+use Rattle.std.specs.Prelude.{◌≤◌}
+use Rattle.lists.specs.Proving.{rules}
 use Rattle.cursors.proofs.proposal.fill_bad.Given as goal
 
 abbrev pub invariant-loop-l : goal.invariant-loop-l

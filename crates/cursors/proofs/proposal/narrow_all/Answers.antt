@@ -1,4 +1,5 @@
-use Rattle.lists.specs.Proving.{rules, arith, ◌-◌, ◌≤◌}
+use Rattle.std.specs.Prelude.{◌-◌, ◌≤◌}
+use Rattle.lists.specs.Proving.{rules, arith}
 use Rattle.cursors.specs.Steering.{Narrowed}
 use Rattle.cursors.proofs.NarrowingLaw.{narrowed_none, narrowed-more}
 use Rattle.cursors.proofs.proposal.narrow_all.Goals as goal

@@ -1,4 +1,5 @@
-use Rattle.lists.specs.Proving.{rules, ◌-◌, ◌*◌, ◌≤◌}
+use Rattle.std.specs.Prelude.{◌-◌, ◌*◌, ◌≤◌}
+use Rattle.lists.specs.Proving.{rules}
 use Rattle.cursors.proofs.wanted.alive.Given as goal
 
 abbrev pub invariant-loop-n : goal.invariant-loop-n

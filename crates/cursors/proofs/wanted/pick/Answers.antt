@@ -1,4 +1,5 @@
-use Rattle.lists.specs.Proving.{rules, arith, ◌-◌, ◌≤◌}
+use Rattle.std.specs.Prelude.{◌-◌, ◌≤◌}
+use Rattle.lists.specs.Proving.{rules, arith}
 use Rattle.cursors.specs.Steering.{Picked}
 use Rattle.cursors.proofs.MarkingLaw.{picked_none, picked_more}
 use Rattle.cursors.proofs.wanted.pick.Goals as goal

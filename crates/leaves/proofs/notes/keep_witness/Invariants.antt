@@ -1,4 +1,4 @@
-use Rattle.lists.specs.Proving.{◌-◌, ◌≤◌}
+use Rattle.std.specs.Prelude.{◌-◌, ◌≤◌}
 use Rattle.leaves.proofs.NotesLaw.{Kept}
 use Rattle.leaves.proofs.notes.keep_witness.Given as goal
 

@@ -1,4 +1,5 @@
-use Rattle.lists.specs.Proving.{ℕ, ◌+◌, ◌-◌, ◌<◌, ◌≤◌, get_or}
+use Rattle.std.specs.Prelude.{◌+◌, ◌-◌, ◌<◌, ◌≤◌}
+use Rattle.lists.specs.Proving.{ℕ, get_or}
 use Rattle.leaves.specs.Noted.{Clash}
 use Rattle.leaves.proofs.notes.witnessed.Given as goal
 

@@ -1,5 +1,5 @@
 -- `record_suite`: the tests before t are written.
-use Rattle.lists.specs.Proving.{◌-◌}
+use Rattle.std.specs.Prelude.{◌-◌}
 use Rattle.logs.proofs.RecordLaw.{Suiting}
 use Rattle.logs.proofs.suite.record_suite.Given as goal
 

@@ -1,5 +1,6 @@
 -- `record_test`: the inputs before `at` are written.
-use Rattle.lists.specs.Proving.{arith, ◌+◌, ◌∙◌, get_or, set, length-set}
+use Rattle.std.specs.Prelude.{◌+◌}
+use Rattle.lists.specs.Proving.{arith, ◌∙◌, get_or, set, length-set}
 use Rattle.lists.specs.Lists.{joined}
 use Rattle.block.specs.Logged.{log_bytes}
 use Rattle.logs.proofs.RecordLaw.{written_none, written_one, written_both, testing-start, testing-next, testing-more, testing-end}

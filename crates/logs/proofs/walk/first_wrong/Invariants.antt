@@ -1,5 +1,6 @@
 -- `first_wrong`: the mutant gives the observations before i.
-use Rattle.lists.specs.Proving.{◌-◌, length}
+use Rattle.std.specs.Prelude.{◌-◌}
+use Rattle.lists.specs.Proving.{length}
 use Rattle.logs.proofs.WrongLaw.{Walking}
 use Rattle.logs.proofs.walk.first_wrong.Given as goal
 

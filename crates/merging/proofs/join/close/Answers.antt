@@ -1,5 +1,6 @@
 -- `close`: the first limit that is passed, or the parts one after another.
-use Rattle.lists.specs.Proving.{arith, ◌+◌, ◌/◌, length}
+use Rattle.std.specs.Prelude.{◌+◌, ◌/◌}
+use Rattle.lists.specs.Proving.{arith, length}
 use Rattle.merging.proofs.JoinLaw.{limit-room, close-refused, close-done}
 use Rattle.merging.proofs.join.close.Goals as goal
 

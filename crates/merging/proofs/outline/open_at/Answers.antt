@@ -1,5 +1,6 @@
 -- `open_at`: those before x are counted.
-use Rattle.lists.specs.Proving.{arith, sym, ◌∙◌, ap, ◌≡◌, refl}
+use Rattle.std.specs.Prelude.{◌≡◌}
+use Rattle.lists.specs.Proving.{arith, sym, ◌∙◌, ap, refl}
 use Rattle.lists.specs.Lists.{count}
 use Rattle.merging.specs.words.Outlined.{either_open}
 use Rattle.merging.proofs.OpenLaw.{count_yes, count_no}

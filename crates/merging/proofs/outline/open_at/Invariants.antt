@@ -1,5 +1,5 @@
 -- `open_at`: those before x are counted.
-use Rattle.lists.specs.Proving.{◌≡◌, ◌-◌, ◌≤◌}
+use Rattle.std.specs.Prelude.{◌≡◌, ◌-◌, ◌≤◌}
 use Rattle.lists.specs.Lists.{count}
 use Rattle.merging.specs.words.Outlined.{either_open}
 use Rattle.merging.proofs.outline.open_at.Given as goal

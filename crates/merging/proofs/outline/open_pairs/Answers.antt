@@ -1,5 +1,6 @@
 -- `open_pairs`: those at the states before s are counted.
-use Rattle.lists.specs.Proving.{arith, ◌∙◌, ap₂, ◌≡◌, refl}
+use Rattle.std.specs.Prelude.{◌≡◌}
+use Rattle.lists.specs.Proving.{arith, ◌∙◌, ap₂, refl}
 use Rattle.merging.specs.words.Outlined.{open_both}
 use Rattle.merging.proofs.OpenLaw.{open_more}
 use Rattle.merging.proofs.outline.open_pairs.Goals as goal

@@ -1,5 +1,5 @@
 -- `open_pairs`: those at the states before s are counted.
-use Rattle.lists.specs.Proving.{◌≡◌, ◌-◌, ◌*◌, ◌≤◌}
+use Rattle.std.specs.Prelude.{◌≡◌, ◌-◌, ◌*◌, ◌≤◌}
 use Rattle.merging.specs.words.Outlined.{open_both}
 use Rattle.merging.proofs.outline.open_pairs.Given as goal
 

@@ -1,4 +1,4 @@
-use Rattle.lists.specs.Proving.{◌-◌}
+use Rattle.std.specs.Prelude.{◌-◌}
 use Rattle.mirror.specs.Mirror.{Below, Answered}
 use Rattle.mirror.proofs.exchange.all_answered.Given as goal
 

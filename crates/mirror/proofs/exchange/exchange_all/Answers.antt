@@ -1,4 +1,4 @@
-use Rattle.lists.specs.Proving.{◌+◌}
+use Rattle.std.specs.Prelude.{◌+◌}
 use Rattle.mirror.proofs.ExchangeLaw.{swaps-none, swaps-more, swaps-all}
 use Rattle.mirror.proofs.exchange.exchange_all.Goals as goal
 

@@ -1,4 +1,4 @@
-use Rattle.lists.specs.Proving.{◌-◌}
+use Rattle.std.specs.Prelude.{◌-◌}
 use Rattle.mirror.proofs.ExchangeLaw.{SwapsTo}
 use Rattle.mirror.proofs.exchange.exchange_all.Given as goal
 

@@ -1,4 +1,4 @@
-use Rattle.lists.specs.Proving.{◌<◌, ◌≤◌}
+use Rattle.std.specs.Prelude.{◌<◌, ◌≤◌}
 use Rattle.mirror.proofs.exchange.offered.Given as goal
 
 abbrev pub invariant-loop-left : goal.invariant-loop-left

@@ -1,4 +1,4 @@
-use Rattle.lists.specs.Proving.{◌-◌}
+use Rattle.std.specs.Prelude.{◌-◌}
 use Rattle.mirror.specs.Mirror.{Each, Exchangeable}
 use Rattle.mirror.proofs.exchange.partners.Given as goal
 

@@ -1,4 +1,4 @@
-use Rattle.lists.specs.Proving.{◌-◌}
+use Rattle.std.specs.Prelude.{◌-◌}
 use Rattle.block.specs.Layout.{pair}
 use Rattle.mirror.specs.Mirror.{other, Below, Exchanges}
 use Rattle.mirror.proofs.exchange.row_exchanges.Given as goal

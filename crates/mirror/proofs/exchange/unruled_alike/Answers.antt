@@ -1,4 +1,5 @@
-use Rattle.lists.specs.Proving.{◌%◌, sym, ◌∙◌, eqb-true, never}
+use Rattle.std.specs.Prelude.{◌%◌}
+use Rattle.lists.specs.Proving.{sym, ◌∙◌, eqb-true, never}
 use Rattle.mirror.proofs.exchange.unruled_alike.Goals as goal
 
 pub returns-then-c-choices_at : goal.returns-then-c-choices_at

@@ -1,4 +1,5 @@
-use Rattle.lists.specs.Proving.{◌-◌, ◌≡◌, get_or}
+use Rattle.std.specs.Prelude.{◌-◌, ◌≡◌}
+use Rattle.lists.specs.Proving.{get_or}
 use Rattle.mirror.specs.Mirror.{Below}
 use Rattle.mirror.specs.Reflect.{Blind}
 use Rattle.mirror.proofs.reflection.blind_but.Given as goal

@@ -1,4 +1,4 @@
-use Rattle.lists.specs.Proving.{◌-◌}
+use Rattle.std.specs.Prelude.{◌-◌}
 use Rattle.mirror.specs.Mirror.{Each}
 use Rattle.mirror.specs.Reflect.{Mirrors}
 use Rattle.mirror.proofs.reflection.images.Given as goal

@@ -1,5 +1,6 @@
 -- `meet_from`: the states that s leads to by the inputs below x.
-use Rattle.lists.specs.Proving.{◌-◌, ◌<◌, ◌≤◌, List}
+use Rattle.std.specs.Prelude.{◌-◌, ◌<◌, ◌≤◌}
+use Rattle.lists.specs.Proving.{List}
 use Prim.Native.Nat.{ℕ}
 use Rattle.sheet.specs.Sheet.{Sheet}
 use Rattle.renaming.specs.Renaming.{meet_from}

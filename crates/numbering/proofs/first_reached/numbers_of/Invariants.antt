@@ -1,5 +1,5 @@
 -- `numbers_of`: the search has looked at the first i states.
-use Rattle.lists.specs.Proving.{◌-◌, ◌≤◌}
+use Rattle.std.specs.Prelude.{◌-◌, ◌≤◌}
 use Rattle.sheet.specs.Sheet.{Sheet}
 use Rattle.renaming.specs.Renaming.{met_by}
 use Rattle.renaming.proofs.laws.MarkLaw.{Marked}

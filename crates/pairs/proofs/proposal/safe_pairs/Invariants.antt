@@ -1,4 +1,5 @@
-use Rattle.lists.specs.Proving.{rules, ◌-◌, ◌≤◌}
+use Rattle.std.specs.Prelude.{◌-◌, ◌≤◌}
+use Rattle.lists.specs.Proving.{rules}
 use Rattle.pairs.proofs.proposal.safe_pairs.Given as goal
 
 abbrev pub invariant-loop-rounds : goal.invariant-loop-rounds

@@ -1,4 +1,5 @@
-use Rattle.lists.specs.Proving.{rules, ◌-◌, ◌≤◌}
+use Rattle.std.specs.Prelude.{◌-◌, ◌≤◌}
+use Rattle.lists.specs.Proving.{rules}
 use Rattle.pairs.proofs.proposal.sift.Given as goal
 
 abbrev pub invariant-loop-h : goal.invariant-loop-h

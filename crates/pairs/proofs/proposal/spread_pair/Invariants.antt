@@ -1,4 +1,5 @@
-use Rattle.lists.specs.Proving.{rules, arith, ◌-◌, ◌≤◌}
+use Rattle.std.specs.Prelude.{◌-◌, ◌≤◌}
+use Rattle.lists.specs.Proving.{rules, arith}
 use Rattle.leaves.specs.Members.{Literals}
 use Rattle.pairs.proofs.proposal.spread_pair.Given as goal
 

@@ -1,4 +1,5 @@
-use Rattle.lists.specs.Proving.{rules, arith, ◌-◌, ◌≤◌, sym, subst}
+use Rattle.std.specs.Prelude.{◌-◌, ◌≤◌}
+use Rattle.lists.specs.Proving.{rules, arith, sym, subst}
 use Rattle.pairs.specs.Meeting.{Free}
 use Rattle.pairs.proofs.MeetingLaw.{free-none}
 use Rattle.pairs.proofs.reach.walk.Goals as goal

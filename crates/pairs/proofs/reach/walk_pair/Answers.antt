@@ -1,4 +1,5 @@
-use Rattle.lists.specs.Proving.{rules, arith, ◌-◌, ◌≤◌}
+use Rattle.std.specs.Prelude.{◌-◌, ◌≤◌}
+use Rattle.lists.specs.Proving.{rules, arith}
 use Rattle.pairs.specs.Meeting.{Free}
 use Rattle.pairs.proofs.reach.walk_pair.Goals as goal
 

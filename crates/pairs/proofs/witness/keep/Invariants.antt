@@ -1,4 +1,5 @@
-use Rattle.lists.specs.Proving.{rules, ◌-◌, ◌≤◌}
+use Rattle.std.specs.Prelude.{◌-◌, ◌≤◌}
+use Rattle.lists.specs.Proving.{rules}
 use Rattle.pairs.proofs.witness.keep.Given as goal
 
 abbrev pub invariant-loop-j : goal.invariant-loop-j

@@ -1,5 +1,6 @@
 -- `first_difference`: the bytes before `at` have no difference.
-use Rattle.lists.specs.Proving.{rules, arith, refl, sym, ◌-◌, length}
+use Rattle.std.specs.Prelude.{◌-◌}
+use Rattle.lists.specs.Proving.{rules, arith, refl, sym, length}
 use Rattle.block.specs.Tabulated.{rule_of}
 use Rattle.records.proofs.AlongLaw.{Compared, compared-end, compared-wrong, compared-more}
 use Rattle.records.proofs.differ.first_difference.Goals as goal

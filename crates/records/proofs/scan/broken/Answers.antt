@@ -1,5 +1,6 @@
 -- `broken`: the commands before `at` are whole.
-use Rattle.lists.specs.Proving.{rules, arith, refl, sym, ◌-◌, length}
+use Rattle.std.specs.Prelude.{◌-◌}
+use Rattle.lists.specs.Proving.{rules, arith, refl, sym, length}
 use Rattle.records.proofs.AlongLaw.{Commands, commands-end, commands-broken, commands-more}
 use Rattle.records.proofs.scan.broken.Goals as goal
 

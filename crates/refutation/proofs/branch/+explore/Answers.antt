@@ -1,4 +1,4 @@
-use Rattle.lists.specs.Proving.{rules, arith, ◌+◌, ◌<◌, ◌≤◌, ◌≡◌, refl}
+use Rattle.lists.specs.Proving.{arith, refl}
 use Rattle.nodes.specs.laws.TellLaw.{found-learnt}
 use Rattle.refutation.proofs.BranchLaw.{trying_start, trying-skip, trying-more, trying-end}
 use Rattle.refutation.proofs.branch.+explore.Goals as goal

@@ -1,10 +1,6 @@
-use Rattle.lists.specs.Proving.{ℕ, ◌+◌, ◌-◌, ◌≤◌, ◌≡◌, List, length}
-use Rattle.cubes.specs.declared.goal.Goal.{Goal}
-use Rattle.store.specs.Store.{StoreOk, ToldOk}
-use Rattle.store.specs.declared.entries.Told.{Told}
-use Rattle.nodes.specs.Refuting.{Ready}
-use Rattle.refutation.specs.Branching.{SplitOk}
-use Rattle.refutation.specs.declared.branch.Split.{Split}
+use Rattle.std.specs.Prelude.{◌+◌, ◌-◌, ◌≡◌}
+use Rattle.lists.specs.Proving.{length}
+use Rattle.store.specs.Store.{StoreOk}
 use Rattle.refutation.proofs.BranchLaw.{Trying, Splitting}
 use Rattle.refutation.proofs.branch.+explore.Given as goal
 

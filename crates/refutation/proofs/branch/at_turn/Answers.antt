@@ -1,4 +1,4 @@
-use Rattle.lists.specs.Proving.{rules, arith}
+use Rattle.lists.specs.Proving.{arith}
 use Rattle.refutation.proofs.branch.at_turn.Goals as goal
 
 pub returns-then-r-split : goal.returns-then-r-split

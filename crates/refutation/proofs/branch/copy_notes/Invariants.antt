@@ -1,4 +1,5 @@
-use Rattle.lists.specs.Proving.{rules, ◌+◌, ◌-◌, ◌≤◌, length}
+use Rattle.std.specs.Prelude.{◌+◌, ◌-◌, ◌≤◌}
+use Rattle.lists.specs.Proving.{length}
 use Rattle.refutation.proofs.branch.copy_notes.Given as goal
 
 abbrev pub invariant-loop-v : goal.invariant-loop-v

@@ -1,4 +1,4 @@
-use Rattle.lists.specs.Proving.{rules, sym, not-false}
+use Rattle.lists.specs.Proving.{sym}
 use Rattle.store.specs.laws.ToldLaw.{void}
 use Rattle.refutation.proofs.branch.final_at.Goals as goal
 

@@ -1,4 +1,3 @@
-use Rattle.lists.specs.Proving.{rules}
 use Rattle.refutation.proofs.branch.finish.Goals as goal
 
 pub returns : goal.returns

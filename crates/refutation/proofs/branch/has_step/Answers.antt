@@ -1,4 +1,3 @@
-use Rattle.lists.specs.Proving.{rules}
 use Rattle.store.specs.laws.ToldLaw.{void}
 use Rattle.refutation.proofs.branch.has_step.Goals as goal
 

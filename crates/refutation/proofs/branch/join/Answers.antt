@@ -1,4 +1,4 @@
-use Rattle.lists.specs.Proving.{rules, arith, not-false}
+use Rattle.lists.specs.Proving.{arith}
 use Rattle.store.specs.laws.ToldLaw.{void}
 use Rattle.refutation.proofs.BranchLaw.{joined}
 use Rattle.refutation.proofs.branch.join.Goals as goal

@@ -1,5 +1,4 @@
 -- `exists`: whether the search of every mutant finds one.
-use Rattle.lists.specs.Proving.{rules, arith}
 use Rattle.search.specs.declared.settle.Found.TheVariants.{First}
 use Rattle.search.proofs.SearchLaw.{other, nothing, given-some, given-none}
 use Rattle.search.proofs.attempts.exists.Goals as goal

@@ -1,4 +1,4 @@
-use Rattle.lists.specs.Proving.{rules, arith}
+use Rattle.lists.specs.Proving.{arith}
 use Rattle.search.specs.declared.settle.Found.TheVariants.{GaveUp}
 use Rattle.search.proofs.SearchLaw.{other}
 use Rattle.search.proofs.attempts.find.Goals as goal

@@ -1,4 +1,4 @@
-use Rattle.lists.specs.Proving.{rules, arith, ℕ, sym, length-replicate}
+use Rattle.lists.specs.Proving.{arith, ℕ, sym, length-replicate}
 use Rattle.std.proofs.Common.{length-take-le}
 use Rattle.block.specs.laws.TabledLaw.{well-formed}
 use Rattle.search.proofs.SearchLaw.{few, lent}

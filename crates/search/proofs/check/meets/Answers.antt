@@ -1,5 +1,5 @@
 -- `meets`: what compare finds, where the goal asks for it.
-use Rattle.lists.specs.Proving.{rules, ℕ, length-replicate}
+use Rattle.lists.specs.Proving.{ℕ, length-replicate}
 use Rattle.search.proofs.CheckLaw.{any-meets, none-meets, some-meets, square-few}
 use Rattle.search.proofs.check.meets.Goals as goal
 
@@ -10,9 +10,9 @@ pub returns-in-Any : goal.returns-in-Any
 returns-in-Any c = any-meets _ c.in-Any.is
 
 pub returns-in-Nothing : goal.returns-in-Nothing
-returns-in-Nothing c = 
+returns-in-Nothing c =
     none-meets c.in-Nonconforming.is _ c.distinguish.ensures.value c.in-Nothing.is
 
 pub returns-in-Shown : goal.returns-in-Shown
-returns-in-Shown c = 
+returns-in-Shown c =
     some-meets c.in-Nonconforming.is _ c.distinguish.ensures.value c.in-Shown.is

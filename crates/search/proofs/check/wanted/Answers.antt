@@ -1,5 +1,5 @@
 -- `wanted`: whether all outputs along the log are right, and the goal is met.
-use Rattle.lists.specs.Proving.{rules, ℕ, length-replicate}
+use Rattle.lists.specs.Proving.{ℕ, length-replicate}
 use Rattle.search.proofs.CheckLaw.{lay-asks, meets-asks, fails, passes}
 use Rattle.search.proofs.check.wanted.Goals as goal
 
@@ -10,13 +10,13 @@ pub initial-start-requires : goal.initial-start-requires
 initial-start-requires c = (lay-asks c.requires.1).0
 
 pub meets-requires : goal.meets-requires
-meets-requires c = 
+meets-requires c =
     meets-asks c.requires.1 c.lay.ensures c.initial-start.ensures
 
 pub returns-in-Nothing : goal.returns-in-Nothing
-returns-in-Nothing c = 
+returns-in-Nothing c =
     λ sh w. passes w c.lay.ensures c.initial-start.ensures c.args.log.now c.first_wrong.ensures c.in-Nothing.is c.meets.ensures
 
 pub returns-in-At : goal.returns-in-At
-returns-in-At c = 
+returns-in-At c =
     λ sh w. fails w c.lay.ensures c.initial-start.ensures c.args.log.now c.first_wrong.ensures c.in-At.is

@@ -1,6 +1,6 @@
 -- `write_choices`: the choices before j are written.
-use Rattle.lists.specs.Proving.{arith, ◌-◌, ◌≤◌, ◌≡◌, refl, ◌++◌, take, drop}
-use Rattle.search.proofs.CheckLaw.{choice-more, choice-room, choices-written}
+use Rattle.std.specs.Prelude.{◌-◌, ◌≤◌, ◌≡◌, ◌++◌}
+use Rattle.lists.specs.Proving.{take, drop}
 use Rattle.search.proofs.check.write_choices.Given as goal
 
 abbrev pub invariant-loop-j : goal.invariant-loop-j

@@ -1,5 +1,5 @@
 -- `search` and `search_from`: the choices from `from` on and below c at the next slot lead to no wanted mutant.
-use Rattle.lists.specs.Proving.{arith, rules, sym, ◌∙◌, never}
+use Rattle.lists.specs.Proving.{arith, sym, ◌∙◌}
 use Rattle.block.specs.laws.TabledLaw.{well-formed}
 use Rattle.search.proofs.SearchLaw.{refuted, full, full-answer, searching-set, all-tried, one-tried, one_found}
 use Rattle.search.proofs.settle.+search_search_from.Goals as goal

@@ -1,5 +1,5 @@
 -- `search` and `search_from`: the choices from `from` on and below c at the next slot lead to no wanted mutant.
-use Rattle.lists.specs.Proving.{◌+◌, ◌-◌, ◌*◌}
+use Rattle.std.specs.Prelude.{◌+◌, ◌-◌, ◌*◌}
 use Rattle.search.proofs.SearchLaw.{Trying}
 use Rattle.search.proofs.settle.+search_search_from.Given as goal
 

@@ -1,11 +1,5 @@
 -- `search_after`: of the mutants that have the first i choices of the one given none that stands after it is wanted.
-use Rattle.lists.specs.Proving.{rules, arith, ℕ, ◌-◌, ◌≤◌, ◌≡◌, refl, sym, ◌∙◌, List, length, never}
-use Rattle.sheet.specs.Sheet.{Sheet}
-use Rattle.block.specs.Logged.{observations}
-use Rattle.cubes.specs.declared.goal.Goal.{Goal}
-use Rattle.refutation.specs.Lent.{StoreOk}
-use Rattle.search.specs.declared.settle.Beginning.TheVariants.{After}
-use Rattle.search.specs.Search.{Leaving}
+use Rattle.lists.specs.Proving.{arith, refl, sym, ◌∙◌, never}
 use Rattle.search.proofs.AfterLaw.{down, few, left-none, left-all, within, choice-low, left-unset, left-more, left-found}
 use Rattle.search.proofs.settle.search_after.Goals as goal
 
@@ -31,13 +25,13 @@ pub overflow_add-c : goal.overflow_add-c
 overflow_add-c c = let le = c.requires.leaving.1 in omega (arith, choice-low le _ (down (c.loop-i.invariant.left _ le) c.loop-i-test.true))
 
 pub search_from-tried-requires : goal.search_from-tried-requires
-search_from-tried-requires c = 
+search_from-tried-requires c =
     let given = c.requires in
     let le = given.leaving.1 in
     let h = down (c.loop-i.invariant.left _ le) c.loop-i-test.true in record { i_bound = ((given.leaving.0, left-unset le _ h), (within le _ h).1); facts_ok = (given.facts_ok.0, c.loop-i.invariant.ok) }
 
 pub loop-i-preserved : goal.loop-i-preserved
-loop-i-preserved c = 
+loop-i-preserved c =
     record {
       left = λ sh le.
           let h = down (c.loop-i.invariant.left sh le) c.loop-i-test.true in
@@ -49,10 +43,14 @@ loop-i-preserved c =
     }
 
 pub returns-in_default : goal.returns-in_default
-returns-in_default c = 
-    let r = c.search_from-tried.result in record { answers = λ sh le.
+returns-in_default c =
+    let r = c.search_from-tried.result in record {
+      answers = λ sh le.
           let h = down (c.loop-i.invariant.left sh le) c.loop-i-test.true in
-          left-found le _ h refl r.found r.choices c.in_default.not-Nothing (c.search_from-tried.ensures.answers sh (left-unset le _ h)); store_ok = c.search_from-tried.ensures.store_ok; store_len = λ e. sym c.loop-i.invariant.same_store ∙ c.search_from-tried.ensures.store_len e }
+          left-found le _ h refl r.found r.choices c.in_default.not-Nothing (c.search_from-tried.ensures.answers sh (left-unset le _ h));
+      store_ok = c.search_from-tried.ensures.store_ok;
+      store_len = λ e. sym c.loop-i.invariant.same_store ∙ c.search_from-tried.ensures.store_len e;
+    }
 
 pub returns : goal.returns
 returns c = record { answers = λ sh le. left-all (c.loop-i.invariant.left sh le) c.loop-i-test.false; store_ok = c.loop-i.invariant.ok; store_len = λ e. never cc }

@@ -1,6 +1,6 @@
 -- `settled_as`: the choices before j are settled.
-use Rattle.lists.specs.Proving.{rules, arith, ◌-◌, refl}
-use Rattle.search.proofs.AfterLaw.{FilledTo, filled_none, filled_more, filled-all}
+use Rattle.lists.specs.Proving.{arith, refl}
+use Rattle.search.proofs.AfterLaw.{filled_none, filled_more, filled-all}
 use Rattle.search.proofs.settle.settled_as.Goals as goal
 
 pub loop-j-init : goal.loop-j-init

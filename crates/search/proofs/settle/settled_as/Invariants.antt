@@ -1,6 +1,6 @@
 -- `settled_as`: the choices before j are settled.
-use Rattle.lists.specs.Proving.{rules, arith, ◌-◌, refl}
-use Rattle.search.proofs.AfterLaw.{FilledTo, filled_none, filled_more, filled-all}
+use Rattle.std.specs.Prelude.{◌-◌}
+use Rattle.search.proofs.AfterLaw.{FilledTo}
 use Rattle.search.proofs.settle.settled_as.Given as goal
 
 abbrev pub invariant-loop-j : goal.invariant-loop-j

@@ -1,4 +1,5 @@
-use Rattle.lists.specs.Proving.{rules, ◌-◌, ◌≡◌, refl, length}
+use Rattle.std.specs.Prelude.{◌-◌, ◌≡◌}
+use Rattle.lists.specs.Proving.{rules, refl, length}
 use Rattle.store.specs.Store.{Kept}
 use Rattle.store.proofs.StoreLaw.{kept_same, kept_more}
 use Rattle.store.proofs.entries.idle.Given as goal

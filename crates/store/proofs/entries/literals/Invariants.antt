@@ -1,4 +1,5 @@
-use Rattle.lists.specs.Proving.{rules, arith, ◌-◌}
+use Rattle.std.specs.Prelude.{◌-◌}
+use Rattle.lists.specs.Proving.{rules, arith}
 use Rattle.store.proofs.StoreLaw.{Copied, copied_none, copied_more, copied_all}
 use Rattle.store.proofs.entries.literals.Given as goal
 

@@ -1,4 +1,5 @@
-use Rattle.lists.specs.Proving.{rules, arith, ◌-◌, ◌%◌, ◌≤◌}
+use Rattle.std.specs.Prelude.{◌-◌, ◌%◌, ◌≤◌}
+use Rattle.lists.specs.Proving.{rules, arith}
 use lib.Count.{ones}
 use Rattle.store.specs.Live.{Admitted}
 use Rattle.store.proofs.LiveLaw.{admitted-none, admitted-more, admitted-all}

@@ -1,4 +1,5 @@
-use Rattle.lists.specs.Proving.{rules, ◌-◌, ◌≤◌, ◌≡◌, length}
+use Rattle.std.specs.Prelude.{◌-◌, ◌≤◌, ◌≡◌}
+use Rattle.lists.specs.Proving.{rules, length}
 use Rattle.store.proofs.scan.forget.Given as goal
 
 abbrev pub invariant-loop-j : goal.invariant-loop-j

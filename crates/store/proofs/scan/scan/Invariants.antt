@@ -1,4 +1,5 @@
-use Rattle.lists.specs.Proving.{rules, ◌-◌, ◌≤◌, ◌≡◌, length}
+use Rattle.std.specs.Prelude.{◌-◌, ◌≤◌, ◌≡◌}
+use Rattle.lists.specs.Proving.{rules, length}
 use Rattle.store.proofs.scan.scan.Given as goal
 
 abbrev pub invariant-loop-w : goal.invariant-loop-w

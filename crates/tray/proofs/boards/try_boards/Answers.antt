@@ -1,5 +1,6 @@
 -- `try_boards`: the results of the first i stand at the front.
-use Rattle.lists.specs.Proving.{rules, arith, ◌-◌, ◌≤◌, ◌≡◌, ◌∙◌, length}
+use Rattle.std.specs.Prelude.{◌-◌, ◌≤◌, ◌≡◌}
+use Rattle.lists.specs.Proving.{rules, arith, ◌∙◌, length}
 use Rattle.sheet.specs.Sheet.{Sheet}
 use Rattle.model.specs.Mutant.{slots}
 use Rattle.search.specs.Search.{ForSheet}

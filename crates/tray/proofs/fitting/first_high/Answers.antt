@@ -1,5 +1,6 @@
 -- `first_high`: the boards before `at` have no choice that is too high.
-use Rattle.lists.specs.Proving.{rules, arith, ℕ, ◌-◌, ◌*◌, ◌≡◌, ◌∙◌, length}
+use Rattle.std.specs.Prelude.{◌-◌, ◌*◌, ◌≡◌}
+use Rattle.lists.specs.Proving.{rules, arith, ℕ, ◌∙◌, length}
 use Rattle.sheet.specs.Sheet.{Sheet}
 use Rattle.model.specs.Mutant.{slots}
 use Rattle.block.specs.Tabled.{Tabled}

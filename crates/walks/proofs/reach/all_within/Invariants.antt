@@ -1,4 +1,4 @@
-use Rattle.lists.specs.Proving.{◌-◌}
+use Rattle.std.specs.Prelude.{◌-◌}
 use Rattle.walks.proofs.ReachLaw.{WithinTo}
 use Rattle.walks.proofs.reach.all_within.Given as goal
 

@@ -1,4 +1,5 @@
-use Rattle.lists.specs.Proving.{arith, ◌<◌, refl}
+use Rattle.std.specs.Prelude.{◌<◌}
+use Rattle.lists.specs.Proving.{arith, refl}
 use Rattle.walks.proofs.ReachLaw.{cell-undefined, cell-stopped, cell-met}
 use Rattle.walks.proofs.StandLaw.{suspect-low, settled-step}
 use Rattle.walks.proofs.reach.cell.Goals as goal

@@ -1,4 +1,4 @@
-use Rattle.lists.specs.Proving.{◌-◌}
+use Rattle.std.specs.Prelude.{◌-◌}
 use Rattle.walks.specs.Reaching.{RowReached}
 use Rattle.walks.proofs.reach.row.Given as goal
 

@@ -1,4 +1,4 @@
-use Rattle.lists.specs.Proving.{◌-◌}
+use Rattle.std.specs.Prelude.{◌-◌}
 use Rattle.walks.proofs.ReachLaw.{Spreading}
 use Rattle.walks.proofs.reach.spread.Given as goal
 

@@ -1,5 +1,5 @@
 -- `refute`: none of the mutants whose choice at the suspect is below c is sought.
-use Rattle.lists.specs.Proving.{◌-◌}
+use Rattle.std.specs.Prelude.{◌-◌}
 use Rattle.walks.proofs.SplitLaw.{Trying}
 use Rattle.walks.proofs.refute.+refute.Given as goal
 

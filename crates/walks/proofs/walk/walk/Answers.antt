@@ -1,5 +1,6 @@
 -- `walk`: it stands where it is.
-use Rattle.lists.specs.Proving.{arith, ◌<◌, sym, ◌∙◌}
+use Rattle.std.specs.Prelude.{◌<◌}
+use Rattle.lists.specs.Proving.{arith, sym, ◌∙◌}
 use Rattle.walks.proofs.StandLaw.{suspect-low, settled-step, step-on, step-not}
 use Rattle.walks.proofs.walk.walk.Goals as goal
 

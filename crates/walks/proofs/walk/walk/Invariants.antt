@@ -1,5 +1,6 @@
 -- `walk`: it stands where it is.
-use Rattle.lists.specs.Proving.{◌-◌, length}
+use Rattle.std.specs.Prelude.{◌-◌}
+use Rattle.lists.specs.Proving.{length}
 use Rattle.walks.specs.Walks.{Stands}
 use Rattle.walks.proofs.walk.walk.Given as goal
 
