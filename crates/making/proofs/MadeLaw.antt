@@ -5,7 +5,6 @@ use mathlib.Core.Path.{◌≡◌, refl, sym, ◌∙◌, ap, subst}
 use mathlib.Core.Logic.{◌⊎◌, inl, inr}
 use mathlib.Core.List.{List, [], ◌∷◌, ◌++◌}
 use borrow.Author.Tests.{lt-ltb, le-ltb}
-use denote.Enum.Declared.{tag_of}
 use lib.ListN.{length, take, drop}
 use lib.Seq.{length-take-le, take_at, take-take}
 use Rattle.lists.specs.Lists.{overlay}
@@ -30,7 +29,6 @@ use Rattle.making.specs.declared.Made.TheVariants as made
 use Rattle.making.specs.declared.grow.Growth.{Growth}
 use Rattle.making.specs.declared.grow.State.{State}
 use Rattle.making.specs.declared.grow.State.TheVariants as state
-use Rattle.making.specs.contracts.grow.State.{the_type}
 use Rattle.making.specs.Answers.{Makes, MadeSays, ToldMade}
 use Rattle.making.specs.words.Growing.{Growing, Complete, Reached, Finished}
 use Rattle.making.proofs.AppendLaw.{encode-long}
@@ -96,9 +94,9 @@ makes-whole {result} {bytes} {old} {new} {end} {len} {appended} c sp =
     let long : len ≡ length (encode c.sheet) = omega (arith, sp.many, ap length whole) in
     record { answer = rw (c.is, long) refl; bytes = rw c.is (spelled-front sp ∙ ap (λ (l : List ℕ). overlay l old) whole) }
 
-pub finished-full : (s : State) (result : Result Grown) (bytes : List ℕ) (g : Growth) → (tag_of the_type s ≡ 1) ⊎ (tag_of the_type s ≡ 2) → Finished s result bytes g → result ≡ refused 18 0
-finished-full state.Complete result bytes g (inl e) f = absurd (omega arith)
-finished-full state.Complete result bytes g (inr e) f = absurd (omega arith)
+pub finished-full : (s : State) (result : Result Grown) (bytes : List ℕ) (g : Growth) → (s ≡ state.Full) ⊎ (s ≡ state.Unknown) → Finished s result bytes g → result ≡ refused 18 0
+finished-full state.Complete result bytes g (inl e) f = absurd (cc)
+finished-full state.Complete result bytes g (inr e) f = absurd (cc)
 finished-full state.Full result bytes g h f = f
 finished-full state.Unknown result bytes g h f = absurd f
 

@@ -3,6 +3,7 @@
 // Called by users, and by `ranthelo`.
 
 #![tactic(auto)]
+
 mod append;
 mod grow;
 mod room;

@@ -1,12 +1,11 @@
 -- From turn to turn.
-use mathlib.Core.Path.{◌≡◌, refl, sym, ◌∙◌, subst}
+use mathlib.Core.Path.{◌≡◌, refl, sym, ◌∙◌, subst, ap}
 use mathlib.Core.Logic.{◌⊎◌, inl, inr}
 use mathlib.Core.Bool.{true}
 use mathlib.Core.List.{List, [], ◌∷◌}
 use Prim.Native.Nat.{ℕ, zero, suc, ◌+◌, ◌-◌, ◌*◌, ◌<◌, ◌≤◌, ◌^◌}
 use native.Mathlib.Nat.{suc-mul, pow-succ', mul-le-mul_right}
 use native.Mathlib.Omega.{arith}
-use denote.Enum.Declared.{tag_of}
 use lib.ListN.{length, get_or}
 use Rattle.lists.specs.laws.TestLaw.{never}
 use Rattle.sheet.specs.Sheet.{Sheet}
@@ -20,20 +19,16 @@ use Rattle.clearing.specs.Sweep.{Full, Swept, Refutes, Later, Advanced}
 use Rattle.sweep.specs.declared.Outcome.TheVariants as outcome
 use Rattle.sweep.specs.declared.turn.Turned.{Turned}
 use Rattle.sweep.specs.declared.turn.Turned.TheVariants as turned
-use Rattle.sweep.specs.contracts.turn.Turned.{the_type}
 use Rattle.sweep.specs.Turning.{TurnedOk}
 use Rattle.sweep.specs.Outcomes.{outcome_of, OutcomeOk}
 
 -- ---- where a turn clears nothing
-pub outcome-gives : (t : Turned) → (tag_of the_type t ≡ 0) ⊎ (tag_of the_type t ≡ 2) → outcome.GaveUp ≡ outcome_of t
-outcome-gives (turned.Refuted by next) h = refl
-outcome-gives (turned.Survives d) (inl e) = absurd (omega arith)
-outcome-gives (turned.Survives d) (inr e) = absurd (omega arith)
-outcome-gives turned.GivesUp h = refl
+pub outcome-gives : (t : Turned) → ((x : ℕ) × (y : ℕ) × t ≡ turned.Refuted x y) ⊎ (t ≡ turned.GivesUp) → outcome.GaveUp ≡ outcome_of t
+outcome-gives t (inl e) = sym (ap outcome_of e.2)
+outcome-gives t (inr e) = sym (ap outcome_of e)
 
-pub gave-up : (t : Turned) → (tag_of the_type t ≡ 1) ⊎ (tag_of the_type t ≡ 2) → outcome_of t ≡ outcome.GaveUp → t ≡ turned.GivesUp
-gave-up (turned.Refuted by next) (inl e) h = absurd (omega arith)
-gave-up (turned.Refuted by next) (inr e) h = absurd (omega arith)
+pub gave-up : (t : Turned) → ((x y : ℕ) → t ≡ turned.Refuted x y → ⊥) → outcome_of t ≡ outcome.GaveUp → t ≡ turned.GivesUp
+gave-up (turned.Refuted by next) k h = absurd (k by next refl)
 gave-up (turned.Survives d) k h = never (cc)
 gave-up turned.GivesUp k h = refl
 

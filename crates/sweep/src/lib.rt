@@ -3,6 +3,7 @@
 // Called by `making`, which shows what its functions require.
 
 #![tactic(auto)]
+
 mod turn;
 
 ghost use Rattle.std.specs.Prelude.{◌≡◌, ◌*◌, ◌≤◌, length};

@@ -1,4 +1,4 @@
-use Rattle.lists.specs.Proving.{rules, eq-eqb, ne_eqb}
+use Rattle.lists.specs.Proving.{eq-eqb, ne_eqb}
 use Rattle.ranthelo.proofs.place_of.Goals as goal
 
 pub returns-then-place-eq0 : goal.returns-then-place-eq0

@@ -1,5 +1,4 @@
 -- The answer's numbers are those of the operation's answer.
-use borrow.Author.Rules.{rules}
 use mathlib.Core.Path.{ap, sym, ◌∙◌}
 use Rattle.ranthelo.specs.Numbers.{failed_numbers}
 use Rattle.ranthelo.proofs.ranthelo_first_failed.Goals as goal

@@ -1,5 +1,4 @@
 -- The answer's numbers are those of the operation's answer, and the buffers hold what it writes.
-use borrow.Author.Rules.{rules}
 use mathlib.Core.Path.{ap, ◌∙◌}
 use Rattle.ranthelo.specs.Numbers.{judged_numbers}
 use Rattle.ranthelo.proofs.ranthelo_judge.Goals as goal

@@ -1,5 +1,4 @@
 -- The answer's numbers are those of the operation's answer, and the buffer holds what it writes.
-use borrow.Author.Rules.{rules}
 use mathlib.Core.Path.{ap, sym, ◌∙◌}
 use Rattle.ranthelo.specs.Numbers.{merged_numbers}
 use Rattle.ranthelo.proofs.ranthelo_merge.Goals as goal

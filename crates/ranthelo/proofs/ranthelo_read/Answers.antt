@@ -1,5 +1,4 @@
 -- The answer's numbers are those of the reading.
-use borrow.Author.Rules.{rules}
 use mathlib.Core.Path.{ap, sym, ◌∙◌}
 use Rattle.ranthelo.specs.Numbers.{read_numbers}
 use Rattle.ranthelo.proofs.ranthelo_read.Goals as goal

@@ -1,5 +1,5 @@
 -- The answer's numbers are those of the operation's answer.
-use Rattle.lists.specs.Proving.{rules, ap, sym, ◌∙◌}
+use Rattle.lists.specs.Proving.{ap, sym, ◌∙◌}
 use Rattle.ranthelo.specs.Numbers.{recorded_numbers}
 use Rattle.ranthelo.proofs.ranthelo_record.Goals as goal
 

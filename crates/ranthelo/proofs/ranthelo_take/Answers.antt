@@ -1,5 +1,5 @@
 -- The answer's numbers are those of the operation's answer, and the buffers hold what it writes.
-use Rattle.lists.specs.Proving.{rules, ap, ◌∙◌}
+use Rattle.lists.specs.Proving.{ap, ◌∙◌}
 use Rattle.ranthelo.specs.Numbers.{taken_numbers}
 use Rattle.ranthelo.proofs.ranthelo_take.Goals as goal
 

@@ -1,5 +1,4 @@
 -- The answer's numbers are those of the span.
-use borrow.Author.Rules.{rules}
 use mathlib.Core.Path.{ap, sym, ◌∙◌}
 use Rattle.ranthelo.specs.Numbers.{part_numbers}
 use Rattle.ranthelo.proofs.ranthelo_test_span.Goals as goal

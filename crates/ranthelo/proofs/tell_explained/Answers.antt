@@ -1,5 +1,5 @@
 -- The answer's numbers, case by case.
-use Rattle.lists.specs.Proving.{rules, ap, sym}
+use Rattle.lists.specs.Proving.{ap, sym}
 use Rattle.ranthelo.specs.Numbers.{explained_numbers}
 use Rattle.ranthelo.proofs.tell_explained.Goals as goal
 

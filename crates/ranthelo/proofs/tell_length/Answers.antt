@@ -1,5 +1,4 @@
 -- The answer's numbers, case by case.
-use borrow.Author.Rules.{rules}
 use mathlib.Core.Path.{ap, sym}
 use Rattle.ranthelo.specs.Numbers.{written_numbers}
 use Rattle.ranthelo.proofs.tell_length.Goals as goal

@@ -1,5 +1,5 @@
 -- Each answer of judge is printed in its form.
-use Rattle.std.proofs.Common.{sym, ◌∙◌, length-take-le, arith}
+use Rattle.std.proofs.Common.{sym, ◌∙◌, length-take-le}
 use Rattle.report.proofs.ReportLaw.{no_room, printed, complete-text, refused-text, shown, lines_fit}
 use Rattle.report.proofs.report.Goals as goal
 

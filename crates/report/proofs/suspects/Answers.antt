@@ -1,6 +1,5 @@
 -- What Read answers has the number.
 use mathlib.Core.Path.{ap, sym, ◌∙◌}
-use borrow.Author.Rules.{rules}
 use Rattle.report.specs.Text.{suspects_in}
 use Rattle.report.proofs.suspects.Goals as goal
 

@@ -1,4 +1,3 @@
-use borrow.Author.Rules.{rules}
 use mathlib.Core.Path.{sym, ap}
 use Rattle.sweep.specs.Outcomes.{outcome_of}
 use Rattle.sweep.proofs.SweepLaw.{outcome-gives}
@@ -8,4 +7,4 @@ pub returns-in-Survives : goal.returns-in-Survives
 returns-in-Survives c = sym (ap outcome_of c.in-Survives.is)
 
 pub returns-in-Refuted : goal.returns-in-Refuted
-returns-in-Refuted c = outcome-gives c.args.turned c.in-Refuted.keys2
+returns-in-Refuted c = outcome-gives c.args.turned c.in-Refuted.is

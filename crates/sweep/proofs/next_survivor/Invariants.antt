@@ -1,14 +1,9 @@
 -- `next_survivor`: no mutant before p survives, and the store stays right.
-use borrow.Author.Rules.{rules}
-use borrow.Author.Tests.{not-true, not-false}
-use native.Mathlib.Omega.{arith}
-use mathlib.Core.Path.{refl, sym, ◌∙◌}
-use Rattle.lists.specs.laws.TestLaw.{never}
-use Rattle.sweep.proofs.SweepLaw.{Sweeping, left, full, gave-up, ended-ok, sweeping-less, sweeping-more}
+use Rattle.sweep.proofs.SweepLaw.{Sweeping, left}
 use Rattle.sweep.proofs.next_survivor.Given as goal
 
 abbrev pub invariant-loop-by : goal.invariant-loop-by
-invariant-loop-by l =     Sweeping l.block l.log l.initial.p l.initial.blame l.p l.blame l.initial.store l.store l.initial.notes l.notes l.initial.sequence l.sequence
+invariant-loop-by l = Sweeping l.block l.log l.initial.p l.initial.blame l.p l.blame l.initial.store l.store l.initial.notes l.notes l.initial.sequence l.sequence
 
 abbrev pub decreases-loop-by : goal.decreases-loop-by
 decreases-loop-by l = left l.p

@@ -1,5 +1,4 @@
 -- `fits`: one test more, and 16,384 bytes.
-use borrow.Author.Rules.{rules}
 use borrow.Author.Tests.{eq-eqb, ne_eqb}
 use mathlib.Core.Path.{refl}
 use Rattle.making.proofs.grow.fits.Goals as goal

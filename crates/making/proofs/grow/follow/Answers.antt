@@ -1,5 +1,4 @@
 -- `follow`: by what was found.
-use borrow.Author.Rules.{rules}
 use mathlib.Core.Path.{refl}
 use Rattle.making.proofs.GrowLaw.{next-appends, next-full}
 use Rattle.making.proofs.grow.follow.Goals as goal

@@ -1,5 +1,4 @@
 -- `grow`: from survivor to survivor, each test leaves less room.
-use borrow.Author.Rules.{rules}
 use native.Mathlib.Omega.{arith}
 use Prim.Native.Nat.{◌≤◌}
 use mathlib.Core.Path.{◌≡◌, sym, ◌∙◌, ap}
@@ -8,7 +7,7 @@ use lib.Seq.{length-take-le}
 use Rattle.making.specs.declared.grow.Growth.{Growth}
 use Rattle.making.specs.declared.grow.Next.TheVariants.{Ends, Appends}
 use Rattle.making.specs.words.Growing.{next_of}
-use Rattle.making.proofs.GrowLaw.{Turning, turning-start, sweep-asks, log-inside, block-formed, follow-asks, reached-end, gives_up, few-inputs, append-asks, longer-asks, turning-more}
+use Rattle.making.proofs.GrowLaw.{turning-start, sweep-asks, log-inside, block-formed, follow-asks, reached-end, gives_up, few-inputs, append-asks, longer-asks, turning-more}
 use Rattle.making.proofs.grow.grow.Goals as goal
 
 pub loop-state-init : goal.loop-state-init
@@ -29,18 +28,6 @@ next_survivor-found-requires c = record { block_in_bounds = (sweep-asks c.loop-s
 pub follow-requires : goal.follow-requires
 follow-requires c = follow-asks c.loop-state.invariant c.next_survivor-found.result _ _ _ c.next_survivor-found.ensures.outcome_ok
 
-pub shape_of-store-in-Ends : goal.shape_of-store-in-Ends
-shape_of-store-in-Ends c = c.next_survivor-found.kept.1.1.1.0 ∙ c.loop-state.invariant.same_store
-
-pub shape_of-notes-in-Ends : goal.shape_of-notes-in-Ends
-shape_of-notes-in-Ends c = c.next_survivor-found.kept.1.1.1.1.0 ∙ c.loop-state.invariant.same-notes
-
-pub shape_of-bytes-in-Ends : goal.shape_of-bytes-in-Ends
-shape_of-bytes-in-Ends c = (turn c).loop.invariant.same_bytes
-
-pub shape_of-log-in-Ends : goal.shape_of-log-in-Ends
-shape_of-log-in-Ends c = (turn c).loop.invariant.same_log
-
 pub returns-in-Ends : goal.returns-in-Ends
 returns-in-Ends c = let inv = c.loop-state.invariant in
     let ends = sym c.follow.ensures ∙ c.in-Ends.is in
@@ -48,14 +35,14 @@ returns-in-Ends c = let inv = c.loop-state.invariant in
 
 pub slice_bounds-sequence-end : goal.slice_bounds-sequence-end
 slice_bounds-sequence-end c = let appends : next_of c.next_survivor-found.result c.loop-state.g.room c.loop-state.g.end ≡ Appends c.in-Appends.d = sym c.follow.ensures ∙ c.in-Appends.is in
-    let few : c.in-Appends.d ≤ length c.next_survivor-found.last.1.1.1.1.1.1.1.0 = let most = few-inputs c.loop-state.invariant c.next_survivor-found.result _ _ _ c.next_survivor-found.ensures.outcome_ok appends in
-    omega (arith, most, c.next_survivor-found.kept.1.1.1.1.1.1.1.0, c.loop-state.invariant.long) in
+    let few : c.in-Appends.d ≤ length c.next_survivor-found.new.sequence = let most = few-inputs c.loop-state.invariant c.next_survivor-found.result _ _ _ c.next_survivor-found.ensures.outcome_ok appends in
+    omega (arith, most, c.next_survivor-found.auto.sequence, c.loop-state.invariant.long) in
     few
 
 pub slice_bounds-append-end : goal.slice_bounds-append-end
 slice_bounds-append-end c = let appends : next_of c.next_survivor-found.result c.loop-state.g.room c.loop-state.g.end ≡ Appends c.in-Appends.d = sym c.follow.ensures ∙ c.in-Appends.is in
-    let few : c.in-Appends.d ≤ length c.next_survivor-found.last.1.1.1.1.1.1.1.0 = let most = few-inputs c.loop-state.invariant c.next_survivor-found.result _ _ _ c.next_survivor-found.ensures.outcome_ok appends in
-    omega (arith, most, c.next_survivor-found.kept.1.1.1.1.1.1.1.0, c.loop-state.invariant.long) in
+    let few : c.in-Appends.d ≤ length c.next_survivor-found.new.sequence = let most = few-inputs c.loop-state.invariant c.next_survivor-found.result _ _ _ c.next_survivor-found.ensures.outcome_ok appends in
+    omega (arith, most, c.next_survivor-found.auto.sequence, c.loop-state.invariant.long) in
     sym (length-take-le _ _ few)
 
 pub append-observed-requires : goal.append-observed-requires
@@ -63,33 +50,35 @@ append-observed-requires c = let appends : next_of c.next_survivor-found.result 
     append-asks c.loop-state.invariant c.next_survivor-found.result _ _ _ c.next_survivor-found.ensures.outcome_ok appends
 
 pub note_test-requires : goal.note_test-requires
-note_test-requires c = (turn (sweep c)).loop.invariant.facts-long
+note_test-requires c = c.loop-state.invariant.facts-long
 
 pub slice_bounds-test_survivors-end : goal.slice_bounds-test_survivors-end
 slice_bounds-test_survivors-end c = let appends : next_of c.next_survivor-found.result c.loop-state.g.room c.loop-state.g.end ≡ Appends c.in-Appends.d = sym c.follow.ensures ∙ c.in-Appends.is in
-    let inside : c.append-observed.result ≤ length c.append-observed.new.1.1.1.1.0 = let asked = append-asks c.loop-state.invariant c.next_survivor-found.result _ _ _ c.next_survivor-found.ensures.outcome_ok appends in
+    let inside : c.append-observed.result ≤ length c.append-observed.new.log = let asked = append-asks c.loop-state.invariant c.next_survivor-found.result _ _ _ c.next_survivor-found.ensures.outcome_ok appends in
     (c.append-observed.ensures asked.0 asked.1 asked.2).inside in
     inside
 
 pub slice_bounds-test_survivors-end-in-loop-state : goal.slice_bounds-test_survivors-end-in-loop-state
 slice_bounds-test_survivors-end-in-loop-state c = let appends : next_of c.next_survivor-found.result c.loop-state.g.room c.loop-state.g.end ≡ Appends c.in-Appends.d = sym c.follow.ensures ∙ c.in-Appends.is in
-    let inside : c.append-observed.result ≤ length c.append-observed.new.1.1.1.1.0 = let asked = append-asks c.loop-state.invariant c.next_survivor-found.result _ _ _ c.next_survivor-found.ensures.outcome_ok appends in
+    let inside : c.append-observed.result ≤ length c.append-observed.new.log = let asked = append-asks c.loop-state.invariant c.next_survivor-found.result _ _ _ c.next_survivor-found.ensures.outcome_ok appends in
     (c.append-observed.ensures asked.0 asked.1 asked.2).inside in
     sym (length-take-le _ _ inside)
 
 pub test_survivors-requires : goal.test_survivors-requires
-test_survivors-requires c = block-formed (turn (sweep c)).loop.invariant
+test_survivors-requires c = block-formed c.loop-state.invariant
 
 pub longer-g-requires : goal.longer-g-requires
 longer-g-requires c = let appends : next_of c.next_survivor-found.result c.loop-state.g.room c.loop-state.g.end ≡ Appends c.in-Appends.d = sym c.follow.ensures ∙ c.in-Appends.is in
     longer-asks c.loop-state.invariant c.next_survivor-found.result _ _ _ c.next_survivor-found.ensures.outcome_ok appends
 
 pub loop-state-smaller : goal.loop-state-smaller
-loop-state-smaller c = omega (arith, ap (λ (g : Growth). g.room) c.longer-g.ensures, (longer-requires c _).0)
+loop-state-smaller c = let appends : next_of c.next_survivor-found.result c.loop-state.g.room c.loop-state.g.end ≡ Appends c.in-Appends.d = sym c.follow.ensures ∙ c.in-Appends.is in
+    let asked = longer-asks c.loop-state.invariant c.next_survivor-found.result _ _ _ c.next_survivor-found.ensures.outcome_ok appends in
+    omega (arith, ap (λ (g : Growth). g.room) c.longer-g.ensures, asked.0)
 
 pub loop-state-preserved : goal.loop-state-preserved
 loop-state-preserved c = let appends : next_of c.next_survivor-found.result c.loop-state.g.room c.loop-state.g.end ≡ Appends c.in-Appends.d = sym c.follow.ensures ∙ c.in-Appends.is in
     let swept = c.next_survivor-found in
-    turning-more c.loop-state.invariant swept.result _ _ _ swept.ensures.0 appends _ _ _ _ _ _ c.append-observed.ensures _ c.longer-g.ensures c.note_test.ensures
-    swept.ensures.1.0 swept.kept.1.1.1.0 (c.test_survivors.auto.1.1.0 ∙ swept.kept.1.1.1.1.0) c.append-observed.auto.1.1.0 c.append-observed.auto.1.1.1.1.0
-    swept.kept.1.1.1.1.1.1.1.0
+    turning-more c.loop-state.invariant swept.result _ _ _ swept.ensures.outcome_ok appends _ _ _ _ _ _ c.append-observed.ensures _ c.longer-g.ensures c.note_test.ensures
+    swept.ensures.store_ok.0 swept.auto.store (c.test_survivors.auto.notes ∙ swept.auto.notes) c.append-observed.auto.bytes c.append-observed.auto.log
+    swept.auto.sequence

@@ -1,5 +1,4 @@
 -- `finish`: what was made, then END.
-use borrow.Author.Rules.{rules}
 use native.Mathlib.Omega.{arith}
 use mathlib.Core.Path.{sym}
 use lib.Seq.{length-take-le}
@@ -22,4 +21,4 @@ pub returns-in-Complete : goal.returns-in-Complete
 returns-in-Complete c = λ result f. makes-whole (rw c.in-Complete.is at f) (spelled-both c.bytes-end.ensures c.byte-length.ensures)
 
 pub returns-in-Full : goal.returns-in-Full
-returns-in-Full c = λ result f. makes_none (finished-full c.args.g.state result _ c.args.g c.in-Full.keys2 f)
+returns-in-Full c = λ result f. makes_none (finished-full c.args.g.state result _ c.args.g c.in-Full.is f)

@@ -1,5 +1,4 @@
 -- `grow_whole`: a store is at hand, so the growth does not give up.
-use borrow.Author.Rules.{rules}
 use native.Mathlib.Omega.{arith}
 use mathlib.Core.Path.{sym}
 use lib.Seq.{length-take-le}
@@ -21,7 +20,7 @@ grow-requires c = record { facts_len = (c.requires, c.prepare.ensures.0); ready 
 
 pub returns-then-prepare : goal.returns-then-prepare
 returns-then-prepare c = λ result sh gr.
-    finished c.grow.result.state result _ _ _ c.grow.result (λ u. omega (arith, c.grow.ensures.store_len u, c.grow.auto.1.1.0, c.store-then-prepare-1.given)) (c.grow.ensures.fact result sh gr)
+    finished c.grow.result.state result _ _ _ c.grow.result (λ u. omega (arith, c.grow.ensures.store_len u)) (c.grow.ensures.fact result sh gr)
 
 pub grow-requires-2 : goal.grow-requires-2
 grow-requires-2 c = record { facts_len = (c.requires, c.prepare.ensures.0); ready = (λ l. absurd (omega (arith, l)), short-store (omega arith)) }

@@ -1,5 +1,4 @@
 -- `make`: the sheet grows in scratch, then is written whole.
-use borrow.Author.Rules.{rules}
 use native.Mathlib.Omega.{arith}
 use mathlib.Core.Path.{◌∙◌}
 use Rattle.logs.specs.laws.SuitesLaw.{suite-long}
@@ -25,17 +24,17 @@ pub grow_whole-grown-requires : goal.grow_whole-grown-requires
 grow_whole-grown-requires c = let sh = c.requires.0 in
     let rd = c.requires.1 in
     let logged = c.log_suite-observed.ensures sh (suite-long rd (omega (arith, c.no_log-log.ensures))) in
-    (_, sh, grown-none rd logged (c.log_suite-observed.auto.1.1.1.1.1.0 ∙ c.no_log-log.ensures) c.bytes-length.ensures c.no_bytes-made.ensures)
+    (_, sh, grown-none rd logged (c.log_suite-observed.auto.log ∙ c.no_log-log.ensures) c.bytes-length.ensures c.no_bytes-made.ensures)
 
 pub finish-requires : goal.finish-requires
 finish-requires c = let sh = c.requires.0 in
     let rd = c.requires.1 in
     let logged = c.log_suite-observed.ensures sh (suite-long rd (omega (arith, c.no_log-log.ensures))) in
-    let grown = grown-none rd logged (c.log_suite-observed.auto.1.1.1.1.1.0 ∙ c.no_log-log.ensures) c.bytes-length.ensures c.no_bytes-made.ensures in
+    let grown = grown-none rd logged (c.log_suite-observed.auto.log ∙ c.no_log-log.ensures) c.bytes-length.ensures c.no_bytes-made.ensures in
     ((_, c.grow_whole-grown.ensures _ sh grown), omega (arith, c.if-buffer-lt16384.false))
 
 pub returns : goal.returns
 returns c = λ sh rd.
     let logged = c.log_suite-observed.ensures sh (suite-long rd (omega (arith, c.no_log-log.ensures))) in
-    let grown = grown-none rd logged (c.log_suite-observed.auto.1.1.1.1.1.0 ∙ c.no_log-log.ensures) c.bytes-length.ensures c.no_bytes-made.ensures in
+    let grown = grown-none rd logged (c.log_suite-observed.auto.log ∙ c.no_log-log.ensures) c.bytes-length.ensures c.no_bytes-made.ensures in
     makes-room sh _ (omega (arith, c.if-buffer-lt16384.false)) (c.finish.ensures _ (c.grow_whole-grown.ensures _ sh grown))

@@ -1,5 +1,4 @@
 -- The numbers of the state, one by one.
-use borrow.Author.Rules.{rules}
 use mathlib.Core.Path.{refl}
 use Rattle.ranthelo.proofs.driving.keep.Goals as goal
 

@@ -1,5 +1,4 @@
 -- The numbers are those of the station's answer, and of the state that it leaves.
-use borrow.Author.Rules.{rules}
 use mathlib.Core.Path.{ap, sym, ◌∙◌}
 use Rattle.station.specs.declared.State.{State}
 use Rattle.station.specs.declared.Taken.{Taken}

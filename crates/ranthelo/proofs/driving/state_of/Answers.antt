@@ -1,5 +1,4 @@
 -- The state of the numbers, one by one.
-use borrow.Author.Rules.{rules}
 use mathlib.Core.Path.{refl}
 use Rattle.ranthelo.proofs.driving.state_of.Goals as goal
 

@@ -1,5 +1,4 @@
 -- The numbers of a step, case by case.
-use borrow.Author.Rules.{rules}
 use mathlib.Core.Path.{refl}
 use Rattle.ranthelo.proofs.driving.tell_step.Goals as goal
 

@@ -1,10 +1,6 @@
 -- `put_fields` writes a blank and a number for each byte: after i of them, the first i are written.
-use Prim.Native.Nat.{◌+◌, ◌*◌, ◌≤◌, ◌-◌}
 use native.Mathlib.Omega.{arith}
-use lib.ListN.{length, take}
-use Rattle.writing.specs.words.Spelled.{Spelled}
 use Rattle.report.specs.laws.TextLaw.{byte-digits, field-more, fields-none, fields-all}
-use Rattle.report.specs.Text.{fields}
 use Rattle.report.proofs.text.put_fields.Goals as goal
 
 pub loop-i-init : goal.loop-i-init

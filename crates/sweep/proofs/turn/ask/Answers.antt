@@ -1,5 +1,3 @@
-use borrow.Author.Rules.{rules}
-use borrow.Author.Tests.{not-false}
 use Rattle.sweep.proofs.TurnLaw.{asked-none, asked-some}
 use Rattle.sweep.proofs.turn.ask.Goals as goal
 

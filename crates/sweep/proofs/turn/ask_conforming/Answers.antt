@@ -1,4 +1,3 @@
-use borrow.Author.Rules.{rules}
 use Rattle.sweep.proofs.TurnLaw.{asked-none}
 use Rattle.sweep.proofs.turn.ask_conforming.Goals as goal
 

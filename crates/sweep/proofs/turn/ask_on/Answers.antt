@@ -1,5 +1,4 @@
 -- `ask_on`: the store stays right, and what is said is what the question was answered.
-use borrow.Author.Rules.{rules}
 use Rattle.sweep.proofs.TurnLaw.{asked-none}
 use Rattle.sweep.proofs.turn.ask_on.Goals as goal
 

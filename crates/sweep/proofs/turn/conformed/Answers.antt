@@ -1,4 +1,3 @@
-use borrow.Author.Rules.{rules}
 use Rattle.sweep.proofs.TurnLaw.{few-full, conformed-asked, conformed-by}
 use Rattle.sweep.proofs.turn.conformed.Goals as goal
 

@@ -1,7 +1,5 @@
 -- `prefix`: the choices that are settled are p's.
-use borrow.Author.Rules.{rules}
-use Prim.Native.Nat.{◌-◌}
-use Rattle.sweep.proofs.TurnLaw.{Prefixed, prefixed-none, prefixed-more}
+use Rattle.sweep.proofs.TurnLaw.{prefixed-none, prefixed-more}
 use Rattle.sweep.proofs.turn.prefix.Goals as goal
 
 pub loop-j-init : goal.loop-j-init

@@ -1,7 +1,6 @@
 -- `prefix`: the choices that are settled are p's.
-use borrow.Author.Rules.{rules}
 use Prim.Native.Nat.{◌-◌}
-use Rattle.sweep.proofs.TurnLaw.{Prefixed, prefixed-none, prefixed-more}
+use Rattle.sweep.proofs.TurnLaw.{Prefixed}
 use Rattle.sweep.proofs.turn.prefix.Given as goal
 
 abbrev pub invariant-loop-j : goal.invariant-loop-j
