@@ -8,6 +8,7 @@ use std::fs;
 use std::io::Write;
 use std::path::PathBuf;
 use std::process::{Command, Output, Stdio};
+use std::sync::atomic::{AtomicUsize, Ordering};
 
 pub fn root() -> PathBuf {
     PathBuf::from(env!("CARGO_MANIFEST_DIR")).join("..")
@@ -60,7 +61,12 @@ pub fn gives(arguments: &[&str], expected: i32, stdout: &str, stderr: &str) {
 
 /// A file with some content, in a folder of the tests' own.
 pub fn file(name: &str, content: &[u8]) -> String {
+    static WRITTEN: AtomicUsize = AtomicUsize::new(0);
     let path = PathBuf::from(env!("CARGO_TARGET_TMPDIR")).join(name);
-    fs::write(&path, content).expect("the file is written");
+    // Tests run at once, and some write the same file: none may read it while it is half written.
+    let count = WRITTEN.fetch_add(1, Ordering::Relaxed);
+    let whole = path.with_extension(format!("{}-{count}", std::process::id()));
+    fs::write(&whole, content).expect("the file is written");
+    fs::rename(&whole, &path).expect("the file gets its name");
     path.to_str().expect("a path in UTF-8").to_string()
 }
