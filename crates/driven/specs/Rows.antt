@@ -1,13 +1,12 @@
 -- 02, Point 13: P2 driven to each verdict, changed sheets, and each refusal, by computation.
 use Rattle.std.specs.Prelude.{ℕ, ◌≡◌, refl, List, [], ◌∷◌, ◌++◌, map, take, drop}
-use Rattle.sheet.specs.Reading.{Result, accepted, refused}
+use Rattle.sheet.specs.Reading.{accepted, refused}
 use Rattle.model.specs.Machine.{specified_from}
 use Rattle.model.specs.Mutant.{specified}
 use Rattle.model.specs.Suite.{Place}
 use Rattle.model.specs.Implementation.{reset, input}
 use Rattle.worked.specs.Sheets.{p1machine, p1, p2, only_rules}
 use Rattle.worked.specs.Rows.{computing}
-use Rattle.station.specs.declared.State.{State}
 use Rattle.station.specs.declared.Step.TheVariants.{Reset, Input, Pass, Failure}
 use Rattle.station.specs.Station.{fresh, suited, beginning, current, input_at, nexting, expected, taking, same, head_bytes, agrees, changing}
 use Rattle.station.specs.Calls.{GivesPass, GivesFailure, got_from, got_in, taken_in, PassMeans, FailureMeans}

@@ -1,6 +1,6 @@
 -- Along a record byte by byte: its commands, and the specification's state.
 use Rattle.std.specs.Prelude.{◌+◌, ◌-◌, ◌%◌, ◌<◌, ◌≤◌, ◌≡◌, ◌&&◌, ◌∷◌}
-use Rattle.lists.specs.Proving.{arith, ℕ_discrete, dec_lt, ℕ, zero, suc, refl, sym, ◌∙◌, ap, ap₂, subst, Bool, true, false, cond, Option, some, none, List, [], length, get_or, drop, drop-cons, add-one, eqb, eq-eqb, ne_eqb, ltb, lt-ltb, le-ltb, List·getD-eq-default, ltb-true, never}
+use Rattle.lists.specs.Proving.{arith, ℕ_discrete, dec_lt, ℕ, suc, refl, sym, ◌∙◌, ap, ap₂, Bool, true, false, cond, Option, some, none, List, [], length, get_or, drop, drop-cons, add-one, eqb, eq-eqb, ne_eqb, ltb, lt-ltb, le-ltb, List·getD-eq-default, ltb-true}
 use Rattle.lists.specs.laws.TestLaw.{both}
 use mathlib.Core.Bool.{not}
 use lib.ListN.{length-drop, drop_of_length-le}
@@ -8,7 +8,7 @@ use lib.Seq.{get_or-drop, drop-drop}
 use Rattle.model.specs.Machine.{Move}
 use Rattle.block.specs.Layout.{pair, states_of, inputs_of, rule_output, rule_target}
 use Rattle.block.specs.Tabulated.{rule_of, Wf}
-use Rattle.records.specs.Record.{in_range, broken_from, specified_at, target_of, advance, differs, is_wrong, differs_from}
+use Rattle.records.specs.Record.{in_range, broken_from, specified_at, differs_from}
 use Rattle.records.specs.Steps.{place_of, Takes, state_of, RuleIs, Steps}
 use Rattle.records.specs.declared.differ.Rule.{Rule}
 use Rattle.records.specs.declared.differ.Stepped.{Stepped}

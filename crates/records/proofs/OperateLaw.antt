@@ -1,14 +1,14 @@
 -- The operations on a record: what the scan, the specification and the search found is the answer.
 use Rattle.std.specs.Prelude.{◌*◌, ◌<◌, ◌≤◌, ◌≡◌}
-use Rattle.lists.specs.Proving.{arith, ℕ, refl, sym, ◌∙◌, ap, subst, Bool, true, false, Option, some, none, List, [], length, take, drop, lt-ltb, le-ltb, never}
+use Rattle.lists.specs.Proving.{arith, ℕ, refl, sym, ◌∙◌, ap, subst, Bool, true, false, Option, some, none, List, length, take, drop, lt-ltb, le-ltb, never}
 use mathlib.Core.Bool.{not}
 use lib.Seq.{take_at}
-use Rattle.lists.specs.Lists.{is_none, overlay, Before}
+use Rattle.lists.specs.Lists.{is_none, overlay}
 use Rattle.sheet.specs.declared.Reading.{Reading as ReadAnswer}
 use Rattle.sheet.specs.declared.Reading.TheVariants as read
 use Rattle.sheet.specs.declared.Summary.{Summary}
 use Rattle.sheet.specs.Sheet.{Sheet}
-use Rattle.sheet.specs.Reading.{Result, accepted, refused, Reading, reading, summary_of}
+use Rattle.sheet.specs.Reading.{accepted, refused, Reading, reading, summary_of}
 use Rattle.sheet.specs.Tables.{read_answer}
 use Rattle.sheet.specs.WellFormed.{WellFormed}
 use Rattle.sheet.specs.laws.AcceptedLaw.{well-formed}
@@ -36,8 +36,8 @@ use Rattle.records.specs.declared.Recorded.{Recorded}
 use Rattle.records.specs.declared.Recorded.TheVariants as recorded
 use Rattle.records.specs.declared.scan.Place.{Place}
 use Rattle.records.specs.declared.scan.Place.TheVariants as place
-use Rattle.records.specs.Record.{broken_from, broken_in, differs_from, differs_in, Outcome, outcome_of, with_record, checking, first_giving, explain_on, explaining}
-use Rattle.records.specs.Means.{FirstDifference, GivesRecord, ExplainedMeans}
+use Rattle.records.specs.Record.{broken_from, broken_in, differs_from, differs_in, outcome_of, with_record, checking, first_giving, explain_on, explaining}
+use Rattle.records.specs.Means.{FirstDifference, ExplainedMeans}
 use Rattle.records.specs.Steps.{place_of}
 use Rattle.records.specs.Answers.{recorded_by, recorded_answer, RecordedSays, ToldRecorded, compared_explained, explained_by, Explains, ExplainedSays, ToldExplained, Sized}
 use Rattle.records.proofs.laws.ScanLaw.{whole, broken-at}

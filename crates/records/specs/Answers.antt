@@ -11,7 +11,7 @@ use Rattle.machine.specs.declared.product.Difference.{Difference}
 use Rattle.machine.specs.declared.product.Difference.TheVariants as difference
 use Rattle.lists.specs.Lists.{overlay}
 use Rattle.block.specs.Tabled.{Tabled}
-use Rattle.records.specs.Record.{Outcome, broken_in}
+use Rattle.records.specs.Record.{Outcome}
 use Rattle.records.specs.Means.{Whole, BrokenAt, FirstDifference, GivenMeans, GivesRecord, FirstGives}
 use Rattle.records.specs.declared.Recorded.{Recorded}
 use Rattle.records.specs.declared.Recorded.TheVariants as recorded

@@ -1,13 +1,13 @@
 -- A lock's own record (02, Point 9): when it is refused, where it first differs from the specification, and which mutants give it.
-use Rattle.std.specs.Prelude.{ℕ, zero, suc, ◌*◌, ◌<◌, ◌%◌, ◌≡◌, Bool, true, false, ◌&&◌, not, cond, List, [], ◌∷◌, eqb, ltb, length, get_or, drop}
+use Rattle.std.specs.Prelude.{ℕ, zero, suc, ◌*◌, Bool, true, false, ◌&&◌, not, cond, List, [], ◌∷◌, eqb, ltb, length, get_or}
 use Rattle.std.proofs.Math.Option.{Option, none, some}
-use Rattle.lists.specs.Lists.{maybe, is_none}
+use Rattle.lists.specs.Lists.{is_none}
 use Rattle.sheet.specs.Sheet.{Sheet}
 use Rattle.sheet.specs.Reading.{Result, accepted, refused, reading}
 use Rattle.model.specs.Machine.{Move}
-use Rattle.model.specs.Mutant.{rule, slots, mutants, step, initial, IsMutant}
+use Rattle.model.specs.Mutant.{rule, slots, mutants, step, initial}
 use Rattle.model.specs.Operations.{reads, refuse_if}
-use Rattle.model.specs.Log.{Observation, failed_in, GivesLog}
+use Rattle.model.specs.Log.{Observation, failed_in}
 use Rattle.model.specs.Walk.{keep, Taken, first_taken}
 use Rattle.block.specs.Logged.{observations}
 

@@ -1,8 +1,8 @@
 -- What the functions along a record say to one another.
-use Rattle.std.specs.Prelude.{ℕ, ◌+◌, ◌≤◌, ◌<◌, ◌≡◌, Bool, true, cond, List, eqb, length, get_or, drop}
+use Rattle.std.specs.Prelude.{ℕ, ◌+◌, ◌≤◌, ◌≡◌, Bool, true, cond, List, eqb, length, drop}
 use Rattle.std.proofs.Math.Option.{Option, none, some}
 use Rattle.model.specs.Machine.{Move}
-use Rattle.records.specs.Record.{broken_from, specified_at, advance, is_wrong}
+use Rattle.records.specs.Record.{broken_from, advance, is_wrong}
 use Rattle.records.specs.declared.scan.Place.{Place}
 use Rattle.records.specs.declared.scan.Place.TheVariants as place
 use Rattle.records.specs.declared.differ.Rule.{Rule}

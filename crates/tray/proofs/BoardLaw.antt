@@ -1,6 +1,6 @@
 -- A tray, board by board.
 use Rattle.std.specs.Prelude.{◌+◌, ◌*◌, ◌/◌, ◌%◌, ◌<◌, ◌≤◌, ◌≡◌, ◌∷◌, ◌++◌}
-use Rattle.lists.specs.Proving.{arith, ℕ, zero, suc, refl, sym, ◌∙◌, ap, Bool, by_cases, List, [], length, take, drop, eqb, eq-eqb, ne_eqb, ℕ_discrete}
+use Rattle.lists.specs.Proving.{arith, ℕ, zero, suc, refl, ◌∙◌, ap, Bool, by_cases, List, [], length, take, drop, eqb, eq-eqb, ne_eqb, ℕ_discrete}
 use native.Mathlib.Nat.{suc-mul, zero-mul, mul-zero, mul-le-mul_right, mul-div_cancel, mul-mod_left, div-add-mod'}
 use lib.ListN.{length-drop}
 use lib.Seq.{drop-drop, length-take-le}

@@ -1,14 +1,14 @@
 -- The first choice of a tray that is too high.
 use Rattle.std.specs.Prelude.{◌+◌, ◌-◌, ◌*◌, ◌<◌, ◌≤◌, ◌≡◌, ◌∷◌, ◌++◌}
-use Rattle.lists.specs.Proving.{arith, ℕ, zero, suc, refl, sym, ◌∙◌, ap, Bool, true, false, not-true, cond, Option, none, some, List, [], length, take, drop, eqb, ltb, eq-eqb, never}
+use Rattle.lists.specs.Proving.{arith, ℕ, zero, suc, refl, sym, ◌∙◌, ap, Bool, true, false, cond, Option, none, some, List, [], length, take, drop, ltb, eq-eqb, never}
 use native.Mathlib.Nat.{suc-mul, zero-mul, mul-zero, le_of_suc-le-suc}
 use lib.ListN.{length-drop, drop_of_length-le}
 use lib.Seq.{drop-drop, length-take-le}
 use Rattle.lists.specs.Lists.{index_or}
 use Rattle.sheet.specs.Sheet.{Sheet}
 use Rattle.sheet.specs.Reading.{accepted}
-use Rattle.model.specs.Mutant.{slots, later, IsMutant}
-use Rattle.model.specs.Operations.{first_high, with_mutant, refuse_if, refuse_at}
+use Rattle.model.specs.Mutant.{slots, later}
+use Rattle.model.specs.Operations.{first_high, with_mutant, refuse_at}
 use Rattle.model.specs.Tray.{slots_for}
 use Rattle.model.proofs.laws.OperationLaw.{high-first, mutant-high}
 use Rattle.machine.specs.declared.fitting.Fit.{Fit}

@@ -18,7 +18,7 @@ use Rattle.model.proofs.laws.TrayLaw.{tray-told}
 use Rattle.block.specs.laws.OpenedLaw.{closed-by}
 use Rattle.tray.specs.declared.Tried.{Tried}
 use Rattle.tray.specs.declared.Tried.TheVariants as tried
-use Rattle.tray.specs.Answers.{tried_answer, tried_writes, Tries, HighMeans, TriedSays, ToldTried}
+use Rattle.tray.specs.Answers.{tried_answer, Tries, HighMeans, TriedSays, ToldTried}
 use Rattle.tray.specs.words.Trays.{TrayOf, results_of}
 use Rattle.tray.proofs.BoardLaw.{boards-many, board-long}
 use Rattle.tray.proofs.HighLaw.{HighBoard, ByBoards, by-boards}

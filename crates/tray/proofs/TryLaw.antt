@@ -1,6 +1,6 @@
 -- The results of a tray's mutants, one after another.
 use Rattle.std.specs.Prelude.{◌+◌, ◌-◌, ◌*◌, ◌<◌, ◌≤◌, ◌≡◌, ◌∷◌, ◌++◌}
-use Rattle.lists.specs.Proving.{arith, ℕ, zero, suc, refl, sym, ◌∙◌, ap, Option, none, some, List, [], length, set, take, drop, length-set, append_snoc, drop-cons, add-one, never}
+use Rattle.lists.specs.Proving.{arith, ℕ, suc, refl, sym, ◌∙◌, ap, Option, none, some, List, [], length, set, take, drop, length-set, append_snoc, drop-cons, add-one, never}
 use mathlib.Core.List.{map}
 use native.Mathlib.Nat.{suc-mul, zero-mul}
 use lib.ListN.{length-map, length-append}

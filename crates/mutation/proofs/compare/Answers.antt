@@ -7,7 +7,6 @@ use Rattle.mutation.specs.Answers.{compared_answer, compared_writes}
 use Rattle.block.specs.laws.OpenedLaw.{opened, closed-by}
 use Rattle.mutation.proofs.OpenLaw.{comparing-on, comparing-refused, told-compared}
 use Rattle.sheet.specs.laws.RefusalLaw.{refusal-told}
-use borrow.Author.Rules.{rules}
 use Rattle.mutation.proofs.compare.Goals as goal
 
 pub returns-in_default : goal.returns-in_default

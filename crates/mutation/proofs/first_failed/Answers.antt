@@ -5,7 +5,6 @@ use Rattle.mutation.specs.Answers.{failed_answer}
 use Rattle.block.specs.laws.OpenedLaw.{opened, closed-by}
 use Rattle.mutation.proofs.OpenLaw.{failing-on, failing-refused, told-failed}
 use Rattle.sheet.specs.laws.RefusalLaw.{refusal-told}
-use borrow.Author.Rules.{rules}
 use Rattle.mutation.proofs.first_failed.Goals as goal
 
 pub returns-in_default : goal.returns-in_default

@@ -7,7 +7,6 @@ use Rattle.mutation.specs.Answers.{ran_answer, ran_writes}
 use Rattle.block.specs.laws.OpenedLaw.{opened, closed-by}
 use Rattle.mutation.proofs.OpenLaw.{ran_on, running-refused, told-ran}
 use Rattle.sheet.specs.laws.RefusalLaw.{refusal-told}
-use borrow.Author.Rules.{rules}
 use Rattle.mutation.proofs.run.Goals as goal
 
 pub returns-in_default : goal.returns-in_default

@@ -1,5 +1,4 @@
 -- `check_accepted`: 20, or the whole record.
-use Rattle.lists.specs.Proving.{rules}
 use Rattle.records.proofs.OperateLaw.{checks-broken, checks-whole}
 use Rattle.records.proofs.check_accepted.Goals as goal
 

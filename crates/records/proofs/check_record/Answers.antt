@@ -1,5 +1,4 @@
 -- `check_record`: refused as reading refuses, or the record on the sheet that was read.
-use Rattle.lists.specs.Proving.{rules}
 use mathlib.Core.Path.{ap₂}
 use Rattle.sheet.specs.laws.RefusalLaw.{refusal-told}
 use Rattle.block.specs.laws.OpenedLaw.{opened}

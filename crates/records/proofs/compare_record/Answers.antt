@@ -1,5 +1,4 @@
 -- `compare_record`: the first difference, and whether a mutant gives it.
-use Rattle.lists.specs.Proving.{rules}
 use Rattle.block.specs.laws.TabledLaw.{well-formed}
 use Rattle.records.proofs.OperateLaw.{compares}
 use Rattle.records.proofs.compare_record.Goals as goal

@@ -1,6 +1,6 @@
 -- `explain_accepted`: 20, then room for the mutant, then for the sequence, then the search.
 use Rattle.std.specs.Prelude.{◌*◌, ◌≤◌, ◌≡◌}
-use Rattle.lists.specs.Proving.{rules, arith, refl, ◌∙◌, length}
+use Rattle.lists.specs.Proving.{arith, refl, ◌∙◌, length}
 use Rattle.block.specs.laws.TabledLaw.{well-formed}
 use Rattle.sheet.specs.Sheet.{Sheet}
 use Rattle.block.specs.Layout.{slots_of}

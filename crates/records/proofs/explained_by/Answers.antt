@@ -1,5 +1,5 @@
 -- `explained_by`: by what tells the mutant from the specification.
-use Rattle.lists.specs.Proving.{rules, sym, ap}
+use Rattle.lists.specs.Proving.{sym, ap}
 use Rattle.records.specs.Answers.{explained_by}
 use Rattle.records.proofs.explained_by.Goals as goal
 

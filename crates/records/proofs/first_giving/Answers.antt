@@ -1,5 +1,4 @@
 -- `first_giving`: what the search from the first mutant on finds.
-use Rattle.lists.specs.Proving.{rules}
 use Rattle.records.proofs.OperateLaw.{from_front, explains-nothing, explains-first}
 use Rattle.records.proofs.first_giving.Goals as goal
 

@@ -1,9 +1,8 @@
 -- Where a record first differs from the specification.
 use Rattle.lists.specs.Proving.{arith, ℕ, zero, suc, refl, sym, ◌∙◌, ap, Bool, true, false, cond, Option, some, none, List, [], length, get_or, drop, eqb, eqb-true, eq-eqb, ne_eqb, not-true, never}
-use Rattle.std.specs.Prelude.{not, ◌+◌, ◌<◌, ◌≤◌, ◌≡◌, ◌&&◌, ◌∷◌}
+use Rattle.std.specs.Prelude.{not, ◌+◌, ◌<◌, ◌≡◌, ◌&&◌, ◌∷◌}
 use Rattle.std.proofs.Common.{get_or-drop}
-use Rattle.std.proofs.lemmas.Bool.{eqb-false}
-use Rattle.lists.specs.laws.TestLaw.{both, and_both, clash}
+use Rattle.lists.specs.laws.TestLaw.{both, clash}
 use Rattle.sheet.specs.Sheet.{Sheet}
 use Rattle.model.specs.Machine.{Move}
 use Rattle.model.specs.Mutant.{rule}

@@ -1,17 +1,16 @@
 -- The mutants that give a record; the suite's own record.
-use Rattle.lists.specs.Proving.{arith, ℕ, zero, suc, refl, sym, ◌∙◌, ap, Bool, true, false, cond, Option, some, none, List, [], inl, inr, ⊎_elim, eqb, eq-eqb, never}
-use Rattle.std.specs.Prelude.{not, ◌-◌, ◌<◌, ◌≤◌, ◌≡◌, ◌∷◌, ◌++◌, ◌⊎◌}
+use Rattle.lists.specs.Proving.{ℕ, refl, sym, ap, true, Option, some, none, List, [], inl, inr, ⊎_elim, never}
+use Rattle.std.specs.Prelude.{not, ◌≡◌, ◌∷◌}
 use mathlib.Core.List.Memᴰ
 use mathlib.Core.List.{Memᴰ}
 use Rattle.lists.specs.Lists.{is_none, Ascending, Before}
 use Rattle.lists.specs.laws.AllLaw.{all-mem}
 use Rattle.sheet.specs.Sheet.{Sheet}
 use Rattle.sheet.specs.WellFormed.{WellFormed}
-use Rattle.model.specs.Machine.{Move}
 use Rattle.model.specs.Mutant.{step, initial, mutants, IsMutant}
-use Rattle.model.specs.Suite.{Place, compare_of}
-use Rattle.model.specs.Log.{Observation, reset, seen, GivesFrom, GivesLog, failed_in}
-use Rattle.model.specs.Walk.{keep, Taken, first_taken}
+use Rattle.model.specs.Suite.{compare_of}
+use Rattle.model.specs.Log.{GivesFrom, failed_in}
+use Rattle.model.specs.Walk.{Taken, first_taken}
 use Rattle.model.proofs.laws.MutantLaw.{listed, listed-in-range, mutants-ascending}
 use Rattle.model.proofs.laws.JudgeLaw.{compared}
 use Rattle.model.proofs.laws.LogLaw.{none-gives}
@@ -19,7 +18,7 @@ use Rattle.logs.specs.laws.WalkedLaw.{gives_none}
 use Rattle.model.proofs.laws.WalkLaw.{keep-mem, mem-keep, keep-ascending}
 use Rattle.block.specs.Logged.{observations}
 use Rattle.records.specs.Record.{gives, giving, first_giving, outcome_of}
-use Rattle.records.specs.Means.{GivesRecord, GivenMeans, FirstGives, ExplainedMeans}
+use Rattle.records.specs.Means.{GivesRecord, GivenMeans, ExplainedMeans}
 
 none_is : {A : Type 0} (o : Option A) → is_none o ≡ true → o ≡ none
 none_is none e = refl

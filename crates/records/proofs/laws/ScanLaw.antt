@@ -1,15 +1,15 @@
 -- What the scan for the first broken command finds: whole commands, or the offset of the first that is none.
 use Rattle.std.specs.Prelude.{◌+◌, ◌<◌, ◌≤◌, ◌≡◌, ◌&&◌, ◌∷◌, ◌++◌}
-use Rattle.lists.specs.Proving.{arith, ℕ, zero, suc, refl, sym, ◌∙◌, ap, subst, Bool, true, false, cond, Option, some, none, List, [], length, get_or, drop, length-append, eqb, eqb-true, eq-eqb, ltb, ltb-true, lt-ltb, never}
+use Rattle.lists.specs.Proving.{arith, ℕ, suc, refl, sym, ◌∙◌, ap, subst, Bool, true, false, cond, Option, some, none, List, [], length, get_or, drop, length-append, eqb, eqb-true, eq-eqb, ltb, ltb-true, lt-ltb, never}
 use Rattle.lists.specs.Lists.{All, joined}
-use Rattle.lists.specs.laws.TestLaw.{both, and_both, clash}
+use Rattle.lists.specs.laws.TestLaw.{both, clash}
 use mathlib.Core.List.{append_assoc, append-nil}
 use Rattle.sheet.specs.Sheet.{Sheet}
 use Rattle.sheet.specs.WellFormed.{WellFormed}
 use Rattle.model.specs.Log.{Observation, reset, seen}
 use Rattle.block.specs.Logged.{observations, command_bytes, log_bytes, LowSeen}
 use Rattle.block.specs.laws.LoggedLaw.{bytes-observed}
-use Rattle.records.specs.Record.{in_range, is_command, broken_from, broken_in}
+use Rattle.records.specs.Record.{in_range, broken_from, broken_in}
 use Rattle.records.specs.Means.{Within, Led, Whole, Broken, pulsed_in, BrokenAt}
 
 -- ---- from any command on

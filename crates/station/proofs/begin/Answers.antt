@@ -1,4 +1,3 @@
-use borrow.Author.Rules.{rules}
 use Rattle.station.proofs.laws.ToldLaw.{begun-told}
 use Rattle.station.proofs.AnswerLaw.{begin-at, begin-refused}
 use Rattle.station.proofs.begin.Goals as goal

@@ -1,4 +1,3 @@
-use borrow.Author.Rules.{rules}
 use mathlib.Core.Path.{sym, ◌∙◌}
 use Rattle.station.proofs.laws.ToldLaw.{changed-told}
 use Rattle.station.proofs.laws.StandsLaw.{suited-as}

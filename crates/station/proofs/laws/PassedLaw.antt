@@ -17,7 +17,7 @@ use Rattle.sheet.specs.WellFormed.{WellFormed}
 use Rattle.sheet.specs.laws.AcceptedLaw.{well-formed}
 use Rattle.model.specs.Machine.{Move, specified_from}
 use Rattle.model.specs.Mutant.{rule, specified, IsMutant}
-use Rattle.model.specs.Suite.{Place, complete}
+use Rattle.model.specs.Suite.{Place}
 use Rattle.model.specs.Operations.{refuse_if}
 use Rattle.model.specs.Implementation.{Event, reset, input, required_from, required, Gives, Proper, Implementation, BehavesAs, GivesAll, suite_events, PassesSuite, Guaranteed}
 use Rattle.model.specs.Verdict.{Complete}

@@ -16,7 +16,6 @@ use Rattle.model.specs.Implementation.{Event, reset, input, suite_events}
 use Rattle.station.specs.declared.Phase.{Phase}
 use Rattle.station.specs.declared.Phase.TheVariants as phase
 use Rattle.station.specs.declared.State.{State}
-use Rattle.station.specs.declared.Step.TheVariants as step
 use Rattle.station.specs.Station.{state_at, fresh, is_complete, suited, beginning, current, element_at, input_at, Given, onward, along, next_by, nexting, expected, due_by, Heard, heard_as, take_by, taking, Agree, is_open, agrees_with, changing}
 use Rattle.station.specs.Calls.{Call, next, take-output, change, sheet_of, state_of, Answered, sheet_left, state_left, Chained, last_sheet, last_state, due_after, due_left, due_from, given_by, events_of, taken_of, got_from, taken_in}
 use Rattle.station.proofs.laws.AgreeLaw.{agrees-true}

@@ -1,5 +1,5 @@
 -- `first_failures`: refused as reading refuses, or the tray on the sheet that was read.
-use Rattle.lists.specs.Proving.{rules, ap₂}
+use Rattle.lists.specs.Proving.{ap₂}
 use Rattle.sheet.specs.laws.RefusalLaw.{refusal-told}
 use Rattle.block.specs.laws.OpenedLaw.{opened}
 use Rattle.tray.specs.declared.Tried.TheVariants.{Refused}

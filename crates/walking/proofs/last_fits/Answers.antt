@@ -1,5 +1,4 @@
 -- `last_fits`: of the last mutant alone.
-use Rattle.lists.specs.Proving.{rules}
 use Rattle.machine.specs.Fits.{fit_of}
 use Rattle.walking.proofs.TakingLaw.{no_last}
 use Rattle.walking.proofs.last_fits.Goals as goal

@@ -21,7 +21,6 @@ use Rattle.model.specs.Walk.{Taken as Next}
 use Rattle.model.proofs.laws.OperationLaw.{mutant-length, mutant-goes-on}
 use Rattle.model.proofs.laws.LongerLaw.{slots-longer, mutant-shorter}
 use Rattle.model.proofs.laws.WalkLaw.{rest-remains, rest_end}
-use Rattle.walking.specs.declared.Taken.{Taken}
 use Rattle.walking.specs.declared.Taken.TheVariants as taken
 use Rattle.walking.specs.Taking.{compared_taken, taken_answer, Takes, LastIs}
 use Rattle.walking.specs.Walked.{TakeCall, AddCall, Walk, walk_at, place_after, sheet_after, Promised, shown, test_of, took, added}

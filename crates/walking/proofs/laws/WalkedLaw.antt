@@ -1,6 +1,6 @@
 -- 02's Point 8, of whole walks, call by call.
 use Rattle.std.specs.Prelude.{◌≡◌, ◌⊎◌, ◌∷◌, ◌++◌}
-use Rattle.lists.specs.Proving.{ℕ, refl, sym, ◌∙◌, ap, subst, inl, inr, ⊎_elim, none, List, [], length, append_snoc, never}
+use Rattle.lists.specs.Proving.{ℕ, refl, sym, ◌∙◌, ap, subst, inl, inr, ⊎_elim, List, [], length, append_snoc, never}
 use mathlib.Core.List.Memᴰ
 use mathlib.Core.List.{map, append_assoc, append-nil, Memᴰ}
 use Rattle.lists.specs.Lists.{All, Ascending, Before}

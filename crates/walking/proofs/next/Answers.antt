@@ -1,5 +1,4 @@
 -- `next`: what the search finds is the next mutant.
-use Rattle.lists.specs.Proving.{rules}
 use Rattle.walking.proofs.TakingLaw.{leaving, takes-end, takes-next}
 use Rattle.walking.proofs.next.Goals as goal
 

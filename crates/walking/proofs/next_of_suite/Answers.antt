@@ -1,5 +1,5 @@
 -- `next_of_suite`: the suite's log, in a short array or a long one, and the next mutant by it.
-use Rattle.lists.specs.Proving.{rules, arith, sym}
+use Rattle.lists.specs.Proving.{arith, sym}
 use lib.Seq.{length-take-le}
 use Rattle.logs.specs.laws.SuitesLaw.{suite-short, suite-long}
 use Rattle.walking.proofs.TakingLaw.{by-log}

@@ -1,8 +1,7 @@
 -- `take_read`: 13 and 14, then room for the mutant, then for the sequence, then the next mutant.
 use Rattle.std.specs.Prelude.{◌*◌, ◌≤◌, ◌≡◌}
-use Rattle.lists.specs.Proving.{rules, arith, refl, sym, ◌∙◌, ap, length}
+use Rattle.lists.specs.Proving.{arith, refl, sym, ◌∙◌, ap, length}
 use Rattle.sheet.specs.Sheet.{Sheet}
-use Rattle.model.specs.Walk.{Standing}
 use Rattle.block.specs.Layout.{slots_of}
 use Rattle.block.specs.Tabled.{Tabled}
 use Rattle.block.specs.laws.TabledLaw.{well-formed}

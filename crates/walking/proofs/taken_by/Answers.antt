@@ -1,4 +1,4 @@
-use Rattle.lists.specs.Proving.{rules, sym, ap}
+use Rattle.lists.specs.Proving.{sym, ap}
 use Rattle.walking.specs.Taking.{taken_by}
 use Rattle.walking.proofs.taken_by.Goals as goal
 

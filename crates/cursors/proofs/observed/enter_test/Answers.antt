@@ -1,4 +1,4 @@
-use Rattle.lists.specs.Proving.{rules, arith}
+use Rattle.lists.specs.Proving.{arith}
 use Rattle.cursors.specs.laws.FactsKeptLaw.{kept-none, kept_set}
 use Rattle.cursors.proofs.observed.enter_test.Goals as goal
 

@@ -1,6 +1,4 @@
-use Rattle.std.specs.Prelude.{◌-◌, ◌≤◌}
-use Rattle.lists.specs.Proving.{rules, arith, length}
-use Rattle.cursors.specs.FactsKept.{FactsKept}
+use Rattle.lists.specs.Proving.{arith}
 use Rattle.cursors.specs.laws.FactsKeptLaw.{kept-none, kept_set, kept_more}
 use Rattle.cursors.proofs.observed.find_tests.Goals as goal
 

@@ -1,7 +1,6 @@
 use Rattle.std.specs.Prelude.{◌-◌, ◌≤◌}
-use Rattle.lists.specs.Proving.{rules, arith, length}
+use Rattle.lists.specs.Proving.{length}
 use Rattle.cursors.specs.FactsKept.{FactsKept}
-use Rattle.cursors.specs.laws.FactsKeptLaw.{kept-none, kept_set, kept_more}
 use Rattle.cursors.proofs.observed.find_tests.Given as goal
 
 abbrev pub invariant-loop-at : goal.invariant-loop-at

@@ -1,5 +1,5 @@
 use Rattle.std.specs.Prelude.{◌-◌, ◌≤◌}
-use Rattle.lists.specs.Proving.{rules, length}
+use Rattle.lists.specs.Proving.{length}
 use Rattle.cursors.proofs.progress.advance.Given as goal
 
 abbrev pub invariant-loop-at : goal.invariant-loop-at

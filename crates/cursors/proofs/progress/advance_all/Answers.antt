@@ -1,6 +1,4 @@
-use Rattle.std.specs.Prelude.{◌-◌, ◌≤◌}
-use Rattle.lists.specs.Proving.{rules, arith}
-use Rattle.cursors.specs.Steering.{Advanced}
+use Rattle.lists.specs.Proving.{arith}
 use Rattle.cursors.proofs.MarkingLaw.{advanced-none, advanced-more}
 use Rattle.cursors.proofs.progress.advance_all.Goals as goal
 

@@ -1,7 +1,5 @@
 use Rattle.std.specs.Prelude.{◌-◌, ◌≤◌}
-use Rattle.lists.specs.Proving.{rules, arith}
 use Rattle.cursors.specs.Steering.{Advanced}
-use Rattle.cursors.proofs.MarkingLaw.{advanced-none, advanced-more}
 use Rattle.cursors.proofs.progress.advance_all.Given as goal
 
 abbrev pub invariant-loop-t : goal.invariant-loop-t

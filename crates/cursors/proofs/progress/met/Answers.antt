@@ -1,6 +1,5 @@
-use Rattle.std.specs.Prelude.{◌-◌, ◌%◌, ◌≤◌}
-use Rattle.lists.specs.Proving.{rules, arith, not-false}
-use Rattle.cubes.specs.Sets.{HasAll}
+use Rattle.std.specs.Prelude.{◌%◌}
+use Rattle.lists.specs.Proving.{arith}
 use Rattle.cursors.proofs.NarrowingLaw.{met-none, met-more}
 use Rattle.cursors.proofs.progress.met.Goals as goal
 

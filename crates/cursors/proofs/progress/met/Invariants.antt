@@ -1,7 +1,5 @@
-use Rattle.std.specs.Prelude.{◌-◌, ◌%◌, ◌≤◌}
-use Rattle.lists.specs.Proving.{rules, arith, not-false}
+use Rattle.std.specs.Prelude.{◌-◌, ◌≤◌}
 use Rattle.cubes.specs.Sets.{HasAll}
-use Rattle.cursors.proofs.NarrowingLaw.{met-none, met-more}
 use Rattle.cursors.proofs.progress.met.Given as goal
 
 abbrev pub invariant-loop-n : goal.invariant-loop-n

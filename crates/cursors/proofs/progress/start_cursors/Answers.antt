@@ -1,6 +1,4 @@
-use Rattle.std.specs.Prelude.{◌-◌, ◌≤◌}
-use Rattle.lists.specs.Proving.{rules, arith}
-use Rattle.cursors.specs.Steering.{Begun}
+use Rattle.lists.specs.Proving.{arith}
 use Rattle.cursors.proofs.MarkingLaw.{begun-none, begun_more, begun_all}
 use Rattle.cursors.proofs.progress.start_cursors.Goals as goal
 

@@ -1,7 +1,5 @@
 use Rattle.std.specs.Prelude.{◌-◌, ◌≤◌}
-use Rattle.lists.specs.Proving.{rules, arith}
 use Rattle.cursors.specs.Steering.{Begun}
-use Rattle.cursors.proofs.MarkingLaw.{begun-none, begun_more, begun_all}
 use Rattle.cursors.proofs.progress.start_cursors.Given as goal
 
 abbrev pub invariant-loop-t : goal.invariant-loop-t

@@ -1,5 +1,4 @@
 use Rattle.std.specs.Prelude.{◌≤◌}
-use Rattle.lists.specs.Proving.{rules}
 use Rattle.cursors.proofs.proposal.fill_bad.Given as goal
 
 abbrev pub invariant-loop-l : goal.invariant-loop-l

@@ -1,6 +1,4 @@
-use Rattle.std.specs.Prelude.{◌-◌, ◌≤◌}
-use Rattle.lists.specs.Proving.{rules, arith}
-use Rattle.cursors.specs.Steering.{Narrowed}
+use Rattle.lists.specs.Proving.{arith}
 use Rattle.cursors.proofs.NarrowingLaw.{narrowed_none, narrowed-more}
 use Rattle.cursors.proofs.proposal.narrow_all.Goals as goal
 

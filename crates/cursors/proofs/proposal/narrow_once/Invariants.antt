@@ -1,7 +1,5 @@
 use Rattle.std.specs.Prelude.{◌-◌, ◌≤◌}
-use Rattle.lists.specs.Proving.{rules, arith}
 use Rattle.cursors.specs.Steering.{Narrowed}
-use Rattle.cursors.proofs.NarrowingLaw.{narrowed_none, narrowed-more}
 use Rattle.cursors.proofs.proposal.narrow_once.Given as goal
 
 abbrev pub invariant-loop-l : goal.invariant-loop-l

@@ -1,7 +1,5 @@
 use Rattle.std.specs.Prelude.{◌-◌, ◌≤◌}
-use Rattle.lists.specs.Proving.{rules, arith}
 use Rattle.cursors.specs.Steering.{Narrowed}
-use Rattle.cursors.proofs.NarrowingLaw.{narrowed_none, narrowed-more}
 use Rattle.cursors.proofs.proposal.narrow_states.Given as goal
 
 abbrev pub invariant-loop-n : goal.invariant-loop-n

@@ -1,4 +1,4 @@
-use Rattle.lists.specs.Proving.{rules, arith}
+use Rattle.lists.specs.Proving.{arith}
 use Rattle.cursors.proofs.NarrowingLaw.{narrowed-set}
 use Rattle.cursors.proofs.proposal.narrow_step.Goals as goal
 

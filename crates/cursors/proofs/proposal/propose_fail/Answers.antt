@@ -1,4 +1,3 @@
-use Rattle.lists.specs.Proving.{rules}
 use Rattle.leaves.specs.laws.MembersLaw.{literals-free}
 use Rattle.cursors.proofs.NarrowingLaw.{speaks-exact, speaks-wider, met-none}
 use Rattle.cursors.proofs.proposal.propose_fail.Goals as goal

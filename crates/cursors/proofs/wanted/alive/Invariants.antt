@@ -1,5 +1,4 @@
 use Rattle.std.specs.Prelude.{◌-◌, ◌*◌, ◌≤◌}
-use Rattle.lists.specs.Proving.{rules}
 use Rattle.cursors.proofs.wanted.alive.Given as goal
 
 abbrev pub invariant-loop-n : goal.invariant-loop-n

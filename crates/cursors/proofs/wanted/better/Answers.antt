@@ -1,4 +1,4 @@
-use Rattle.lists.specs.Proving.{rules, refl, inl, inr}
+use Rattle.lists.specs.Proving.{refl, inl, inr}
 use Rattle.cursors.proofs.wanted.better.Goals as goal
 
 pub returns-then-tests-eq0 : goal.returns-then-tests-eq0

@@ -1,4 +1,3 @@
-use Rattle.lists.specs.Proving.{rules}
 use Rattle.cursors.proofs.MarkingLaw.{marked-none, marked-some}
 use Rattle.cursors.proofs.wanted.mark.Goals as goal
 

@@ -1,6 +1,4 @@
-use Rattle.std.specs.Prelude.{◌-◌, ◌≤◌}
-use Rattle.lists.specs.Proving.{rules, arith}
-use Rattle.leaves.specs.Noted.{Changed}
+use Rattle.lists.specs.Proving.{arith}
 use Rattle.leaves.specs.laws.NotedLaw.{changed-none, changed-more}
 use Rattle.cursors.proofs.wanted.mark_test.Goals as goal
 

@@ -1,7 +1,5 @@
 use Rattle.std.specs.Prelude.{◌-◌, ◌≤◌}
-use Rattle.lists.specs.Proving.{rules, arith}
 use Rattle.leaves.specs.Noted.{Changed}
-use Rattle.leaves.specs.laws.NotedLaw.{changed-none, changed-more}
 use Rattle.cursors.proofs.wanted.mark_test.Given as goal
 
 abbrev pub invariant-loop-n : goal.invariant-loop-n

@@ -1,6 +1,4 @@
-use Rattle.std.specs.Prelude.{◌-◌, ◌≤◌}
-use Rattle.lists.specs.Proving.{rules, arith}
-use Rattle.cursors.specs.Steering.{Picked}
+use Rattle.lists.specs.Proving.{arith}
 use Rattle.cursors.proofs.MarkingLaw.{picked_none, picked_more}
 use Rattle.cursors.proofs.wanted.pick.Goals as goal
 

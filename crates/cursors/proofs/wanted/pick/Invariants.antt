@@ -1,7 +1,5 @@
 use Rattle.std.specs.Prelude.{◌-◌, ◌≤◌}
-use Rattle.lists.specs.Proving.{rules, arith}
 use Rattle.cursors.specs.Steering.{Picked}
-use Rattle.cursors.proofs.MarkingLaw.{picked_none, picked_more}
 use Rattle.cursors.proofs.wanted.pick.Given as goal
 
 abbrev pub invariant-loop-j : goal.invariant-loop-j

@@ -1,4 +1,4 @@
-use Rattle.lists.specs.Proving.{rules, arith}
+use Rattle.lists.specs.Proving.{arith}
 use borrow.Author.Rules.{scaled_Fits}
 use Rattle.cursors.proofs.wanted.times.Goals as goal
 

@@ -3,7 +3,6 @@ use mathlib.Core.Path.{◌∙◌}
 use Rattle.block.specs.laws.TabledLaw.{well-formed}
 use Rattle.mutation.proofs.OperateLaw.{valid, low, compare-refused, compare-short, compare-done}
 use native.Mathlib.Omega.{arith}
-use borrow.Author.Rules.{rules}
 use Rattle.mutation.proofs.conform.compare_accepted.Goals as goal
 
 pub machine_of-machine-requires : goal.machine_of-machine-requires

@@ -1,6 +1,5 @@
 use mathlib.Core.Path.{sym, ap}
 use Rattle.mutation.specs.Answers.{compared_by}
-use borrow.Author.Rules.{rules}
 use Rattle.mutation.proofs.conform.compared.Goals as goal
 
 pub returns-in-Shown : goal.returns-in-Shown

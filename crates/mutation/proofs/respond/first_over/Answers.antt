@@ -1,8 +1,6 @@
 -- `first_over`: each input before i is below k.
-use Prim.Native.Nat.{ℕ, ◌≤◌, ◌<◌, ◌-◌}
 use native.Mathlib.Omega.{arith}
 use borrow.Author.Count.{below_more}
-use lib.ListN.{length, get_or}
 use Rattle.mutation.proofs.RespondLaw.{over-at, over-nowhere}
 use native.Mathlib.Omega.{arith}
 use Rattle.mutation.proofs.respond.first_over.Goals as goal

@@ -1,10 +1,6 @@
 -- `first_over`: each input before i is below k.
 use Prim.Native.Nat.{ℕ, ◌≤◌, ◌<◌, ◌-◌}
-use native.Mathlib.Omega.{arith}
-use borrow.Author.Count.{below_more}
 use lib.ListN.{length, get_or}
-use Rattle.mutation.proofs.RespondLaw.{over-at, over-nowhere}
-use native.Mathlib.Omega.{arith}
 use Rattle.mutation.proofs.respond.first_over.Given as goal
 
 abbrev pub invariant-loop-i : goal.invariant-loop-i

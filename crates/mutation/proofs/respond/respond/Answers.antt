@@ -1,9 +1,6 @@
 -- `respond`: the outputs of the inputs before i are written, and the slots they use are marked.
-use Prim.Native.Nat.{◌-◌}
 use native.Mathlib.Omega.{arith}
-use borrow.Author.Rules.{rules}
-use lib.ListN.{length}
-use Rattle.mutation.proofs.RespondLaw.{Responding, respond-start, place-low, respond-more, respond-marked, respond-end}
+use Rattle.mutation.proofs.RespondLaw.{respond-start, place-low, respond-more, respond-marked, respond-end}
 use Rattle.mutation.proofs.respond.respond.Goals as goal
 
 pub loop-i-init : goal.loop-i-init

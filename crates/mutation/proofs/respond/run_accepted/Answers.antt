@@ -1,6 +1,5 @@
 -- `run_accepted`: each way out is a case of what running comes to.
 use Rattle.mutation.proofs.OperateLaw.{runnable, run-refused, run-over, run_short, run-done}
-use borrow.Author.Rules.{rules}
 use Rattle.mutation.proofs.respond.run_accepted.Goals as goal
 
 pub machine_of-machine-requires : goal.machine_of-machine-requires

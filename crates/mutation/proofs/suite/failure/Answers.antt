@@ -1,5 +1,4 @@
 use mathlib.Core.Path.{refl}
-use borrow.Author.Rules.{rules}
 use Rattle.mutation.proofs.suite.failure.Goals as goal
 
 pub returns-in-Nothing : goal.returns-in-Nothing

@@ -1,5 +1,4 @@
 -- `first_failed_accepted`: a short array for the log of a short sheet, a long one for any other.
-use borrow.Author.Rules.{rules}
 use native.Mathlib.Omega.{arith}
 use Rattle.logs.specs.laws.SuitesLaw.{suite-short, suite-long}
 use Rattle.mutation.proofs.suite.first_failed_accepted.Goals as goal

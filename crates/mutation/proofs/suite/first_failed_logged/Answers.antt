@@ -1,7 +1,5 @@
 -- `first_failed_logged`: 13 and 14, then the walk along the suite's log, then the slots of the tests that it tried.
-use borrow.Author.Rules.{rules}
 use mathlib.Core.Path.{sym, ◌∙◌, ap}
-use lib.Seq.{length-take-le}
 use Rattle.sheet.specs.Reading.{accepted}
 use Rattle.model.specs.Suite.{finding_of}
 use Rattle.mutation.specs.Answers.{failed_answer}

@@ -1,5 +1,4 @@
 -- `conclude`: what the search from the first mutant on finds is the judgement.
-use borrow.Author.Rules.{rules}
 use Rattle.mutation.proofs.JudgingLaw.{from_front, judges-complete, judges-survivor}
 use Rattle.mutation.proofs.verdict.conclude.Goals as goal
 

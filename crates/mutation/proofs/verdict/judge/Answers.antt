@@ -1,5 +1,4 @@
 -- `judge`: what `judge_counting` promises but for the count.
-use borrow.Author.Rules.{rules}
 use Rattle.mutation.proofs.verdict.judge.Goals as goal
 
 pub returns : goal.returns

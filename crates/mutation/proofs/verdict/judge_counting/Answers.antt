@@ -1,7 +1,6 @@
 -- `judge_counting`: refused as reading refuses, or the judgement of the sheet that was read.
 use mathlib.Core.Path.{refl, ap₂}
 use Rattle.sheet.specs.laws.RefusalLaw.{refusal-told}
-use borrow.Author.Rules.{rules}
 use Rattle.mutation.specs.declared.verdict.Judged.TheVariants.{Refused}
 use Rattle.block.specs.laws.OpenedLaw.{opened}
 use Rattle.mutation.proofs.JudgingLaw.{judge-refused, judge-accepted}

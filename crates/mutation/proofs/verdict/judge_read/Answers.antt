@@ -1,5 +1,4 @@
 -- `judge_read`: room for the mutant, then for the sequence, then the judgement.
-use borrow.Author.Rules.{rules}
 use Prim.Native.Nat.{◌*◌, ◌≤◌}
 use native.Mathlib.Omega.{arith}
 use mathlib.Core.Path.{◌≡◌, refl, ◌∙◌}

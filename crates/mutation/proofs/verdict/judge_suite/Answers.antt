@@ -1,5 +1,4 @@
 -- `judge_suite`: the suite's log, in a short array or a long one, and the judgement by it.
-use borrow.Author.Rules.{rules}
 use native.Mathlib.Omega.{arith}
 use mathlib.Core.Path.{sym}
 use mathlib.Core.List.{List}

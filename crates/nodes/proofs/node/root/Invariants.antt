@@ -1,5 +1,4 @@
 use Rattle.std.specs.Prelude.{◌-◌, ◌≤◌}
-use Rattle.lists.specs.Proving.{rules}
 use Rattle.nodes.proofs.node.root.Given as goal
 
 abbrev pub invariant-loop-j : goal.invariant-loop-j

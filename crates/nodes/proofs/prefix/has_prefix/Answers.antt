@@ -1,6 +1,4 @@
-use Rattle.std.specs.Prelude.{◌-◌}
-use Rattle.lists.specs.Proving.{rules, not-false}
-use Rattle.nodes.proofs.PrefixLaw.{PrefixTo, prefix-none, prefix-more, prefix-all}
+use Rattle.nodes.proofs.PrefixLaw.{prefix-none, prefix-more, prefix-all}
 use Rattle.store.specs.laws.ToldLaw.{void}
 use Rattle.nodes.proofs.prefix.has_prefix.Goals as goal
 

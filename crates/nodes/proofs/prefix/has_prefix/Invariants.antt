@@ -1,7 +1,5 @@
 use Rattle.std.specs.Prelude.{◌-◌}
-use Rattle.lists.specs.Proving.{rules, not-false}
-use Rattle.nodes.proofs.PrefixLaw.{PrefixTo, prefix-none, prefix-more, prefix-all}
-use Rattle.store.specs.laws.ToldLaw.{void}
+use Rattle.nodes.proofs.PrefixLaw.{PrefixTo}
 use Rattle.nodes.proofs.prefix.has_prefix.Given as goal
 
 abbrev pub invariant-loop-i : goal.invariant-loop-i

@@ -1,4 +1,4 @@
-use Rattle.lists.specs.Proving.{rules, sym, ◌∙◌}
+use Rattle.lists.specs.Proving.{sym, ◌∙◌}
 use Rattle.store.specs.laws.ToldLaw.{void}
 use Rattle.nodes.proofs.tell.by_conforming.Goals as goal
 

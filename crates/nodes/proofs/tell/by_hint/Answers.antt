@@ -1,4 +1,3 @@
-use Rattle.lists.specs.Proving.{rules}
 use Rattle.nodes.specs.laws.TellLaw.{found-entry}
 use Rattle.nodes.proofs.tell.by_hint.Goals as goal
 

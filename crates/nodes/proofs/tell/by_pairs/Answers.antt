@@ -1,4 +1,3 @@
-use Rattle.lists.specs.Proving.{rules}
 use Rattle.store.specs.laws.ToldLaw.{told_none}
 use Rattle.nodes.specs.laws.TellLaw.{told-conforming}
 use Rattle.nodes.proofs.tell.by_pairs.Goals as goal

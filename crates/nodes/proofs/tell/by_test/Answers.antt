@@ -1,4 +1,3 @@
-use Rattle.lists.specs.Proving.{rules}
 use Rattle.nodes.proofs.tell.by_test.Goals as goal
 
 pub fails-ok-requires : goal.fails-ok-requires

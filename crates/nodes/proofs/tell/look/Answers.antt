@@ -1,4 +1,3 @@
-use Rattle.lists.specs.Proving.{rules}
 use Rattle.nodes.specs.laws.TellLaw.{found-learnt}
 use Rattle.nodes.proofs.tell.look.Goals as goal
 

@@ -1,6 +1,4 @@
-use Rattle.std.specs.Prelude.{◌-◌, ◌≤◌}
-use Rattle.lists.specs.Proving.{rules, arith}
-use Rattle.leaves.specs.Members.{Literals}
+use Rattle.lists.specs.Proving.{arith}
 use Rattle.pairs.proofs.proposal.narrow.Goals as goal
 
 pub loop-rounds-init : goal.loop-rounds-init

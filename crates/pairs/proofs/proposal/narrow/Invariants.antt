@@ -1,5 +1,4 @@
 use Rattle.std.specs.Prelude.{◌-◌, ◌≤◌}
-use Rattle.lists.specs.Proving.{rules, arith}
 use Rattle.leaves.specs.Members.{Literals}
 use Rattle.pairs.proofs.proposal.narrow.Given as goal
 

@@ -1,5 +1,4 @@
 use Rattle.std.specs.Prelude.{◌-◌, ◌≤◌}
-use Rattle.lists.specs.Proving.{rules}
 use Rattle.pairs.proofs.proposal.pair_safe.Given as goal
 
 abbrev pub invariant-loop-x : goal.invariant-loop-x

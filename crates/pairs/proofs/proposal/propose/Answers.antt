@@ -1,4 +1,4 @@
-use Rattle.lists.specs.Proving.{rules, refl}
+use Rattle.lists.specs.Proving.{refl}
 use Rattle.lists.specs.laws.TestLaw.{clash}
 use Rattle.leaves.specs.laws.MembersLaw.{literals-free}
 use Rattle.pairs.proofs.proposal.propose.Goals as goal

@@ -1,5 +1,4 @@
 use Rattle.std.specs.Prelude.{◌-◌, ◌≤◌}
-use Rattle.lists.specs.Proving.{rules}
 use Rattle.pairs.proofs.proposal.safe_pairs.Given as goal
 
 abbrev pub invariant-loop-rounds : goal.invariant-loop-rounds

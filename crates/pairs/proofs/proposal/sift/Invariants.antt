@@ -1,5 +1,4 @@
 use Rattle.std.specs.Prelude.{◌-◌, ◌≤◌}
-use Rattle.lists.specs.Proving.{rules}
 use Rattle.pairs.proofs.proposal.sift.Given as goal
 
 abbrev pub invariant-loop-h : goal.invariant-loop-h

@@ -1,6 +1,4 @@
-use Rattle.std.specs.Prelude.{◌-◌, ◌≤◌}
-use Rattle.lists.specs.Proving.{rules, arith}
-use Rattle.leaves.specs.Members.{Literals}
+use Rattle.lists.specs.Proving.{arith}
 use Rattle.pairs.proofs.proposal.spread.Goals as goal
 
 pub loop-turns-init : goal.loop-turns-init

@@ -1,4 +1,3 @@
-use Rattle.lists.specs.Proving.{rules}
 use Rattle.leaves.specs.laws.MembersLaw.{literals-set}
 use Rattle.pairs.proofs.proposal.start.Goals as goal
 

@@ -1,4 +1,3 @@
-use Rattle.lists.specs.Proving.{rules}
 use Rattle.pairs.proofs.MeetingLaw.{meets-free, meets-none}
 use Rattle.pairs.proofs.reach.meet.Goals as goal
 

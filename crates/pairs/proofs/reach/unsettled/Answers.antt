@@ -1,4 +1,4 @@
-use Rattle.lists.specs.Proving.{rules, arith, ℕ, refl, sym, ◌∙◌, ap, get_or, eqb-true}
+use Rattle.lists.specs.Proving.{arith, ℕ, refl, sym, ◌∙◌, ap, get_or, eqb-true}
 use Rattle.lists.specs.laws.TestLaw.{clash}
 use Rattle.pairs.proofs.reach.unsettled.Goals as goal
 

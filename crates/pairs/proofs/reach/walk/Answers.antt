@@ -1,5 +1,4 @@
-use Rattle.std.specs.Prelude.{◌-◌, ◌≤◌}
-use Rattle.lists.specs.Proving.{rules, arith, sym, subst}
+use Rattle.lists.specs.Proving.{arith, sym, subst}
 use Rattle.pairs.specs.Meeting.{Free}
 use Rattle.pairs.proofs.MeetingLaw.{free-none}
 use Rattle.pairs.proofs.reach.walk.Goals as goal

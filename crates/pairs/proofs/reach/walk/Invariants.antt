@@ -1,7 +1,5 @@
 use Rattle.std.specs.Prelude.{◌-◌, ◌≤◌}
-use Rattle.lists.specs.Proving.{rules, arith, sym, subst}
 use Rattle.pairs.specs.Meeting.{Free}
-use Rattle.pairs.proofs.MeetingLaw.{free-none}
 use Rattle.pairs.proofs.reach.walk.Given as goal
 
 abbrev pub invariant-loop-h : goal.invariant-loop-h

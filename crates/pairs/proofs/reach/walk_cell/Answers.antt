@@ -1,4 +1,4 @@
-use Rattle.lists.specs.Proving.{rules, sym, subst, ⊎_elim}
+use Rattle.lists.specs.Proving.{sym, subst, ⊎_elim}
 use Rattle.pairs.specs.Meeting.{Free}
 use Rattle.pairs.proofs.reach.walk_cell.Goals as goal
 

@@ -1,6 +1,4 @@
-use Rattle.std.specs.Prelude.{◌-◌, ◌≤◌}
-use Rattle.lists.specs.Proving.{rules, arith}
-use Rattle.pairs.specs.Meeting.{Free}
+use Rattle.lists.specs.Proving.{arith}
 use Rattle.pairs.proofs.reach.walk_pair.Goals as goal
 
 pub loop-x-init : goal.loop-x-init

@@ -1,5 +1,4 @@
 use Rattle.std.specs.Prelude.{◌-◌, ◌≤◌}
-use Rattle.lists.specs.Proving.{rules, arith}
 use Rattle.pairs.specs.Meeting.{Free}
 use Rattle.pairs.proofs.reach.walk_pair.Given as goal
 

@@ -1,5 +1,4 @@
 use Rattle.std.specs.Prelude.{◌-◌, ◌≤◌}
-use Rattle.lists.specs.Proving.{rules}
 use Rattle.pairs.proofs.witness.choice_of.Given as goal
 
 abbrev pub invariant-loop-c : goal.invariant-loop-c

@@ -1,8 +1,6 @@
 -- `first_difference`: the bytes before `at` have no difference.
-use Rattle.std.specs.Prelude.{◌-◌}
-use Rattle.lists.specs.Proving.{rules, arith, refl, sym, length}
-use Rattle.block.specs.Tabulated.{rule_of}
-use Rattle.records.proofs.AlongLaw.{Compared, compared-end, compared-wrong, compared-more}
+use Rattle.lists.specs.Proving.{arith, refl, sym}
+use Rattle.records.proofs.AlongLaw.{compared-end, compared-wrong, compared-more}
 use Rattle.records.proofs.differ.first_difference.Goals as goal
 
 pub loop-at-init : goal.loop-at-init

@@ -1,8 +1,8 @@
 -- `first_difference`: the bytes before `at` have no difference.
 use Rattle.std.specs.Prelude.{◌-◌}
-use Rattle.lists.specs.Proving.{rules, arith, refl, sym, length}
+use Rattle.lists.specs.Proving.{length}
 use Rattle.block.specs.Tabulated.{rule_of}
-use Rattle.records.proofs.AlongLaw.{Compared, compared-end, compared-wrong, compared-more}
+use Rattle.records.proofs.AlongLaw.{Compared}
 use Rattle.records.proofs.differ.first_difference.Given as goal
 
 abbrev pub invariant-loop-at : goal.invariant-loop-at

@@ -1,5 +1,5 @@
 -- `operand`: one byte of what follows.
-use Rattle.lists.specs.Proving.{rules, arith, sym}
+use Rattle.lists.specs.Proving.{arith, sym}
 use Rattle.records.proofs.AlongLaw.{operand-is, operand-none}
 use Rattle.records.proofs.differ.operand.Goals as goal
 

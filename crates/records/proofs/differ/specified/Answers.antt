@@ -1,5 +1,5 @@
 -- `specified`: a rule is read at a state and an input of the sheet alone.
-use Rattle.lists.specs.Proving.{rules, arith}
+use Rattle.lists.specs.Proving.{arith}
 use Rattle.records.proofs.AlongLaw.{rule-there, rule-none}
 use Rattle.records.proofs.differ.specified.Goals as goal
 

@@ -1,5 +1,5 @@
 -- `step`: by the byte, and by the rule.
-use Rattle.lists.specs.Proving.{rules, refl}
+use Rattle.lists.specs.Proving.{refl}
 use Rattle.block.specs.Tabulated.{rule_of}
 use Rattle.records.specs.Steps.{state_of}
 use lib.ListN.{drop, get_or}

@@ -1,7 +1,6 @@
 -- `broken`: the commands before `at` are whole.
-use Rattle.std.specs.Prelude.{◌-◌}
-use Rattle.lists.specs.Proving.{rules, arith, refl, sym, length}
-use Rattle.records.proofs.AlongLaw.{Commands, commands-end, commands-broken, commands-more}
+use Rattle.lists.specs.Proving.{arith, refl, sym}
+use Rattle.records.proofs.AlongLaw.{commands-end, commands-broken, commands-more}
 use Rattle.records.proofs.scan.broken.Goals as goal
 
 pub loop-at-init : goal.loop-at-init

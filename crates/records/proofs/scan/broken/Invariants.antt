@@ -1,7 +1,7 @@
 -- `broken`: the commands before `at` are whole.
 use Rattle.std.specs.Prelude.{◌-◌}
-use Rattle.lists.specs.Proving.{rules, arith, refl, sym, length}
-use Rattle.records.proofs.AlongLaw.{Commands, commands-end, commands-broken, commands-more}
+use Rattle.lists.specs.Proving.{length}
+use Rattle.records.proofs.AlongLaw.{Commands}
 use Rattle.records.proofs.scan.broken.Given as goal
 
 abbrev pub invariant-loop-at : goal.invariant-loop-at

@@ -1,5 +1,5 @@
 -- `in_range`: cut, an input that is too large, or by the output.
-use Rattle.lists.specs.Proving.{rules, arith, sym}
+use Rattle.lists.specs.Proving.{sym}
 use Rattle.records.proofs.AlongLaw.{range-cut, range-input, range-output}
 use Rattle.records.proofs.scan.in_range.Goals as goal
 

@@ -1,5 +1,5 @@
 -- `taken`: by the command's byte.
-use Rattle.lists.specs.Proving.{rules, sym, ◌∙◌, not-true, not-false}
+use Rattle.lists.specs.Proving.{sym, ◌∙◌}
 use Rattle.records.proofs.AlongLaw.{takes-pulse, takes-unknown, takes-early, takes-over, takes-seen}
 use Rattle.records.proofs.scan.taken.Goals as goal
 

@@ -1,4 +1,3 @@
-use borrow.Author.Rules.{rules}
 use mathlib.Core.Path.{sym, ◌∙◌, ap}
 use Rattle.lists.specs.laws.TestLaw.{never}
 use Rattle.station.specs.words.Parts.{least_of}

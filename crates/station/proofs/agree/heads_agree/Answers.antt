@@ -1,4 +1,3 @@
-use borrow.Author.Rules.{rules}
 use mathlib.Core.Path.{sym, ◌∙◌, ap₂}
 use lib.Seq.{length-take-le}
 use Rattle.station.specs.Station.{same}

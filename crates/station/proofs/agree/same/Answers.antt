@@ -1,8 +1,5 @@
-use Prim.Native.Nat.{ℕ, ◌-◌, ◌<◌, ◌≤◌}
 use native.Mathlib.Omega.{arith}
-use mathlib.Core.Path.{◌≡◌}
 use borrow.Author.Count.{below_more}
-use lib.ListN.{length, get_or}
 use Rattle.station.proofs.PartsLaw.{same-long, same_not, same-all}
 use Rattle.station.proofs.agree.same.Goals as goal
 

@@ -1,9 +1,6 @@
 use Prim.Native.Nat.{ℕ, ◌-◌, ◌<◌, ◌≤◌}
-use native.Mathlib.Omega.{arith}
 use mathlib.Core.Path.{◌≡◌}
-use borrow.Author.Count.{below_more}
 use lib.ListN.{length, get_or}
-use Rattle.station.proofs.PartsLaw.{same-long, same_not, same-all}
 use Rattle.station.proofs.agree.same.Given as goal
 
 abbrev pub invariant-loop-i : goal.invariant-loop-i

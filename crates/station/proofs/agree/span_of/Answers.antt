@@ -1,4 +1,3 @@
-use borrow.Author.Rules.{rules}
 use Rattle.station.proofs.PartsLaw.{span-at}
 use Rattle.lists.specs.laws.TestLaw.{never}
 use Rattle.station.proofs.agree.span_of.Goals as goal

@@ -1,4 +1,3 @@
-use borrow.Author.Rules.{rules}
 use mathlib.Core.Path.{sym, ◌∙◌, ap}
 use Rattle.station.specs.declared.Phase.{Phase}
 use Rattle.station.specs.Station.{due_by}

@@ -1,12 +1,11 @@
-use Prim.Native.Nat.{ℕ, ◌-◌, ◌≤◌}
+use Prim.Native.Nat.{ℕ}
 use native.Mathlib.Omega.{arith}
 use native.Mathlib.Numerals.{add-one}
 use mathlib.Core.Path.{◌≡◌}
 use mathlib.Core.Option.{some}
 use mathlib.Core.List.{List}
-use lib.ListN.{length, take}
+use lib.ListN.{take}
 use Rattle.sheet.specs.Sheet.{Sheet, after}
-use Rattle.station.specs.words.Parts.{Walk}
 use Rattle.station.proofs.WalkLaw.{state-low, press-low, walk-on, walk-output, walk_start, walk-out}
 use Rattle.station.proofs.hearing.output_in.Goals as goal
 

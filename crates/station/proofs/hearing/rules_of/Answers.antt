@@ -1,4 +1,3 @@
-use borrow.Author.Rules.{rules}
 use Rattle.station.proofs.WalkLaw.{ruled}
 use Rattle.station.proofs.hearing.rules_of.Goals as goal
 

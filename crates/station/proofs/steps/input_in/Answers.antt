@@ -1,4 +1,3 @@
-use borrow.Author.Rules.{rules}
 use native.Mathlib.Omega.{arith}
 use Rattle.station.proofs.PressLaw.{found_at, found_none}
 use Rattle.station.proofs.steps.input_in.Goals as goal

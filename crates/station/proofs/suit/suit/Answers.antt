@@ -1,4 +1,3 @@
-use borrow.Author.Rules.{rules}
 use mathlib.Core.Path.{◌∙◌, ap}
 use Rattle.station.proofs.ReadLaw.{suited-judged}
 use Rattle.station.specs.words.Parts.{suited_by}

@@ -1,4 +1,4 @@
-use Rattle.lists.specs.Proving.{rules, arith}
+use Rattle.lists.specs.Proving.{arith}
 use Rattle.store.specs.laws.ToldLaw.{tells_none}
 use Rattle.store.proofs.StoreLaw.{tells}
 use Rattle.store.proofs.entries.entry.Goals as goal

@@ -1,6 +1,4 @@
-use Rattle.std.specs.Prelude.{◌-◌, ◌≡◌}
-use Rattle.lists.specs.Proving.{rules, refl, length}
-use Rattle.store.specs.Store.{Kept}
+use Rattle.lists.specs.Proving.{rules, refl}
 use Rattle.store.proofs.StoreLaw.{kept_same, kept_more}
 use Rattle.store.proofs.entries.idle.Goals as goal
 

@@ -1,7 +1,6 @@
 use Rattle.std.specs.Prelude.{◌-◌, ◌≡◌}
-use Rattle.lists.specs.Proving.{rules, refl, length}
+use Rattle.lists.specs.Proving.{length}
 use Rattle.store.specs.Store.{Kept}
-use Rattle.store.proofs.StoreLaw.{kept_same, kept_more}
 use Rattle.store.proofs.entries.idle.Given as goal
 
 abbrev pub invariant-loop-tries : goal.invariant-loop-tries

@@ -1,4 +1,3 @@
-use Rattle.lists.specs.Proving.{rules, not-false}
 use Rattle.store.proofs.StoreLaw.{kept_same, learns_none, learns-more}
 use Rattle.store.proofs.entries.learn.Goals as goal
 

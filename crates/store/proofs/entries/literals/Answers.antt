@@ -1,6 +1,5 @@
-use Rattle.std.specs.Prelude.{◌-◌}
-use Rattle.lists.specs.Proving.{rules, arith}
-use Rattle.store.proofs.StoreLaw.{Copied, copied_none, copied_more, copied_all}
+use Rattle.lists.specs.Proving.{arith}
+use Rattle.store.proofs.StoreLaw.{copied_none, copied_more, copied_all}
 use Rattle.store.proofs.entries.literals.Goals as goal
 
 pub loop-j-init : goal.loop-j-init

@@ -1,6 +1,5 @@
 use Rattle.std.specs.Prelude.{◌-◌}
-use Rattle.lists.specs.Proving.{rules, arith}
-use Rattle.store.proofs.StoreLaw.{Copied, copied_none, copied_more, copied_all}
+use Rattle.store.proofs.StoreLaw.{Copied}
 use Rattle.store.proofs.entries.literals.Given as goal
 
 abbrev pub invariant-loop-j : goal.invariant-loop-j

@@ -1,4 +1,3 @@
-use Rattle.lists.specs.Proving.{rules}
 use Rattle.store.proofs.StoreLaw.{kept-age}
 use Rattle.store.proofs.entries.set_age.Goals as goal
 

@@ -1,5 +1,4 @@
 use Rattle.std.specs.Prelude.{◌-◌, ◌≤◌}
-use Rattle.lists.specs.Proving.{rules}
 use Rattle.store.proofs.entries.speaks.Given as goal
 
 abbrev pub invariant-loop-j : goal.invariant-loop-j

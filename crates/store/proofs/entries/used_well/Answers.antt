@@ -1,4 +1,4 @@
-use Rattle.lists.specs.Proving.{rules, arith}
+use Rattle.lists.specs.Proving.{arith}
 use Rattle.store.proofs.StoreLaw.{kept_same}
 use Rattle.store.proofs.entries.used_well.Goals as goal
 

@@ -1,6 +1,4 @@
-use Rattle.std.specs.Prelude.{◌+◌, ◌-◌, ◌*◌, ◌≤◌}
-use Rattle.lists.specs.Proving.{rules, arith, refl, ◌∙◌, length, length-set}
-use Rattle.store.specs.Store.{Written}
+use Rattle.lists.specs.Proving.{arith, refl, ◌∙◌, length-set}
 use Rattle.store.proofs.StoreLaw.{written_none, written-more, written_all}
 use Rattle.store.proofs.entries.write.Goals as goal
 

@@ -1,7 +1,6 @@
 use Rattle.std.specs.Prelude.{◌+◌, ◌-◌, ◌*◌, ◌≤◌}
-use Rattle.lists.specs.Proving.{rules, arith, refl, ◌∙◌, length, length-set}
+use Rattle.lists.specs.Proving.{length}
 use Rattle.store.specs.Store.{Written}
-use Rattle.store.proofs.StoreLaw.{written_none, written-more, written_all}
 use Rattle.store.proofs.entries.write.Given as goal
 
 abbrev pub invariant-loop-j : goal.invariant-loop-j

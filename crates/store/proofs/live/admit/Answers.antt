@@ -1,6 +1,4 @@
-use Rattle.std.specs.Prelude.{◌-◌, ◌≤◌}
-use Rattle.lists.specs.Proving.{rules, arith}
-use Rattle.leaves.specs.Noted.{Changed}
+use Rattle.lists.specs.Proving.{arith}
 use Rattle.leaves.specs.laws.NotedLaw.{changed-none, changed-set, changed-more}
 use Rattle.store.proofs.live.admit.Goals as goal
 

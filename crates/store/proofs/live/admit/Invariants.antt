@@ -1,7 +1,5 @@
 use Rattle.std.specs.Prelude.{◌-◌, ◌≤◌}
-use Rattle.lists.specs.Proving.{rules, arith}
 use Rattle.leaves.specs.Noted.{Changed}
-use Rattle.leaves.specs.laws.NotedLaw.{changed-none, changed-set, changed-more}
 use Rattle.store.proofs.live.admit.Given as goal
 
 abbrev pub invariant-loop-n : goal.invariant-loop-n

@@ -1,7 +1,4 @@
-use Rattle.std.specs.Prelude.{◌-◌, ◌%◌, ◌≤◌}
-use Rattle.lists.specs.Proving.{rules, arith}
-use lib.Count.{ones}
-use Rattle.store.specs.Live.{Admitted}
+use Rattle.lists.specs.Proving.{arith}
 use Rattle.store.proofs.LiveLaw.{admitted-none, admitted-more, admitted-all}
 use Rattle.store.proofs.live.admit_all.Goals as goal
 

@@ -1,8 +1,6 @@
 use Rattle.std.specs.Prelude.{◌-◌, ◌%◌, ◌≤◌}
-use Rattle.lists.specs.Proving.{rules, arith}
 use lib.Count.{ones}
 use Rattle.store.specs.Live.{Admitted}
-use Rattle.store.proofs.LiveLaw.{admitted-none, admitted-more, admitted-all}
 use Rattle.store.proofs.live.admit_all.Given as goal
 
 abbrev pub invariant-loop-w : goal.invariant-loop-w

@@ -1,4 +1,3 @@
-use Rattle.lists.specs.Proving.{rules}
 use Rattle.store.proofs.scan.agrees.Given as goal
 
 abbrev pub invariant-loop-left : goal.invariant-loop-left

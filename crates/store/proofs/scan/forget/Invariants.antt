@@ -1,5 +1,5 @@
 use Rattle.std.specs.Prelude.{◌-◌, ◌≤◌, ◌≡◌}
-use Rattle.lists.specs.Proving.{rules, length}
+use Rattle.lists.specs.Proving.{length}
 use Rattle.store.proofs.scan.forget.Given as goal
 
 abbrev pub invariant-loop-j : goal.invariant-loop-j

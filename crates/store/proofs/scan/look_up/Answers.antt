@@ -1,4 +1,3 @@
-use Rattle.lists.specs.Proving.{rules}
 use Rattle.store.specs.laws.ToldLaw.{tells_none}
 use Rattle.store.proofs.StoreLaw.{kept_same}
 use Rattle.store.proofs.scan.look_up.Goals as goal

@@ -1,5 +1,5 @@
 use Rattle.std.specs.Prelude.{◌-◌}
-use Rattle.lists.specs.Proving.{rules, arith}
+use Rattle.lists.specs.Proving.{arith}
 use lib.Bits.{and_le_r}
 use Rattle.store.proofs.scan.without_least.Goals as goal
 

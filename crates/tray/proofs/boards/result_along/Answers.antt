@@ -1,7 +1,6 @@
 -- `result_along`: what the walk finds, as a result.
-use Rattle.lists.specs.Proving.{rules, arith, Option}
+use Rattle.lists.specs.Proving.{arith}
 use Rattle.model.specs.Log.{failed_in}
-use Rattle.model.specs.Suite.{Place}
 use Rattle.block.specs.Logged.{observations}
 use Rattle.logs.specs.Walked.{moves_in}
 use Rattle.tray.proofs.TryLaw.{result-none, result-some, result_low}

@@ -1,6 +1,6 @@
 -- `try_accepted`: 13, 14 and 16, then the results.
 use Rattle.std.specs.Prelude.{◌≡◌}
-use Rattle.lists.specs.Proving.{rules, ◌∙◌, length, not-true, not-false}
+use Rattle.lists.specs.Proving.{◌∙◌, length}
 use Rattle.sheet.specs.Sheet.{Sheet}
 use Rattle.model.specs.Mutant.{slots}
 use Rattle.block.specs.Tabled.{Tabled}

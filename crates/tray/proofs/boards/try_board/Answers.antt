@@ -1,5 +1,5 @@
 -- `try_board`: the machine of the mutant along the suite's log.
-use Rattle.lists.specs.Proving.{rules, ◌∙◌, ap}
+use Rattle.lists.specs.Proving.{◌∙◌, ap}
 use Rattle.model.specs.Tray.{result_of}
 use Rattle.tray.proofs.TryLaw.{walked, walked_low}
 use Rattle.tray.proofs.boards.try_board.Goals as goal

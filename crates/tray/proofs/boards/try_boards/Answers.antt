@@ -1,11 +1,10 @@
 -- `try_boards`: the results of the first i stand at the front.
-use Rattle.std.specs.Prelude.{◌-◌, ◌≤◌, ◌≡◌}
-use Rattle.lists.specs.Proving.{rules, arith, ◌∙◌, length}
+use Rattle.std.specs.Prelude.{◌≡◌}
+use Rattle.lists.specs.Proving.{arith, ◌∙◌, length}
 use Rattle.sheet.specs.Sheet.{Sheet}
 use Rattle.model.specs.Mutant.{slots}
 use Rattle.search.specs.Search.{ForSheet}
-use Rattle.tray.specs.words.Trays.{TrayOf}
-use Rattle.tray.proofs.TryLaw.{TriedTo, tried-none, tried-end, tried-room, tried-mutant, tried-more, tried-all}
+use Rattle.tray.proofs.TryLaw.{tried-none, tried-end, tried-room, tried-mutant, tried-more, tried-all}
 use Rattle.tray.proofs.boards.try_boards.Goals as goal
 
 pub loop-i-init : goal.loop-i-init

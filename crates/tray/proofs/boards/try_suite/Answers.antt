@@ -1,5 +1,5 @@
 -- `try_suite`: the suite's log, in a short array or a long one, and the results by it.
-use Rattle.lists.specs.Proving.{rules, arith, sym, ℕ, List, take}
+use Rattle.lists.specs.Proving.{arith, sym, ℕ, List, take}
 use lib.Seq.{length-take-le}
 use Rattle.sheet.specs.Sheet.{Sheet}
 use Rattle.block.specs.Tabled.{ReadFrom}

@@ -1,10 +1,10 @@
 -- `first_high`: the boards before `at` have no choice that is too high.
-use Rattle.std.specs.Prelude.{◌-◌, ◌*◌, ◌≡◌}
-use Rattle.lists.specs.Proving.{rules, arith, ℕ, ◌∙◌, length}
+use Rattle.std.specs.Prelude.{◌≡◌}
+use Rattle.lists.specs.Proving.{arith, ◌∙◌, length}
 use Rattle.sheet.specs.Sheet.{Sheet}
 use Rattle.model.specs.Mutant.{slots}
 use Rattle.block.specs.Tabled.{Tabled}
-use Rattle.tray.proofs.HighLaw.{LowTo, low-none, low-all, turn_end, turn_more, turn-high, turn_below}
+use Rattle.tray.proofs.HighLaw.{low-none, low-all, turn_end, turn_more, turn-high, turn_below}
 use Rattle.tray.proofs.fitting.first_high.Goals as goal
 
 pub loop-at-init : goal.loop-at-init

@@ -1,10 +1,10 @@
 -- `first_high`: the boards before `at` have no choice that is too high.
 use Rattle.std.specs.Prelude.{◌-◌, ◌*◌, ◌≡◌}
-use Rattle.lists.specs.Proving.{rules, arith, ℕ, ◌∙◌, length}
+use Rattle.lists.specs.Proving.{ℕ, length}
 use Rattle.sheet.specs.Sheet.{Sheet}
 use Rattle.model.specs.Mutant.{slots}
 use Rattle.block.specs.Tabled.{Tabled}
-use Rattle.tray.proofs.HighLaw.{LowTo, low-none, low-all, turn_end, turn_more, turn-high, turn_below}
+use Rattle.tray.proofs.HighLaw.{LowTo}
 use Rattle.tray.proofs.fitting.first_high.Given as goal
 
 abbrev pub invariant-loop-at : goal.invariant-loop-at

@@ -1,5 +1,5 @@
 -- `is_tray`: an empty tray, or the quotient without a rest.
-use Rattle.lists.specs.Proving.{rules, sym}
+use Rattle.lists.specs.Proving.{sym}
 use Rattle.tray.proofs.BoardLaw.{empty-tray, no-tray, some-tray}
 use Rattle.tray.proofs.fitting.is_tray.Goals as goal
 
