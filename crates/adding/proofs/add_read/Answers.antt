@@ -20,11 +20,11 @@ pub returns-then-length-gt16384 : goal.returns-then-length-gt16384
 returns-then-length-gt16384 c = λ sh rd. adds-long rd _ _ c.if-tests-ge256.false (c.press_all-pressed.ensures sh rd.loads.tabled) (leads-on (pressing sh 0 0 c.args.presses.now) (c.press_all-pressed.ensures sh rd.loads.tabled) c.in_default.is) c.if-length-gt16384.true
 
 pub returns-then-buffer-length : goal.returns-then-buffer-length
-returns-then-buffer-length c = λ sh rd. adds-short rd _ _ c.if-tests-ge256.false (c.press_all-pressed.ensures sh rd.loads.tabled) (leads-on (pressing sh 0 0 c.args.presses.now) (c.press_all-pressed.ensures sh rd.loads.tabled) c.in_default.is) c.if-length-gt16384.false c.if-buffer-length.true
+returns-then-buffer-length c = λ sh rd. adds-short rd _ _ c.if-tests-ge256.false (c.press_all-pressed.ensures sh rd.loads.tabled) (leads-on (pressing sh 0 0 c.args.presses.now) (c.press_all-pressed.ensures sh rd.loads.tabled) c.in_default.is) (omega arith) c.if-buffer-length.true
 
 pub spell_longer-requires : goal.spell_longer-requires
 spell_longer-requires c = let rd = c.requires.1 in (some_bytes rd c.args.presses.now, omega (arith, c.if-buffer-length.false))
 
 pub returns : goal.returns
 returns c = λ sh rd.
-    adds-spelled rd _ _ c.if-tests-ge256.false (c.press_all-pressed.ensures sh rd.loads.tabled) (leads-on (pressing sh 0 0 c.args.presses.now) (c.press_all-pressed.ensures sh rd.loads.tabled) c.in_default.is) c.if-length-gt16384.false c.if-buffer-length.false c.spell_longer.ensures
+    adds-spelled rd _ _ c.if-tests-ge256.false (c.press_all-pressed.ensures sh rd.loads.tabled) (leads-on (pressing sh 0 0 c.args.presses.now) (c.press_all-pressed.ensures sh rd.loads.tabled) c.in_default.is) (omega arith) c.if-buffer-length.false c.spell_longer.ensures

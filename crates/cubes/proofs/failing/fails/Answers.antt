@@ -5,11 +5,8 @@ use Rattle.cubes.proofs.failing.fails.Goals as goal
 pub returns-then-from-log : goal.returns-then-from-log
 returns-then-from-log c = λ e. never cc
 
-pub returns-then-log-from-ne-PULSE : goal.returns-then-log-from-ne-PULSE
-returns-then-log-from-ne-PULSE c = λ e. never cc
-
 pub loop-at-init : goal.loop-at-init
-loop-at-init c = walk_start c.requires.wf (omega (arith, c.if-from-log.false)) c.if-log-from-ne-PULSE.false (c.starts-set.ensures c.requires)
+loop-at-init c = walk_start c.requires.wf (omega (arith, c.if-from-log.false)) (omega arith) (c.starts-set.ensures c.requires)
 
 pub returns-then-v-ge256 : goal.returns-then-v-ge256
 returns-then-v-ge256 c = λ e. never cc
