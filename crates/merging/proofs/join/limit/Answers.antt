@@ -10,7 +10,7 @@ returns-then-full c =
 pub returns-then-slots-gt32 : goal.returns-then-slots-gt32
 returns-then-slots-gt32 c =
     let a = c.args in
-    limit-slots a.faults a.tests a.slots a.long c.is_full-full.ensures c.if-full.false c.if-slots-gt32.true
+    limit-slots a.faults a.tests a.slots a.long c.is_full-full.ensures (cc) c.if-slots-gt32.true
 
 pub returns-then-long-gt16384 : goal.returns-then-long-gt16384
 returns-then-long-gt16384 c =
