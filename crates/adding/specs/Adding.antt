@@ -1,12 +1,13 @@
 -- 02's Point 8: a sheet with one test more, the last.
+use Rattle.std.specs.Prelude.{Result as Answer, Ok, Err}
 use Rattle.std.specs.Prelude.{ℕ, ◌+◌, ◌≤◌, ◌<◌, ◌≡◌, List, [], ◌∷◌, leb, ltb, length, take}
 use Rattle.lists.specs.Lists.{maybe, overlay}
 use Rattle.sheet.specs.Sheet.{Sheet, rule_at}
 use Rattle.sheet.specs.Reading.{Result, accepted, refused, reading}
 use Rattle.sheet.specs.Encode.{encode}
 use Rattle.sheet.specs.WellFormed.{TestIn}
-use Rattle.writing.specs.declared.Written.{Written}
-use Rattle.writing.specs.declared.Written.TheVariants as written
+use Rattle.sheet.specs.declared.Refusal.{Refusal}
+use Rattle.sheet.specs.Tables.{refusal_of}
 use Rattle.writing.specs.Writing.{written_answer, sheet_writes}
 use Rattle.model.specs.Longer.{with_test}
 use Rattle.model.specs.Operations.{reads, refuse_if}
@@ -41,27 +42,27 @@ unfoldable pub adding : List ℕ → List ℕ → ℕ → Result (List ℕ)
 adding s xs room = reads (reading s) (λ sh. add_on sh xs room)
 
 -- an answer, and what it leaves in the buffer
-pub record Adds (result : Result (List ℕ)) (r : Written) (old new : List ℕ) : Type 0 where
+pub record Adds (result : Result (List ℕ)) (r : Answer ℕ Refusal) (old new : List ℕ) : Type 0 where
   pub answer : r ≡ written_answer result
   pub bytes : new ≡ overlay (sheet_writes result) old
 
 -- ---- what it means
 -- refused so, and the buffer is as lent
-pub record RefusedBy (number place : ℕ) (r : Written) (old new : List ℕ) : Type 0 where
-  pub answer : r ≡ written.Refused number place
+pub record RefusedBy (number place : ℕ) (r : Answer ℕ Refusal) (old new : List ℕ) : Type 0 where
+  pub answer : r ≡ Err (refusal_of number place)
   pub untouched : new ≡ old
 
 -- refused at one of the presses
-pub record PressRefused (xs : List ℕ) (r : Written) (old new : List ℕ) : Type 0 where
+pub record PressRefused (xs : List ℕ) (r : Answer ℕ Refusal) (old new : List ℕ) : Type 0 where
   pub number : ℕ
   pub place : ℕ
   pub inside : place < length xs
   pub refuses : RefusedBy number place r old new
 
 -- 02's sentences in their order, of an accepted sheet, the answer, and the buffer as lent and after it
-pub record ToldAdded (sh : Sheet) (xs : List ℕ) (r : Written) (old new : List ℕ) : Type 0 where
+pub record ToldAdded (sh : Sheet) (xs : List ℕ) (r : Answer ℕ Refusal) (old new : List ℕ) : Type 0 where
   -- what is written is accepted: the same machine, the same tests, and that test last
-  pub longer : (n : ℕ) → r ≡ written.Done n → reading (take n new) ≡ accepted (with_test sh xs)
+  pub longer : (n : ℕ) → r ≡ Ok n → reading (take n new) ≡ accepted (with_test sh xs)
   -- a list already at 256 tests
   pub full : length sh.tests ≡ 256 → RefusedBy 8 0 r old new
   -- then presses that are no test: one of them is refused
@@ -73,4 +74,4 @@ pub record ToldAdded (sh : Sheet) (xs : List ℕ) (r : Written) (old new : List 
       RefusedBy 16 0 r old new
   -- and otherwise it is written
   pub fits : length sh.tests < 256 → TestIn sh.rules xs → length (encode (with_test sh xs)) ≤ 16384 → length (encode (with_test sh xs)) ≤ length old →
-      r ≡ written.Done (length (encode (with_test sh xs)))
+      r ≡ Ok (length (encode (with_test sh xs)))

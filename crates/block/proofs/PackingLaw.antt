@@ -1,7 +1,10 @@
 -- Filling the block, cell by cell.
-use Rattle.std.specs.Prelude.{◌+◌, ◌<◌, ◌≤◌, ◌≡◌, ◌⊎◌}
-use Rattle.lists.specs.Proving.{arith, ℕ, refl, sym, ◌∙◌, subst, inl, inr, List, length, set, length-set, get_or-set_same, get_or-set_other, below_more}
-use Rattle.block.specs.Packing.{Filled}
+use Rattle.std.specs.Prelude.{◌+◌, ◌-◌, ◌<◌, ◌≤◌, ◌≡◌, ◌⊎◌}
+use Rattle.lists.specs.Proving.{arith, ℕ, refl, sym, ◌∙◌, subst, inl, inr, List, length, get_or, set, length-set, get_or-set_same, get_or-set_other, below_more}
+use borrow.Rule.Slice.PartMut.{put_mid}
+use Rattle.std.proofs.Common.{rules}
+use Rattle.std.proofs.lemmas.List.{places}
+use Rattle.block.specs.Packing.{Filled, Copied}
 
 pub fill_none : {m : List ℕ} (base size : ℕ) (Right : ℕ → ℕ → Type 0) → length m ≡ 1620 → Filled m m base size 0 Right
 fill_none base size Right l = record { low = omega arith; long = l; same = λ k h. absurd (omega arith); others = λ j h. refl }
@@ -22,3 +25,17 @@ fill_more {old} {new} {base} {size} {n} {Right} v fits f l ok = record {
 
 pub fill-all : {old new : List ℕ} {base size n : ℕ} {Right : ℕ → ℕ → Type 0} → Filled old new base size n Right → size ≤ n → Filled old new base size size Right
 fill-all f l = record { low = omega arith; long = f.long; same = λ k h. f.same k (omega arith); others = f.others }
+
+-- a part of the cells, overwritten
+pub copied : {old put : List ℕ} (base : ℕ) (from : List ℕ) → length old ≡ 1620 → base + length from ≤ 1620 → put ≡ from → Copied old (put_mid base (base + length from - base) old put) base from (length from)
+copied {old} base from l fits e = rw e (record { low = omega arith; long = long; same = λ k h. same k h; others = others })
+  where
+    long : length (put_mid base (base + length from - base) old from) ≡ 1620
+    long = search (rules, places)
+
+    same : (k : ℕ) → k < length from → get_or (put_mid base (base + length from - base) old from) (base + k) 0 ≡ get_or from k 0
+    same k h = search (rules, places)
+
+    others : (j : ℕ) → (j < base) ⊎ (base + length from ≤ j) → get_or (put_mid base (base + length from - base) old from) j 0 ≡ get_or old j 0
+    others j (inl h) = search (rules, places)
+    others j (inr h) = search (rules, places)

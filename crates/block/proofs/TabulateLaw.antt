@@ -1,13 +1,15 @@
 -- The block, filled from the tables of a sheet.
 use Rattle.std.specs.Prelude.{◌+◌, ◌-◌, ◌/◌, ◌%◌, ◌<◌, ◌≤◌, ◌≡◌, ◌⊎◌, ◌++◌}
 use Rattle.lists.specs.Proving.{arith, ℕ, refl, sym, ◌∙◌, ap, Bool, true, false, cond, inl, inr, ⊎_elim, by_cases, some, none, List, length, get_or, set, drop, replicate, length-set, get_or-replicate, List·getD-eq-default, get_or-set_same, get_or-set_other, ltb, dec_lt}
-use lib.ListN.{get_or-append}
+use lib.ListN.{get_or-append, length-map}
 use lib.Seq.{get_or-append-add, get_or-drop}
-use Rattle.lists.specs.Lists.{maybe}
+use Rattle.lists.specs.Lists.{maybe, up_to}
+use Rattle.lists.specs.laws.ListLaw.{length-up_to}
 use Rattle.sheet.specs.declared.Summary.{Summary}
 use Rattle.sheet.specs.Sheet.{Sheet, choices_at, waking_choices, waking_slots}
 use Rattle.sheet.specs.Reading.{summary_of}
-use Rattle.sheet.specs.Tables.{Tables, tables_of, by_pair, first_fault}
+use Rattle.sheet.specs.declared.Tables.{Tables}
+use Rattle.sheet.specs.Tables.{tables_of, table, by_pair, first_fault}
 use Rattle.sheet.specs.laws.TablesLaw.{table_at}
 use Rattle.sheet.specs.laws.WakingLaw.{wakings-at}
 use Rattle.model.specs.Mutant.{slots, start_slot}
@@ -32,6 +34,9 @@ slots_at s i l h =
     ∙ ap (λ (j : ℕ). get_or (replicate 32 1) j 0) (sym e)
     ∙ get_or-replicate {A = ℕ} 32 i 1 0 h
     ∙ sym (List·getD-eq-default s 1 (omega arith)))
+
+table-long : (f : ℕ → ℕ) → length (table f) ≡ 256
+table-long f = length-map (up_to 256) f ∙ length-up_to 256
 
 -- what the reading layer hands over
 module _ {sh : Sheet} {size : Summary} {tables : Tables} (rd : Read sh size tables) (n k : ℕ) (en : n ≡ size.states) (ek : k ≡ size.inputs) where
@@ -60,11 +65,31 @@ module _ {sh : Sheet} {size : Summary} {tables : Tables} (rd : Read sh size tabl
   few = rw (en ∙ states-are, ek ∙ inputs_are, first-are) (rd.formed.size.states.few, few-slots sh rd.formed tables.choices choices-are)
 
   -- all of it, in the order of the code
-  module _ {m₀ m₁ m₂ m₃ m₄ m₅ m₆ m₇ m₈ m₉ : List ℕ} (r : Sites) (lo : length tables.output ≡ 256) (lt : length tables.target ≡ 256) (lm : length tables.mutated ≡ 256) (ld : length tables.diverted ≡ 256) (ls : length r.site ≡ 256) (lw : length tables.wakings ≡ 16)
+  module _ {m₀ m₁ m₂ m₃ m₄ m₅ m₆ m₇ m₈ m₉ : List ℕ} (r : Sites) (ls : length r.site ≡ 256)
       (num : Numbered (waking_first tables.waking) n k tables.choices r) (site : ℕ) (waked : site ≡ cond (ltb 1 tables.waking) 0 255)
       (a : Copied m₀ m₁ 0 tables.output (length tables.output)) (b : Copied m₁ m₂ 256 tables.target (length tables.target)) (c : FirstCopied m₂ m₃ tables.first 256)
       (d : Copied m₃ m₄ 768 tables.mutated (length tables.mutated)) (e : Copied m₄ m₅ 1024 tables.diverted (length tables.diverted)) (f : ChoicesCopied m₅ m₆ r.slots 32)
       (g : Copied m₆ m₇ 1315 r.site (length r.site)) (h : Copied m₇ m₈ 1572 tables.wakings (length tables.wakings)) (i : Copied m₈ m₉ 1588 r.pairs (length r.pairs)) where
+    lo : length tables.output ≡ 256
+    unfolding tables_of
+    lo = rw rd.tabled (table-long _)
+
+    lt : length tables.target ≡ 256
+    unfolding tables_of
+    lt = rw rd.tabled (table-long _)
+
+    lm : length tables.mutated ≡ 256
+    unfolding tables_of
+    lm = rw rd.tabled (table-long _)
+
+    ld : length tables.diverted ≡ 256
+    unfolding tables_of
+    ld = rw rd.tabled (table-long _)
+
+    lw : length tables.wakings ≡ 16
+    unfolding tables_of
+    lw = rw rd.tabled (length-map (up_to 16) _ ∙ length-up_to 16)
+
     abbrev sized : List ℕ
     sized = set (set (set m₉ 1312 size.states) 1313 size.inputs) 1314 r.count
 

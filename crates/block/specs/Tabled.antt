@@ -4,10 +4,12 @@ use Rattle.sheet.specs.declared.Summary.{Summary}
 use Rattle.lists.specs.Lists.{maybe}
 use Rattle.sheet.specs.Sheet.{Sheet, rule_at, wakings}
 use Rattle.sheet.specs.Encode.{encode}
-use Rattle.sheet.specs.Reading.{summary_of}
-use Rattle.sheet.specs.Tables.{Tables, tables_of, first_fault as first_row, no_row}
+use Rattle.sheet.specs.Reading.{accepted, reading, summary_of}
+use Rattle.sheet.specs.declared.Tables.{Tables}
+use Rattle.sheet.specs.Tables.{tables_of, first_fault as first_row, no_row}
 use Rattle.sheet.specs.WellFormed.{WellFormed}
 use Rattle.model.specs.Mutant.{slots, site_of, start_slot}
+use Rattle.block.specs.declared.packing.Loaded.{Loaded}
 use Rattle.block.specs.Layout.{waking, rule_output, rule_target, site_at, first_fault, mutated, diverted, choices_of, states_of, inputs_of, slots_of, wake_at}
 
 pub record Read (sh : Sheet) (size : Summary) (tables : Tables) : Type 0 where
@@ -44,3 +46,15 @@ pub record ReadFrom (sh : Sheet) (s starts lengths : List ℕ) (tests : ℕ) (m 
   pub bytes : encode sh ≡ s
   pub many : tests ≡ length sh.tests
   pub short : length s ≤ 16384
+
+-- the same, of what loading gives
+abbrev pub LoadedFrom : Sheet → Loaded → Type 0
+LoadedFrom sh l = ReadFrom sh l.sheet.now l.starts l.lengths l.size.tests l.block
+
+-- the bytes are an accepted sheet, and this is what loading gives of it
+pub record Opened (s : List ℕ) (l : Loaded) : Type 0 where
+  pub sheet : Sheet
+  pub is : reading s ≡ accepted sheet
+  pub bytes : l.sheet.now ≡ s
+  pub size : l.size ≡ summary_of sheet
+  pub holds : LoadedFrom sheet l

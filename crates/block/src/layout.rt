@@ -4,6 +4,7 @@ ghost use Rattle.block.specs.Layout.{pair, waking, rule_output, rule_target, sit
 ghost use Rattle.block.specs.Tabulated.{Wf, StepIs, choices_at, chosen, start_of};
 
 // How many bytes the block has, and where its tables stand in it (specs/Layout.antt).
+// stays: one array of bytes, since `Tabled` and the theorems on it (specs/laws/TabledLaw.antt) speak of those bytes.
 pub const BLOCK: usize = 1620;
 
 pub type Block = [u8; BLOCK];
@@ -69,14 +70,14 @@ pub fn place(s: u8, x: u8) -> usize
     requires { (s < 16) × (x < 16) }
     ensures { (result ≡ pair s x) × (result < 256) }
 {
-    (s as usize) * 16 + (x as usize)
+    usize::from(s) * 16 + usize::from(x)
 }
 
 // The same, whatever the numbers are.
 pub fn some_place(s: u8, x: u8) -> usize
     ensures { (result ≡ pair (s % 16) (x % 16)) × (result < 256) }
 {
-    ((s % 16) as usize) * 16 + ((x % 16) as usize)
+    place(s % 16, x % 16)
 }
 
 pub fn rule_output(block: &Block, k: usize) -> u8
@@ -102,18 +103,12 @@ pub fn site(block: &Block, k: usize) -> u8
     block[SITES + k]
 }
 
-fn more(x: u8) -> u16
-    ensures { result ≡ x + 1 }
-{
-    (x as u16) + 1
-}
-
 // How many choices a suspect has.
 pub fn choices(block: &Block, i: u8) -> u16
     requires { i < 32 }
     ensures { result ≡ choices_of block.now i }
 {
-    more(block[CHOICES + wide(i)])
+    u16::from(block[CHOICES + usize::from(i)]) + 1
 }
 
 pub fn states(block: &Block) -> u8
@@ -143,7 +138,7 @@ pub fn pair_of(block: &Block, i: u8) -> usize
     if i == site(block, WAKING) {
         return WAKING;
     }
-    wide(block[PAIRS + wide(i)])
+    usize::from(block[PAIRS + usize::from(i)])
 }
 
 #[derive(Clone, Copy)]
@@ -168,7 +163,7 @@ fn unruled(states: u8, c: u16) -> Step
     if c >= 256 {
         return IDLE;
     }
-    let n = states as u16;
+    let n = u16::from(states);
     Step {
         output: (c / n) as u8,
         target: (c % n) as u8,
@@ -205,7 +200,7 @@ fn wake(block: &Block, c: u16) -> Step
     if c >= 16 {
         return IDLE;
     }
-    let target = block[WAKES + wide16(c)];
+    let target = block[WAKES + usize::from(c)];
     Step { output: 0, target }
 }
 
@@ -225,7 +220,7 @@ pub fn transition(block: &Block, k: usize, c: u16) -> Step
         let output = rule_output(block, k);
         return Step { output, target };
     }
-    let f = wide(block[FIRST_FAULTS + k]) + wide16(c) - 1;
+    let f = usize::from(block[FIRST_FAULTS + k]) + usize::from(c) - 1;
     if f >= 256 {
         return IDLE;
     }
@@ -244,7 +239,7 @@ pub fn choice_at(block: &Block, p: &[u16; 32], k: usize) -> u16
     if i == 255 {
         return 0;
     }
-    p[wide(i)]
+    p[usize::from(i)]
 }
 
 // The state of the mutant with the choices p after a reset.

@@ -15,4 +15,4 @@ pub use layout::{
     wide32,
 };
 pub use logged::{Observed, PULSE, SEEN, observe};
-pub use packing::{fresh, load};
+pub use packing::{Loaded, load};

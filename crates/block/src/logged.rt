@@ -18,7 +18,7 @@ pub struct Observed {
 fn seen_code(x: u8, o: u8) -> u16
     ensures { result ≡ x % 16 * 16 + o % 16 }
 {
-    ((x % 16) as u16) * 16 + ((o % 16) as u16)
+    u16::from(x % 16) * 16 + u16::from(o % 16)
 }
 
 // A SEEN command; its operands are passed over where neither can be a command.

@@ -1,64 +1,39 @@
 // Filling the block.
-ghost use Rattle.std.specs.Prelude.{◌≡◌, ℕ, ◌+◌, ◌<◌, ◌≤◌, cond, List, ltb, length};
+ghost use Rattle.std.specs.Prelude.{◌≡◌, ◌+◌, ◌<◌, ◌≤◌, cond, ltb, length, IfOk, IfErr};
 ghost use Rattle.sheet.specs.Sheet.{Sheet};
-ghost use Rattle.sheet.specs.Reading.{reading, accepted};
-ghost use Rattle.sheet.specs.Tables.{read_answer, tables_in};
+ghost use Rattle.sheet.specs.Reading.{reading, refused};
 ghost use Rattle.block.specs.Packing.{Copied, FirstCopied, ChoicesCopied};
-ghost use Rattle.block.specs.Tabled.{Read, Tabled, Loads};
+ghost use Rattle.block.specs.Tabled.{Read, Tabled, Opened};
 
 use crate::layout::*;
 use crate::sites::number;
-use sheet::{Loaded, Reading, Summary};
-
-// The low byte, where the number is one.
-fn narrow(x: u16) -> u8
-    ensures { x < 256 → result ≡ x }
-{
-    if x < 256 {
-        return x as u8;
-    }
-    0
-}
-
-// The last of a number of choices.
-fn last(x: u16) -> u8
-    ensures { 1 ≤ x → x ≤ 256 → result + 1 ≡ x }
-{
-    if x == 0 {
-        return 0;
-    }
-    narrow(x - 1)
-}
+use sheet::{Refusal, Summary, Tables};
 
 // Copies bytes into the block from a place on.
 fn copy(block: &mut Block, base: usize, from: &[u8])
     requires { (length block.old ≡ 1620) × (base + length from.now ≤ 1620) }
     ensures { Copied block.old block.new base from.now (length from.now) }
 {
-    let end = from.len();
-    for k in 0..end {
-        let x = from[k];
-        block[base + k] = x;
-    }
+    block[base..base + from.len()].copy_from_slice(from);
 }
 
+// The index of each pair's first fault, as a byte.
 fn copy_first(block: &mut Block, first: &[u16; 256])
     requires { length block.old ≡ 1620 }
     ensures { FirstCopied block.old block.new first.now 256 }
 {
     for k in 0..256 {
-        let x = narrow(first[k]);
-        block[FIRST_FAULTS + k] = x;
+        block[FIRST_FAULTS + k] = (first[k] % 256) as u8;
     }
 }
 
+// The last choice of each slot.
 fn copy_choices(block: &mut Block, choices: &[u16; 32])
     requires { length block.old ≡ 1620 }
     ensures { ChoicesCopied block.old block.new choices.now 32 }
 {
     for i in 0..32 {
-        let x = last(choices[i]);
-        block[CHOICES + i] = x;
+        block[CHOICES + i] = (choices[i].saturating_sub(1) % 256) as u8;
     }
 }
 
@@ -66,89 +41,60 @@ fn copy_choices(block: &mut Block, choices: &[u16; 32])
 fn waking_site(waking: u8) -> u8
     ensures { result ≡ cond (ltb 1 waking) 0 255 }
 {
-    if waking <= 1 {
-        return 255;
-    }
-    0
+    if waking > 1 { 0 } else { 255 }
 }
 
-// A block to be filled.
-pub fn fresh() -> Block
-    ensures { length result ≡ 1620 }
+// The block of an accepted sheet's tables.
+fn tabulate(size: Summary, tables: &Tables) -> Block
+    requires { (sh : Sheet) × Read sh size tables.now }
+    ensures { (sh : Sheet) → Read sh size tables.now → Tabled sh result }
 {
-    [0u8; BLOCK]
-}
-
-// Puts the tables of an accepted sheet into the block.
-fn tabulate<'a>(
-    size: Summary,
-    loaded: Loaded,
-    output: &'a [u8; 256],
-    target: &'a [u8; 256],
-    choices: &'a [u16; 256],
-    first: &'a [u16; 256],
-    mutated: &'a [u8; 256],
-    diverted: &'a [u8; 256],
-    block: &mut Block,
-)
-    requires block_len { length block.old ≡ 1620 }
-    requires by_index { (sh : Sheet) × (starts : List ℕ) × (lengths : List ℕ) × Read sh size (tables_in loaded output.now target.now choices.now first.now mutated.now diverted.now starts lengths) }
-    ensures block_len_2 { length block.new ≡ 1620 }
-    ensures tabled { (sh : Sheet) (starts lengths : List ℕ)
-        → Read sh size (tables_in loaded output.now target.now choices.now first.now mutated.now diverted.now starts lengths)
-        → Tabled sh block.new }
-{
-    let sites = number(choices, wide(size.states), wide(size.inputs), loaded.waking);
-    copy(block, 0, output);
-    copy(block, TARGETS, target);
-    copy_first(block, first);
-    copy(block, MUTATED, mutated);
-    copy(block, DIVERTED, diverted);
-    copy_choices(block, &sites.slots);
-    copy(block, SITES, &sites.site);
-    copy(block, WAKES, &loaded.wakings);
-    copy(block, PAIRS, &sites.pairs);
+    let mut block = [0u8; BLOCK];
+    let sites = number(
+        &tables.choices,
+        size.states.into(),
+        size.inputs.into(),
+        tables.waking,
+    );
+    copy(&mut block, 0, &tables.output);
+    copy(&mut block, TARGETS, &tables.target);
+    copy_first(&mut block, &tables.first);
+    copy(&mut block, MUTATED, &tables.mutated);
+    copy(&mut block, DIVERTED, &tables.diverted);
+    copy_choices(&mut block, &sites.slots);
+    copy(&mut block, SITES, &sites.site);
+    copy(&mut block, WAKES, &tables.wakings);
+    copy(&mut block, PAIRS, &sites.pairs);
     block[STATES] = size.states;
     block[INPUTS] = size.inputs;
     block[SLOTS] = sites.count;
-    block[SITES + WAKING] = waking_site(loaded.waking);
+    block[SITES + WAKING] = waking_site(tables.waking);
+    block
 }
 
-// Reads a sheet. The tables of an accepted one are then in the block; and by test, where its PRESS commands start, and how many they are.
-pub fn load(
-    sheet: &[u8],
-    block: &mut Block,
-    starts: &mut [u16; 256],
-    lengths: &mut [u16; 256],
-) -> Reading
-    requires { length block.old ≡ 1620 }
-    ensures value { result ≡ read_answer (reading sheet.now) }
-    ensures block_len { length block.new ≡ 1620 }
-    ensures loads { (sh : Sheet) → reading sheet.now ≡ accepted sh → Loads sh block.new starts.new lengths.new }
+// An accepted sheet as it is loaded: its bytes, its tables in a block, where the PRESS commands of each test start and how many they
+// are, and what reading told of it.
+#[derive(Clone, Copy)]
+pub struct Loaded<'a> {
+    pub sheet: &'a [u8],
+    pub block: Block,
+    pub starts: [u16; 256],
+    pub lengths: [u16; 256],
+    pub size: Summary,
+}
+
+// Reads and loads a sheet.
+pub fn load(sheet: &[u8]) -> Result<Loaded<'_>, Refusal>
+    ensures opened { IfOk result (λ loaded. Opened sheet.now loaded) }
+    ensures refused { IfErr result (λ why. reading sheet.now ≡ refused why.number why.place) }
 {
-    let mut output = [0u8; 256];
-    let mut target = [0u8; 256];
-    let mut choices = [0u16; 256];
-    let mut first = [0u16; 256];
-    let mut mutated = [0u8; 256];
-    let mut diverted = [0u8; 256];
-    let loaded = reading::load(
+    let mut tables = Tables::blank();
+    let size = reading::load(sheet, &mut tables)?;
+    Ok(Loaded {
         sheet,
-        &mut output,
-        &mut target,
-        &mut choices,
-        &mut first,
-        &mut mutated,
-        &mut diverted,
-        starts,
-        lengths,
-    );
-    let reading = loaded.reading;
-    let Reading::Accepted(size) = reading else {
-        return reading;
-    };
-    tabulate(
-        size, loaded, &output, &target, &choices, &first, &mutated, &diverted, block,
-    );
-    reading
+        block: tabulate(size, &tables),
+        starts: tables.starts,
+        lengths: tables.lengths,
+        size,
+    })
 }

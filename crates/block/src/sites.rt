@@ -18,22 +18,7 @@ fn is_open(choices: &[u16; 256], k: usize, i: usize) -> bool
     requires { i < 256 }
     ensures { (n : ℕ) → i / 16 < n → result ≡ open_at n k choices.now i }
 {
-    if i % 16 >= k {
-        return false;
-    }
-    1 < choices[i]
-}
-
-fn no_sites() -> [u8; 256]
-    ensures { result ≡ replicate 256 255 }
-{
-    [255u8; 256]
-}
-
-fn no_slots() -> [u16; 32]
-    ensures { result ≡ replicate 32 1 }
-{
-    [1u16; 32]
+    i % 16 < k && 1 < choices[i]
 }
 
 // By slot how many choices it has, and how many slots there are.
@@ -47,7 +32,7 @@ struct Slots {
 fn waking_slot(waking: u8) -> Slots
     ensures { (result.sizes ≡ overlay (waking_first waking) (replicate 32 1)) × (result.count ≡ length (waking_first waking)) }
 {
-    let mut sizes = no_slots();
+    let mut sizes = [1u16; 32];
     if waking <= 1 {
         return Slots { sizes, count: 0 };
     }
@@ -61,19 +46,17 @@ pub(crate) fn number(choices: &[u16; 256], n: usize, k: usize, waking: u8) -> Si
     ensures { Numbered (waking_first waking) n k choices.now result }
 {
     let first = waking_slot(waking);
-    let mut site = no_sites();
+    let mut site = [255u8; 256];
     let mut slots = first.sizes;
     let mut pairs = [0u8; 32];
     let mut count = first.count;
-    let mut i: usize = 0;
-    while i < 16 * n {
+    for i in 0..16 * n {
         if is_open(choices, k, i) {
             site[i] = count as u8;
             slots[count] = choices[i];
             pairs[count] = i as u8;
             count += 1;
         }
-        i += 1;
     }
     Sites {
         site,

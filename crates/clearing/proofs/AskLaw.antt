@@ -17,6 +17,7 @@ use Rattle.cubes.specs.Sets.{Has, Joined}
 use Rattle.cubes.specs.Cube.{Means, MeansStep, In}
 use Rattle.cubes.specs.laws.LiteralLaw.{any-means}
 use Rattle.cubes.specs.laws.SetLaw.{nothing, one_same}
+use Rattle.clearing.specs.declared.order.Clearing.{Clearing}
 use Rattle.clearing.specs.Sweep.{Top, Full}
 use Rattle.clearing.specs.Asking.{SpeaksTo, Speaks, Passed, CubeRefutes}
 use Rattle.clearing.specs.laws.SlotLaw.{has-below, top_one}
@@ -63,6 +64,9 @@ passing-more {m} {l} {k} {j} {c} {d} pa es lj h =
           (λ n. pa.means e g (omega arith) lc);
     }
 
+pub passing-less : {m : List ℕ} {l k j c d e : ℕ} → PassingTo m l k j c d → c < e → e ≤ d → PassingTo m l k j c e
+passing-less pa lo le = record { more = lo; means = λ x g h. pa.means x g (omega arith) }
+
 pub passing-all : {m : List ℕ} {l k j c d : ℕ} → Wf m → k < 257 → j < 32 → site_at m k ≡ j → PassingTo m l k j c d → Passed m l j c d
 passing-all {m} {l} {k} {j} wf lk lj es pa =
     record {
@@ -88,7 +92,7 @@ module _ {m cube p : List ℕ} {by : ℕ} (wf : Wf m) (full : Full m p) (sp : Sp
           (λ e. subst (λ (c : ℕ). Means (get_or cube i 0) (choice_of m k c)) (chosen-some m p k ne ∙ sym e ∙ sym (chosen-some m b k ne)) (inp.at k lk ne))
           (λ d. subst (λ (c : ℕ). Means (get_or cube i 0) (choice_of m k c)) (sym (chosen-some m b k ne)) (other k i lk refl li (sp.at i li n) d)))
 
-  pub refutes-none : {next : ℕ} → by ≡ 0 → CubeRefutes m cube p by next
+  pub refutes-none : {next : ℕ} → by ≡ 0 → CubeRefutes m cube p (record { by = by; next = next })
   refutes-none e =
       let none : (j : ℕ) → Has by j → ⊥ = λ j h. nothing j (subst (λ (n : ℕ). Has n j) e h) in
       record {
@@ -100,7 +104,7 @@ module _ {m cube p : List ℕ} {by : ℕ} (wf : Wf m) (full : Full m p) (sp : Sp
             };
       }
 
-  pub refutes-some : {j k h next : ℕ} → Top by j → k ≡ j → h ≡ j → Passed m (get_or cube k 0) j (get_or p h 0) next → CubeRefutes m cube p by next
+  pub refutes-some : {j k h next : ℕ} → Top by j → k ≡ j → h ≡ j → Passed m (get_or cube k 0) j (get_or p h 0) next → CubeRefutes m cube p (record { by = by; next = next })
   refutes-some {j} {k} {h} {next} top ek eh pa =
       record {
         at = λ sh log f ns inp.

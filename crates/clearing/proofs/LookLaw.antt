@@ -1,4 +1,5 @@
 -- A mutant with all its choices, along the log and held against the specification.
+use Rattle.std.specs.Prelude.{Option as Maybe, Some, None}
 use mathlib.Core.Path.{◌≡◌, refl, sym, ap, ◌∙◌}
 use mathlib.Core.Option.{Option, none, some}
 use mathlib.Core.List.{List}
@@ -19,22 +20,28 @@ use Rattle.block.specs.Tabulated.{Wf, choices_at, chosen, step_of, start_of}
 use Rattle.block.specs.Logged.{observations}
 use Rattle.block.specs.laws.TabledLaw.{well-formed}
 use Rattle.logs.specs.declared.walk.Wrong.{Wrong}
-use Rattle.logs.specs.declared.walk.Wrong.TheVariants as wrong
 use Rattle.logs.specs.Walked.{moves_in, wrong_of}
 use Rattle.logs.specs.laws.WalkedLaw.{walked-failed}
-use Rattle.machine.specs.declared.product.Difference.{Difference}
-use Rattle.machine.specs.declared.product.Difference.TheVariants as difference
-use Rattle.machine.specs.Differences.{difference_of}
+use Rattle.machine.specs.Differences.{Difference, difference_of}
 use Rattle.machine.specs.Laid.{Chosen, Settles, Moves}
 use Rattle.machine.specs.Product.{tables, Valid}
 use Rattle.machine.specs.laws.LaidLaw.{settled-chosen, settled-start, settled-moves, tables-against, tables-valid}
 use Rattle.search.specs.Search.{ForSheet, mutant_in}
 use Rattle.search.specs.laws.TabulatesLaw.{tabulates}
 use Rattle.clearing.specs.Sweep.{Cleared, Full}
-use Rattle.clearing.specs.Looking.{Found}
+use Rattle.cubes.specs.declared.goal.Goal.TheVariants.{Nonconforming}
+use Rattle.walks.specs.Walks.{ToldOk}
+use Rattle.clearing.specs.Looking.{Found, BySome}
+use mathlib.Core.Logic.{inl, inr}
+use Rattle.std.specs.Option.{unwrap_or}
 use Rattle.clearing.specs.laws.SurvivorLaw.{full-mutant}
 
-right : (o : Option Place) → wrong_of o ≡ wrong.Nothing → o ≡ none
+-- the suspects that were told, or all slots
+pub or-all : {m log p : List ℕ} (told : Maybe ℕ) {r : ℕ} → r ≡ unwrap_or told 4294967295 → ToldOk Nonconforming m log p told → BySome m log p r
+or-all None e h = inr e
+or-all (Some used) e h = inl (rw e h)
+
+right : (o : Option Place) → wrong_of o ≡ None → o ≡ none
 right none e = refl
 right (some f) e = never (cc)
 
@@ -67,13 +74,13 @@ module _ {sh : Sheet} {m log p : List ℕ} (f : ForSheet sh m log) (full : Full 
     unfolding compare_of
     compared = ap compare_pair (tables-against f.tabled (mutant_in sh p) moved start starts)
 
-    module _ {r : Wrong} (er : r ≡ wrong_of (failed_in (moves_in outputs targets) start start 0 0 (observations log))) where
+    module _ {r : Maybe Wrong} (er : r ≡ wrong_of (failed_in (moves_in outputs targets) start start 0 0 (observations log))) where
       -- a wrong output
-      pub fails : {t i : ℕ} → r ≡ wrong.At t i → Cleared sh (mutant_in sh p)
+      pub fails : {w : Wrong} → r ≡ Some w → Cleared sh (mutant_in sh p)
       fails e = λ passes. let z = er ∙ ap wrong_of (walked ∙ passes) in never (cc)
 
       -- no wrong output
-      passes : r ≡ wrong.Nothing → Passes sh (mutant_in sh p)
+      passes : r ≡ None → Passes sh (mutant_in sh p)
       passes e = sym walked ∙ right _ (sym er ∙ e)
 
     module _ {d : Difference} (ed : d ≡ difference_of (compare_pair (tables m start outputs targets))) where
@@ -81,7 +88,7 @@ module _ {sh : Sheet} {m log p : List ℕ} (f : ForSheet sh m log) (full : Full 
       same = ed ∙ ap difference_of compared
 
       -- and no other output than specified
-      pub conforms : d ≡ difference.Nothing → Cleared sh (mutant_in sh p)
+      pub conforms : d ≡ None → Cleared sh (mutant_in sh p)
       conforms e = λ passes. go (compare_of sh (mutant_in sh p)) same
         where
           go : (o : Option (List ℕ)) → d ≡ difference_of o → o ≡ none
@@ -89,7 +96,7 @@ module _ {sh : Sheet} {m log p : List ℕ} (f : ForSheet sh m log) (full : Full 
           go (some xs) h = never (cc)
 
       -- or a sequence that shows one
-      pub shown : {r : Wrong} → r ≡ wrong_of (failed_in (moves_in outputs targets) start start 0 0 (observations log)) → r ≡ wrong.Nothing → {k : ℕ} → d ≡ difference.Shown k →
+      pub shown : {r : Maybe Wrong} → r ≡ wrong_of (failed_in (moves_in outputs targets) start start 0 0 (observations log)) → r ≡ None → {k : ℕ} → d ≡ Some k →
           (old : List ℕ) {buffer : List ℕ} → buffer ≡ overlay (found (compare_pair (tables m start outputs targets))) old → Found sh (mutant_in sh p) k buffer
       shown er e {k} ek old {buffer} eb = go (compare_of sh (mutant_in sh p)) refl same
         where

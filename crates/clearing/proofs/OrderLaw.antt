@@ -1,14 +1,16 @@
 -- From one mutant to a later one.
-use mathlib.Core.Path.{◌≡◌, refl, ◌∙◌, subst}
+use mathlib.Core.Path.{◌≡◌, refl, sym, ap, ◌∙◌, subst}
 use mathlib.Core.Logic.{⊎_elim, by_cases}
-use mathlib.Core.List.{List}
-use Prim.Native.Nat.{ℕ, ◌+◌, ◌%◌, ◌<◌, ◌≤◌, ◌^◌}
+use mathlib.Core.List.{List, ◌++◌}
+use borrow.Rule.Slice.PartMut.{put_mid, mid_of, post_of, same_len_mid}
+use Rattle.std.proofs.lemmas.List.{get_or_append_left, get_or-append_right, get_or-replicate}
+use Prim.Native.Nat.{ℕ, ◌+◌, ◌-◌, ◌%◌, ◌<◌, ◌≤◌, ◌^◌}
 use native.Mathlib.Nat.{mod-lt}
 use native.Mathlib.Omega.{arith}
 use native.Mathlib.Decide.{ℕ_discrete, dec_lt}
 use lib.Pow.{pow_pos}
-use lib.ListN.{length, get_or, set, length-set}
-use lib.Seq.{get_or-set_same, get_or-set_other}
+use lib.ListN.{length, get_or, set, take, drop, replicate, length-set, length-replicate, length-drop}
+use lib.Seq.{get_or-set_same, get_or-set_other, get_or-take, length-take-le}
 use Rattle.sheet.specs.Sheet.{Sheet}
 use Rattle.model.specs.Mutant.{IsMutant}
 use Rattle.block.specs.Layout.{choices_of}
@@ -20,39 +22,33 @@ use Rattle.clearing.specs.laws.SlotLaw.{has-below, below-has, before-has}
 use Rattle.clearing.specs.Sweep.{Cleared, Shares, Top, Swept, Refutes, Reset, Later}
 
 -- ---- one number set, and those after it to 0
--- those before n are
-pub record ResetTo (old new : List ℕ) (j v n : ℕ) : Type 0 where
-  pub long : length new ≡ 32
-  pub after : j < n
-  pub same : (i : ℕ) → i < j → get_or new i 0 ≡ get_or old i 0
-  pub here : get_or new j 0 ≡ v
-  pub rest : (i : ℕ) → j < i → i < n → get_or new i 0 ≡ 0
+pub reset-filled : (old ys : List ℕ) {j v : ℕ} → length old ≡ 32 → j < 32 → ys ≡ replicate (length (mid_of (j + 1) (32 - (j + 1)) (set old j v))) 0 →
+    Reset old (put_mid (j + 1) (32 - (j + 1)) (set old j v) ys) j v
+reset-filled old ys {j} {v} long low e =
+    record {
+      long = same_len_mid (j + 1) (32 - (j + 1)) (set old j v) ys (ly ∙ sym lm) ∙ lx;
+      same = λ i l. front i (omega arith) ∙ get_or-set_other old j i v 0 (λ e. omega arith);
+      here = front j (omega arith) ∙ get_or-set_same old j v 0 (omega arith);
+      rest = λ i h l. get_or-append_right (take (j + 1) (set old j v)) (ys ++ post_of (j + 1) (32 - (j + 1)) (set old j v)) (j + 1) i 0 lf (omega arith)
+          ∙ get_or_append_left ys (post_of (j + 1) (32 - (j + 1)) (set old j v)) 0 (i - (j + 1)) (omega (arith, ly))
+          ∙ ap (λ (z : List ℕ). get_or z (i - (j + 1)) 0) e
+          ∙ get_or-replicate (length (mid_of (j + 1) (32 - (j + 1)) (set old j v))) (i - (j + 1)) 0 0 (omega (arith, lm));
+    }
+  where
+    lx : length (set old j v) ≡ 32
+    lx = length-set old j v ∙ long
 
-pub reset-none : (old : List ℕ) {j v k n : ℕ} → length old ≡ 32 → j < 32 → k ≡ j → n ≡ j + 1 → ResetTo (set old k v) (set old k v) j v n
-reset-none old {j} {v} {k} {n} long low ek en = record {
-  long = length-set old k v ∙ long;
-  after = omega arith;
-  same = λ i l. refl;
-  here = rw ek (get_or-set_same old j v 0 (omega arith));
-  rest = λ i l h. absurd (omega arith);
-}
+    lf : length (take (j + 1) (set old j v)) ≡ j + 1
+    lf = length-take-le (j + 1) (set old j v) (omega (arith, lx))
 
-pub reset-more : {old new : List ℕ} {j v n : ℕ} → ResetTo old new j v n → n < 32 → ResetTo old (set new n 0) j v (n + 1)
-reset-more {old} {new} {j} {v} {n} r l = record {
-  long = length-set new n 0 ∙ r.long;
-  after = omega (arith, r.after);
-  same = λ i h. get_or-set_other new n i 0 0 (λ e. omega (arith, r.after)) ∙ r.same i h;
-  here = get_or-set_other new n j 0 0 (λ e. omega (arith, r.after)) ∙ r.here;
-  rest = λ i h k. by_cases (ℕ_discrete i n) (λ e. rw e (get_or-set_same new n 0 0 (omega (arith, r.long)))) (λ d. get_or-set_other new n i 0 0 d ∙ r.rest i h (omega arith));
-}
+    lm : length (mid_of (j + 1) (32 - (j + 1)) (set old j v)) ≡ 32 - (j + 1)
+    lm = length-take-le (32 - (j + 1)) (drop (j + 1) (set old j v)) (omega (arith, length-drop (j + 1) (set old j v), lx))
 
-pub reset-all : (old : List ℕ) {new : List ℕ} {j v k n : ℕ} → ResetTo (set old k v) new j v n → k ≡ j → 32 ≤ n → Reset old new j v
-reset-all old {new} {j} {v} {k} r ek l = record {
-  long = r.long;
-  same = λ i h. r.same i h ∙ get_or-set_other old k i v 0 (λ e. omega arith);
-  here = r.here;
-  rest = λ i h g. r.rest i h (omega arith);
-}
+    ly : length ys ≡ 32 - (j + 1)
+    ly = ap length e ∙ length-replicate {A = ℕ} (length (mid_of (j + 1) (32 - (j + 1)) (set old j v))) 0 ∙ lm
+
+    front : (i : ℕ) → i < j + 1 → get_or (put_mid (j + 1) (32 - (j + 1)) (set old j v) ys) i 0 ≡ get_or (set old j v) i 0
+    front i l = get_or_append_left (take (j + 1) (set old j v)) (ys ++ post_of (j + 1) (32 - (j + 1)) (set old j v)) 0 i (omega (arith, lf)) ∙ get_or-take (j + 1) (set old j v) i 0 l
 
 -- ---- the highest slot of what refutes p
 module _ {sh : Sheet} {m p blame : List ℕ} {a c j others : ℕ} (tb : Tabled sh m) (sw : Swept sh m p blame) (re : Refutes sh p a c) (top : Top a j)

@@ -7,7 +7,8 @@ use Rattle.cubes.specs.Sets.{Has, HasAll}
 use Rattle.cubes.specs.Cube.{Means, In, NoneIn}
 use Rattle.cubes.specs.declared.goal.Goal.TheVariants.{Nonconforming}
 use Rattle.search.specs.Search.{ForSheet}
-use Rattle.clearing.specs.Sweep.{Refutes}
+use Rattle.clearing.specs.declared.order.Clearing.{Clearing}
+use Rattle.clearing.specs.Sweep.{Clears}
 
 -- nothing is lost from the set, and it has j unless l means every choice
 pub record SpeaksTo (old l j new : ℕ) : Type 0 where
@@ -24,5 +25,5 @@ pub record Passed (m : List ℕ) (l j c d : ℕ) : Type 0 where
   pub means : (k e : ℕ) → k < 257 → site_at m k ≡ j → c < e → e < d → e < choices_of m j → Means l (choice_of m k e)
 
 -- where no survivor is in the cube, and p is in it
-pub record CubeRefutes (m cube p : List ℕ) (by next : ℕ) : Type 0 where
-  pub at : (sh : Sheet) (log : List ℕ) → ForSheet sh m log → NoneIn Nonconforming m log cube → In m cube p → Refutes sh p by next
+pub record CubeRefutes (m cube p : List ℕ) (c : Clearing) : Type 0 where
+  pub at : (sh : Sheet) (log : List ℕ) → ForSheet sh m log → NoneIn Nonconforming m log cube → In m cube p → Clears sh p c

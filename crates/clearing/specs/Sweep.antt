@@ -6,6 +6,7 @@ use Rattle.model.specs.Mutant.{IsMutant}
 use Rattle.model.specs.Suite.{Passes, compare_of}
 use Rattle.block.specs.Layout.{choices_of}
 use Rattle.cubes.specs.Sets.{Has}
+use Rattle.clearing.specs.declared.order.Clearing.{Clearing}
 
 -- the mutant b is no survivor: if it passes the suite, compare finds nothing
 abbrev pub Cleared : Sheet → List ℕ → Type 0
@@ -47,6 +48,10 @@ pub record Refutes (sh : Sheet) (p : List ℕ) (set c : ℕ) : Type 0 where
   pub all : set ≡ 0 → AllCleared sh
   pub more : (j : ℕ) → Top set j → get_or p j 0 < c
   pub at : (j : ℕ) → Top set j → (b : List ℕ) → IsMutant sh b → ((i : ℕ) → i < j → Has set i → get_or b i 0 ≡ get_or p i 0) → get_or p j 0 ≤ get_or b j 0 → get_or b j 0 < c → Cleared sh b
+
+-- this is what clears p
+abbrev pub Clears : Sheet → List ℕ → Clearing → Type 0
+Clears sh p c = Refutes sh p c.by c.next
 
 -- the number at j is v, those before it are as they were, and those after it are 0
 pub record Reset (old new : List ℕ) (j v : ℕ) : Type 0 where

@@ -8,6 +8,6 @@ mod ask;
 mod looks;
 mod order;
 
-pub use ask::{Clearing, cleared_by};
+pub use ask::cleared_by;
 pub use looks::{Looked, by_conforming, look};
-pub use order::{advance, following};
+pub use order::{Clearing, advance, choices_at};

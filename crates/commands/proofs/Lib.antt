@@ -2,5 +2,5 @@ mod RuleLaw
 mod FaultLaw
 mod PressLaw
 mod StateLaw
-mod ObeyLaw
+mod CommandLaw
 mod ScanLaw

@@ -12,11 +12,11 @@ use Rattle.sheet.specs.declared.Size.{Size}
 use Rattle.commands.specs.declared.rules.Tests.{Tests}
 use Rattle.lists.specs.Lists.{maybe, is_none, last}
 use Rattle.sheet.specs.Sheet.{Sheet, rule_at}
-use Rattle.sheet.specs.Reading.{last_test, add_press, rule_after, first_broken, refusal}
+use Rattle.sheet.specs.Reading.{press, last_test, add_press, rule_after, first_broken, refusal}
 use Rattle.sheet.specs.laws.PhaseLaw.{press-length}
 use Rattle.sheet.specs.laws.RowLaw.{last_snoc, after-snoc}
 use Rattle.sheet.specs.words.Tabled.{Digits, rule_target}
-use Rattle.commands.specs.words.Held.{TestsHold, PressMeets}
+use Rattle.commands.specs.words.Held.{TestsHold}
 use Rattle.sheet.specs.laws.RowTableLaw.{If, length-snoc}
 
 -- one input more
@@ -58,40 +58,31 @@ module _ (sh : Sheet) (z : Size) (t : Tests) (x v : ℕ) (ez : z ≡ sh.size) (h
   input-out k = omega (arith, ap (λ (z : Size). z.inputs) ez)
 
   pub press-taken : 0 < length sh.tests → x < z.inputs → t.inputs < 256 → v ≡ rule_target (rule_at sh.rules t.state x) → v < 16
-      → PressMeets sh x (record { number = 0; tests = record { count = t.count; inputs = t.inputs + 1; state = v } })
+      → (refusal sh (press x) ≡ 0) × TestsHold (record { count = t.count; inputs = t.inputs + 1; state = v }) sh.rules (add_press sh.tests x)
   unfolding refusal first_broken
   press-taken b k m e w =
-      let l = sh.tests in
-      record {
-        number = simp (lt-leb sh.size.inputs x (input-in k), lt-leb 256 (length (last_test l)) (omega (arith, h.inputs)), here, found_some (rule_at sh.rules t.state x) (omega arith));
-        tests = λ _. record {
+      let l = sh.tests in (
+        simp (lt-leb sh.size.inputs x (input-in k), lt-leb 256 (length (last_test l)) (omega (arith, h.inputs)), here, found_some (rule_at sh.rules t.state x) (omega arith)),
+        record {
           count = h.count ∙ sym (press-length l x);
           most = h.most;
           inputs = rw (last_test-add l x b, length-snoc (last_test l) x) (ap (λ (n : ℕ). n + 1) h.inputs);
           most-inputs = omega arith;
           state = rw (last_test-add l x b, after-snoc sh.rules 0 (last_test l) x, h.state) (step-some (rule_at sh.rules t.state x) v e w);
           digit = w;
-        };
-      }
+        },
+      )
 
   pub press-none : x < z.inputs → t.inputs < 256 → v ≡ rule_target (rule_at sh.rules t.state x) → If Digits (rule_at sh.rules t.state x) → 16 ≤ v
-      → PressMeets sh x (record { number = 9; tests = t })
+      → refusal sh (press x) ≡ 9
   unfolding refusal first_broken
-  press-none k m e d w = record {
-    number = simp (lt-leb sh.size.inputs x (input-in k), lt-leb 256 (length (last_test sh.tests)) (omega (arith, h.inputs)), here, found_none (rule_at sh.rules t.state x) d (omega arith));
-    tests = λ q. let w : ◌≡◌ {A = ℕ} 9 0 = q in absurd (omega arith);
-  }
+  press-none k m e d w =
+      simp (lt-leb sh.size.inputs x (input-in k), lt-leb 256 (length (last_test sh.tests)) (omega (arith, h.inputs)), here, found_none (rule_at sh.rules t.state x) d (omega arith))
 
-  pub press-many : x < z.inputs → 256 ≤ t.inputs → PressMeets sh x (record { number = 8; tests = t })
+  pub press-many : x < z.inputs → 256 ≤ t.inputs → refusal sh (press x) ≡ 8
   unfolding refusal first_broken
-  press-many k m = record {
-    number = simp (lt-leb sh.size.inputs x (input-in k), le-leb 256 (length (last_test sh.tests)) (omega (arith, h.inputs)));
-    tests = λ q. let w : ◌≡◌ {A = ℕ} 8 0 = q in absurd (omega arith);
-  }
+  press-many k m = simp (lt-leb sh.size.inputs x (input-in k), le-leb 256 (length (last_test sh.tests)) (omega (arith, h.inputs)))
 
-  pub press-outside : z.inputs ≤ x → PressMeets sh x (record { number = 5; tests = t })
+  pub press-outside : z.inputs ≤ x → refusal sh (press x) ≡ 5
   unfolding refusal first_broken
-  press-outside k = record {
-    number = simp (le-leb sh.size.inputs x (input-out k));
-    tests = λ q. let w : ◌≡◌ {A = ℕ} 5 0 = q in absurd (omega arith);
-  }
+  press-outside k = simp (le-leb sh.size.inputs x (input-out k))

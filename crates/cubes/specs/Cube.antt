@@ -63,13 +63,7 @@ pub record Given (m facts : List ℕ) : Type 0 where
   pub wf : Wf m
   pub tables : FreeOk m facts
 
--- ---- sets and literals
--- the members of both, nothing else
-pub record Shared (a b r : ℕ) : Type 0 where
-  pub both : (j : ℕ) → Has a j → Has b j → Has r j
-  pub left : HasAll r a
-  pub right : HasAll r b
-
+-- ---- literals
 -- what l means with the output o leads into r, as far as the table has it
 pub record GoingOk (facts : List ℕ) (l i o r : ℕ) : Type 0 where
   pub at : (v : Move) → Means l v → v.output ≡ o → Has (get_or facts (i * 16 + o) 0) v.target → Has r v.target

@@ -5,7 +5,7 @@ ghost use Rattle.block.specs.Tabulated.{Wf};
 ghost use Rattle.cubes.specs.Sets.{Put};
 ghost use Rattle.cubes.specs.Facts.{Entered, PairEntered, AllEntered};
 
-use crate::words::{one, union};
+use crate::words::with;
 use block::*;
 
 // By suspect and output, then by suspect; the rest is for others (which states can be exchanged, where tests begin).
@@ -30,8 +30,7 @@ fn put(facts: &mut Facts, at: usize, s: u8)
     requires { (length facts.old ≡ 1088) × (at < 1088) × (s < 16) }
     ensures { Put facts.old facts.new at s }
 {
-    let set = union(facts[at], one(s));
-    facts[at] = set;
+    facts[at] = with(facts[at], s);
 }
 
 // One choice of a suspect; false where its output is none of the sheet's.

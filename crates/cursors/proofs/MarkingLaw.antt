@@ -1,43 +1,36 @@
 -- Cursors that go on, notes of what is refuted, and the suspect that is picked.
 use Rattle.std.specs.Prelude.{◌+◌, ◌/◌, ◌%◌, ◌^◌, ◌<◌, ◌≤◌, ◌≡◌, ◌⊎◌}
-use Rattle.lists.specs.Proving.{arith, ℕ, refl, sym, ◌∙◌, ap, subst, inl, inr, List, length, get_or, set, length-set, get_or-set_same, get_or-set_other, ℕ_discrete}
+use Rattle.std.proofs.Common.{le_of_suc-le-suc}
+use Rattle.lists.specs.Proving.{arith, ℕ, zero, suc, [], ◌∷◌, refl, sym, ◌∙◌, ap, subst, inl, inr, List, length, get_or, set, length-set, get_or-set_same, get_or-set_other, ℕ_discrete}
 use Rattle.block.specs.Layout.{slots_of}
-use Rattle.cubes.specs.Sets.{Has, Joined}
+use Rattle.cubes.specs.Sets.{Has, Joined, Without}
 use Rattle.cubes.specs.laws.SetLaw.{nothing}
-use Rattle.leaves.specs.Members.{Without}
 use Rattle.leaves.specs.Noted.{Changed}
 use Rattle.leaves.specs.laws.MembersLaw.{each_set}
 use Rattle.leaves.specs.laws.NotedLaw.{changed-none, changed-set, changed-more, changed-wider}
-use Rattle.cursors.specs.Steering.{begin, Begun, Advanced, Marked, Picked}
-
--- ---- tests before their resets
-pub begun-none : {facts cursors : List ℕ} → Begun 0 facts cursors
-begun-none = record { at = λ t h. absurd (omega arith) }
-
-pub begun_more : {facts cursors : List ℕ} {n : ℕ} (v : ℕ) → n < 256 → v ≡ begin facts (n % 256) → Begun n facts cursors → Begun (n + 1) facts (set cursors n v)
-begun_more {facts} {cursors} {n} v l e f = record { at = λ t h w. go t h (rw (length-set cursors n v) at w) (ℕ_discrete t n) }
-  where
-    go : (t : ℕ) → t < n + 1 → t < length cursors → Dec (t ≡ n) → get_or (set cursors n v) t 0 ≡ begin facts t
-    go t h w (yes d) =
-        let here : n % 256 ≡ t = omega arith in
-        ap (λ (k : ℕ). get_or (set cursors n v) k 0) d ∙ get_or-set_same cursors n v 0 (omega arith) ∙ e ∙ ap (begin facts) here
-    go t h w (no d) = get_or-set_other cursors n t v 0 d ∙ f.at t (omega (arith, d)) w
-
-pub begun_all : {facts cursors : List ℕ} {n : ℕ} → 256 ≤ n → Begun n facts cursors → Begun 256 facts cursors
-begun_all l f = record { at = λ t h. f.at t (omega arith) }
+use Rattle.cursors.specs.Steering.{Advanced, Marked, Picked}
+use Rattle.cursors.specs.declared.progress.Cursor.{Cursor}
+use Rattle.cursors.specs.declared.progress.Wait.{Wait}
 
 -- ---- tests that go on
-pub advanced-none : {last : ℕ} {cursors : List ℕ} → Advanced last cursors cursors
-advanced-none = record { long = refl; same = λ t n. refl }
+-- in a list it does not matter what is read past its end
+inside-any : {A : Type 0} (xs : List A) (i : ℕ) (d e : A) → i < length xs → get_or xs i d ≡ get_or xs i e
+inside-any [] i d e l = absurd (omega arith)
+inside-any (x ∷ xs) zero d e l = refl
+inside-any (x ∷ xs) (suc i) d e l = inside-any xs i d e (le_of_suc-le-suc l)
 
-pub advanced-more : {last : ℕ} {old new : List ℕ} (t c : ℕ) → ((get_or new t 0 % 256 ≡ last → ⊥) → c ≡ get_or new t 0) → Advanced last old new → Advanced last old (set new t c)
-advanced-more {last} {old} {new} t c e f = record { long = length-set new t c ∙ f.long; same = λ k n. go k n (ℕ_discrete k t) }
+pub advanced-none : {last : Wait} {cursors : List Cursor} → Advanced last cursors cursors
+advanced-none = record { long = refl; same = λ t c l n. refl }
+
+pub advanced-more : {last : Wait} {old new : List Cursor} (t : ℕ) (c none : Cursor) → (((get_or new t none).wait ≡ last → ⊥) → c ≡ get_or new t none) → Advanced last old new → Advanced last old (set new t c)
+advanced-more {last} {old} {new} t c none e f = record { long = length-set new t c ∙ f.long; same = λ k d l n. go k d l n (ℕ_discrete k t) }
   where
-    go : (k : ℕ) → (get_or old k 0 % 256 ≡ last → ⊥) → Dec (k ≡ t) → get_or (set new t c) k 0 ≡ get_or old k 0
-    go k n (yes d) =
-        let here : get_or new t 0 ≡ get_or old k 0 = ap (λ (x : ℕ). get_or new x 0) (sym d) ∙ f.same k n in
-        each_set (λ v. v ≡ get_or old k 0) new t c k (e (λ w. n (ap (λ (x : ℕ). x % 256) (sym here) ∙ w)) ∙ here) (f.same k n)
-    go k n (no d) = get_or-set_other new t k c 0 d ∙ f.same k n
+    go : (k : ℕ) (d : Cursor) → k < length old → ((get_or old k d).wait ≡ last → ⊥) → Dec (k ≡ t) → get_or (set new t c) k d ≡ get_or old k d
+    go k d l n (yes w) =
+        let lt : t < length new = omega (arith, f.long) in
+        let here : get_or new t none ≡ get_or old k d = inside-any new t none d lt ∙ ap (λ (j : ℕ). get_or new j d) (sym w) ∙ f.same k d l n in
+        ap (λ (j : ℕ). get_or (set new t c) j d) w ∙ get_or-set_same new t c d lt ∙ e (λ z. n (ap (λ (x : Cursor). x.wait) (sym here) ∙ z)) ∙ here
+    go k d l n (no w) = get_or-set_other new t k c d w ∙ f.same k d l n
 
 -- ---- next states that are refuted
 decide : (set j : ℕ) → Dec (Has set j)

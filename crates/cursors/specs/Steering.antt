@@ -1,22 +1,29 @@
 -- What steering by tests hands out, and what it leaves as it is.
-use Rattle.std.specs.Prelude.{◌≡◌, List, ℕ, ◌+◌, ◌*◌, ◌%◌, ◌<◌, length, get_or}
+use Rattle.std.specs.Prelude.{◌≡◌, List, ℕ, ◌+◌, ◌*◌, ◌<◌, length, get_or, slice_get, Some, None, cond, ltb}
 use Rattle.block.specs.Layout.{slots_of}
 use Rattle.cubes.specs.Sets.{Has, Joined}
 use Rattle.leaves.specs.Members.{Literals}
 use Rattle.leaves.specs.Noted.{Changed}
+use Rattle.cursors.specs.declared.progress.Cursor.{Cursor}
+use Rattle.cursors.specs.declared.progress.Wait.{Wait}
+use Rattle.cursors.specs.declared.progress.Wait.TheVariants.{Reset, Suspect}
 
--- a test before its reset: where that stands, the state 16, and that it has not begun
-abbrev pub begin : List ℕ → ℕ → ℕ
-begin facts t = (get_or facts (832 + t) 0 * 65536 + get_or facts (560 + t) 0) * 65536 + 16 * 256 + 254
+-- a test before its reset: where that stands, no state yet, and that it waits for the reset
+abbrev pub begin : List ℕ → ℕ → Cursor
+begin facts t = record { at = get_or facts (832 + t) 0 * 65536 + get_or facts (560 + t) 0; state = None; wait = Reset }
+
+-- what the tests wait for that go on where a suspect was settled last: for it, or at a root (32 and more) for their resets
+abbrev pub waited : ℕ → Wait
+waited last = cond (ltb last 32) (Suspect last) Reset
 
 -- each of the first n tests is before its reset
-pub record Begun (n : ℕ) (facts cursors : List ℕ) : Type 0 where
-  pub at : (t : ℕ) → t < n → t < length cursors → get_or cursors t 0 ≡ begin facts t
+pub record Begun (n : ℕ) (facts : List ℕ) (cursors : List Cursor) : Type 0 where
+  pub at : (t : ℕ) → t < n → t < length cursors → slice_get cursors t ≡ Some (begin facts t)
 
--- no test but those that wait for a suspect has gone on
-pub record Advanced (last : ℕ) (old new : List ℕ) : Type 0 where
+-- no test but those that wait for what is given has gone on
+pub record Advanced (last : Wait) (old new : List Cursor) : Type 0 where
   pub long : length new ≡ length old
-  pub same : (t : ℕ) → (get_or old t 0 % 256 ≡ last → ⊥) → get_or new t 0 ≡ get_or old t 0
+  pub same : (t : ℕ) (c : Cursor) → t < length old → ((get_or old t c).wait ≡ last → ⊥) → get_or new t c ≡ get_or old t c
 
 -- the cube speaks of no suspect but those of a set
 pub record SpeaksOf (set : ℕ) (cube : List ℕ) : Type 0 where

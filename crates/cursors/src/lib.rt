@@ -11,10 +11,6 @@ mod proposal;
 mod wanted;
 
 pub use observed::{add_test, find_tests, test_at, tests_of};
-pub use progress::{advance_all, start_cursors};
+pub use progress::{Cursor, Cursors, Wait, advance_all, start_cursors};
 pub use proposal::propose_fail;
 pub use wanted::{FROM_TEST, mark, mark_wants, pick};
-
-// By test: the index in the log of its next observation * 65536 + the mutant's state (16: before its reset) * 256 + the suspect it
-// waits for (255: through, 254: not begun).
-pub type Cursors = [u64; 256];

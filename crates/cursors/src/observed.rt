@@ -31,10 +31,8 @@ pub fn find_tests(log: &[u8], facts: &mut Facts)
     ensures { FactsKept facts.old facts.new }
 {
     let mut tests: usize = 0;
-    let mut at: usize = 0;
-    while at < log.len() {
-        tests = enter_test(facts, tests, log[at], at);
-        at += 1;
+    for (at, v) in log.iter().enumerate() {
+        tests = enter_test(facts, tests, *v, at);
     }
     facts[TEST_COUNT] = tests as u16;
 }

@@ -8,6 +8,7 @@ use crate::progress::{begun, met};
 use block::*;
 use cubes::literals::Cube;
 use cubes::tables::Facts;
+use cubes::words::shared;
 use leaves::*;
 
 // How many inputs follow a reset.
@@ -35,7 +36,7 @@ fn arrive(block: &Block, facts: &Facts, cube: &Cube, k: usize, o: u8) -> u16
     if step / 16 != o {
         return 0;
     }
-    add(0, step)
+    with(0, step)
 }
 
 // The states in which an observation fails every mutant of the cube at once, or leads into `bad` only.
@@ -45,7 +46,7 @@ fn backward(block: &Block, facts: &Facts, cube: &Cube, bad: u16, v: u16) -> u16 
     for s in 0..end {
         let go = arrive(block, facts, cube, some_place(s, input_of(v)), output_of(v));
         if less(go, bad) == 0 {
-            set = add(set, s);
+            set = with(set, s);
         }
     }
     set
@@ -63,11 +64,8 @@ fn fill_bad(
 )
     requires { (from ≤ 4294967296) × (length ≤ 256) }
 {
-    let mut l = length;
-    while l > 0 {
-        let next = bad[l];
-        l -= 1;
-        bad[l] = backward(block, facts, cube, next, observed(log, from + 3 * l));
+    for l in (0..length).rev() {
+        bad[l] = backward(block, facts, cube, bad[l + 1], observed(log, from + 3 * l));
     }
 }
 
@@ -112,7 +110,7 @@ fn narrow_step(
     if less(go, bad) == 0 {
         return wide32(go);
     }
-    cube[wide(i)] = narrowed(facts, own_output(l), i, o, cubes::words::shared(go, bad));
+    cube[wide(i)] = narrowed(facts, own_output(l), i, o, shared(go, bad));
     65536
 }
 
@@ -129,27 +127,22 @@ fn narrow_states(
     ensures { Narrowed base.now cube.old cube.new }
 {
     let mut next: u32 = 0;
-    let mut left = set;
-    for n in 0..16u8 {
-        if left == 0 {
-            return next;
-        }
-        let k = some_place(least(left), input_of(v));
-        next = next | narrow_step(block, facts, base, cube, k, output_of(v), bad);
-        left = without_least(left);
+    for s in members(set) {
+        let k = some_place(s, input_of(v));
+        next |= narrow_step(block, facts, base, cube, k, output_of(v), bad);
     }
     next
 }
 
 // The test from its reset up to where the cube is narrowed. True if it was.
-fn narrow_once<'a>(
+fn narrow_once(
     block: &Block,
     facts: &Facts,
-    base: &'a Cube,
+    base: &Cube,
     cube: &mut Cube,
     log: &[u8],
     from: usize,
-    bad: &'a [u16; 257],
+    bad: &[u16; 257],
     length: usize,
 ) -> bool
     requires { (from ≤ 4294967296) × (length ≤ 256) }
@@ -170,14 +163,14 @@ fn narrow_once<'a>(
 }
 
 // Narrows the cube until nothing is left to narrow.
-fn narrow_all<'a>(
+fn narrow_all(
     block: &Block,
     facts: &Facts,
-    base: &'a Cube,
+    base: &Cube,
     cube: &mut Cube,
     log: &[u8],
     from: usize,
-    bad: &'a [u16; 257],
+    bad: &[u16; 257],
     length: usize,
 )
     requires { (from ≤ 4294967296) × (length ≤ 256) }

@@ -4,7 +4,7 @@ ghost use Rattle.leaves.specs.Noted.{Changed};
 ghost use Rattle.cursors.specs.Steering.{Marked, Picked};
 
 use crate::observed::{observed, tests_of};
-use crate::progress::{at_of, wait_of};
+use crate::progress::{Cursor, Cursors, Wait};
 use block::*;
 use cubes::tables::{Facts, OUTPUTS};
 use leaves::*;
@@ -17,13 +17,8 @@ fn set_hints(notes: &mut [u16], k: usize, next: u16, h: u16)
     requires { k < 512 }
     ensures { Changed 576 8768 notes.old notes.new }
 {
-    let mut left = next;
-    for n in 0..16u8 {
-        if left == 0 {
-            return;
-        }
-        set_note(notes, HINTS + k * 16 + wide(least(left)), h);
-        left = without_least(left);
+    for s in members(next) {
+        set_note(notes, HINTS + k * 16 + usize::from(s), h);
     }
 }
 
@@ -38,7 +33,7 @@ pub fn mark(notes: &mut [u16], j: u8, o: u8, next: u16, h: u16)
         return;
     }
     set_hints(notes, k, new, h);
-    set_note(notes, DEAD + k, cubes::words::union(old, next));
+    set_note(notes, DEAD + k, union(old, next));
 }
 
 // The outputs that a suspect has.
@@ -50,14 +45,8 @@ fn outputs_of(facts: &Facts, j: u8) -> u16 {
 fn mark_test(facts: &Facts, notes: &mut [u16], j: u8, want: u8, h: u16)
     ensures { Changed 64 8768 notes.old notes.new }
 {
-    let mut left = less(outputs_of(facts, j), add(0, want));
-    for n in 0..16u8 {
-        if left == 0 {
-            return;
-        }
-        let o = least(left);
+    for o in members(less(outputs_of(facts, j), with(0, want))) {
         mark(notes, j, o, facts[cell(j, o)], h);
-        left = without_least(left);
     }
 }
 
@@ -70,22 +59,28 @@ fn one_more(waiting: &mut [u16; 32], j: u8) {
 
 // Notes the choices that a test refutes, if it waits, and counts it. One that waits at its reset refutes none: a reset reads as the
 // output 0, which every choice of the waking state has.
-fn mark_want(facts: &Facts, log: &[u8], c: u64, notes: &mut [u16], waiting: &mut [u16; 32], h: u16)
+fn mark_want(
+    facts: &Facts,
+    log: &[u8],
+    c: Cursor,
+    notes: &mut [u16],
+    waiting: &mut [u16; 32],
+    h: u16,
+)
     ensures { Changed 64 8768 notes.old notes.new }
 {
-    let j = wait_of(c);
-    if j >= 32 {
+    let Wait::Suspect(j) = c.wait else {
         return;
-    }
+    };
     one_more(waiting, j);
-    mark_test(facts, notes, j, output_of(observed(log, at_of(c))), h);
+    mark_test(facts, notes, j, output_of(observed(log, c.at as usize)), h);
 }
 
 // Notes the choices that waiting tests refute, and counts the tests that wait for each suspect.
 pub fn mark_wants(
     facts: &Facts,
     log: &[u8],
-    cursors: &[u64; 256],
+    cursors: &Cursors,
     notes: &mut [u16],
     waiting: &mut [u16; 32],
 )
@@ -121,7 +116,7 @@ fn alive(facts: &Facts, notes: &[u16], j: u8) -> u32
 fn times(a: u32, b: u16) -> u64
     requires { a < 512 }
 {
-    (a as u64) * (b as u64)
+    u64::from(a) * u64::from(b)
 }
 
 // The suspect that is best so far: its choices left and the tests that wait for it.

@@ -9,16 +9,20 @@ use native.Mathlib.Numerals.{add-one}
 use native.Mathlib.Omega.{arith}
 use lib.Dec.{ltb, eqb}
 use lib.ListN.{length, get_or, set, length-set, replicate, get_or-replicate}
-use lib.Seq.{get_or-set_same, get_or-set_other}
+use lib.Seq.{get_or-set_same, get_or-set_other, take-suc}
+use Rattle.std.specs.Prelude.{take}
+use Rattle.std.specs.List.{list_all}
+use Rattle.std.proofs.lemmas.List.Recursion.{and_push}
 use borrow.Author.Tests.{lt-ltb, le-ltb, eq-eqb, ne_eqb, eqb-true, eqb-false}
 use Rattle.sheet.specs.declared.Row.{Row}
 use Rattle.sheet.specs.declared.Size.{Size}
-use Rattle.ending.specs.declared.End.TheVariants.{Accepted, Refused}
+use Rattle.std.specs.Prelude.{Ok, Err}
+use Rattle.sheet.specs.Tables.{refusal_of}
 use Rattle.lists.specs.Lists.{maybe, last, any, all, count}
 use Rattle.sheet.specs.Sheet.{Sheet, rows_at, rule_at, leads, reached_within, all_reached, unruled_choices, choices_at, is_open, open_below, open_pairs, waking_slots, open_slots}
 use Rattle.sheet.specs.Reading.{first_broken, finishing}
 use Rattle.sheet.specs.words.Tabled.{Within16, Digits, place_of, next_key, rule_target, present, Leads, StartsHold}
-use Rattle.ending.specs.words.Ending.{Marks, Follows, Linked, Gathered, mark_of, end_of}
+use Rattle.ending.specs.words.Ending.{Marks, Follows, Linked, Gathered, end_of}
 use Rattle.lists.specs.laws.TestLaw.{never, both, or_right, and_both}
 use Rattle.sheet.specs.laws.ReachedLaw.{some-any, all-early}
 use Rattle.sheet.specs.laws.WakingLaw.{no-choice, a-choice}
@@ -27,22 +31,6 @@ use Rattle.sheet.specs.laws.RowTableLaw.{If, rule-digits}
 
 pub few-pairs : (z : Size) → Within16 z → z.outputs * z.states ≤ 256
 few-pairs z h = mul-le-mul h.outputs h.states
-
-pub mark-true : (b : Bool) → mark_of b ≡ 1 → b ≡ true
-mark-true true e = refl
-mark-true false e = absurd (omega arith)
-
-pub mark-false : (b : Bool) → (mark_of b ≡ 1 → ⊥) → b ≡ false
-mark-false true e = absurd (e refl)
-mark-false false e = refl
-
-mark-above : (b : Bool) {m n : ℕ} → n ≡ mark_of b → m < n → b ≡ true
-mark-above true e k = refl
-mark-above false e k = absurd (omega arith)
-
-mark-below : (a b : Bool) {m n : ℕ} → m ≡ mark_of a → n ≡ mark_of b → m ≤ n → a ≡ true → b ≡ true
-mark-below a true e f k h = refl
-mark-below a false e f k h = let one : mark_of a ≡ 1 = rw h in absurd (omega arith)
 
 opened : (rows : List Row) → eqb (present rows) 1 ≡ ltb 1 (suc (length rows))
 opened [] = refl
@@ -79,16 +67,16 @@ unfolding count
 count_no p x n e h = rw (add-one x, e) h
 
 -- sets of states
-pub marks-same : {l : List ℕ} {g : ℕ → Bool} (g' : ℕ → Bool) → Marks l g → ((t : ℕ) → t < 16 → g' t ≡ g t) → Marks l g'
-marks-same g' h e = record { size = h.size; at = λ t k. h.at t k ∙ ap mark_of (sym (e t k)) }
+pub marks-same : {l : List Bool} {g : ℕ → Bool} (g' : ℕ → Bool) → Marks l g → ((t : ℕ) → t < 16 → g' t ≡ g t) → Marks l g'
+marks-same g' h e = record { size = h.size; at = λ t k. h.at t k ∙ sym (e t k) }
 
-pub marks-set : {l : List ℕ} {g : ℕ → Bool} (g' : ℕ → Bool) (v : ℕ) → Marks l g → v < 16
-    → ((t : ℕ) → t ≡ v → g' t ≡ true) → ((t : ℕ) → (t ≡ v → ⊥) → g' t ≡ g t) → Marks (set l v 1) g'
+pub marks-set : {l : List Bool} {g : ℕ → Bool} (g' : ℕ → Bool) (v : ℕ) → Marks l g → v < 16
+    → ((t : ℕ) → t ≡ v → g' t ≡ true) → ((t : ℕ) → (t ≡ v → ⊥) → g' t ≡ g t) → Marks (set l v true) g'
 marks-set {l} {g} g' v h k same other = record { size = simp length-set h.size; at = λ t j. go t j (eqb t v) refl }
   where
-    go : (t : ℕ) → t < 16 → (b : Bool) → eqb t v ≡ b → get_or (set l v 1) t 0 ≡ mark_of (g' t)
-    go t j true e = rw (same t (eqb-true t v e), eqb-true t v e) (get_or-set_same l v 1 0 (omega (arith, h.size)))
-    go t j false e = rw (other t (eqb-false t v e)) (get_or-set_other l v t 1 0 (eqb-false t v e) ∙ h.at t j)
+    go : (t : ℕ) → t < 16 → (b : Bool) → eqb t v ≡ b → get_or (set l v true) t false ≡ g' t
+    go t j true e = rw (same t (eqb-true t v e), eqb-true t v e) (get_or-set_same l v true false (omega (arith, h.size)))
+    go t j false e = rw (other t (eqb-false t v e)) (get_or-set_other l v t true false (eqb-false t v e) ∙ h.at t j)
 
 or-false : (a : Bool) → a || false ≡ a
 or-false true = refl
@@ -128,7 +116,7 @@ module _ (rules : List Row) (g : ℕ → Bool) (s : ℕ) where
   abbrev pub spreading : ℕ → ℕ → Bool
   spreading x t = g t || any (λ y. leads rules s y t) x
 
-  pub spread_none : {l : List ℕ} → Marks l g → Marks l (spreading 0)
+  pub spread_none : {l : List Bool} → Marks l g → Marks l (spreading 0)
   unfolding any
   spread_none h = marks-same (spreading 0) h (λ t k. or-false (g t))
 
@@ -145,13 +133,13 @@ module _ (rules : List Row) (g : ℕ → Bool) (s : ℕ) where
     unfolding leads
     leads-none t v = nowhere (rule_at rules s x) t (rule-digits rules s x h.digits) (omega (arith, h.table.at s x hs hx))
 
-    pub spread-hit : {l : List ℕ} → Marks l (spreading x) → get_or ts (place_of s x) 0 < 16 → Marks (set l (get_or ts (place_of s x) 0) 1) (spreading (x + 1))
+    pub spread-hit : {l : List Bool} → Marks l (spreading x) → get_or ts (place_of s x) 0 < 16 → Marks (set l (get_or ts (place_of s x) 0) true) (spreading (x + 1))
     unfolding any
     spread-hit m v = marks-set (spreading (x + 1)) (get_or ts (place_of s x) 0) m v
         (λ t e. rw (add-one x, leads-hit t v e) (or-hit (g t) (any (λ y. leads rules s y t) x)))
         (λ t n. rw (add-one x, leads-miss t n))
 
-    pub spread-miss : {l : List ℕ} → Marks l (spreading x) → 16 ≤ get_or ts (place_of s x) 0 → Marks l (spreading (x + 1))
+    pub spread-miss : {l : List Bool} → Marks l (spreading x) → 16 ≤ get_or ts (place_of s x) 0 → Marks l (spreading (x + 1))
     unfolding any
     spread-miss m v = marks-same (spreading (x + 1)) m (λ t k. rw (add-one x, leads-none t v))
 
@@ -159,34 +147,34 @@ module _ (z : Size) (rules : List Row) (g : ℕ → Bool) where
   abbrev pub rounding : ℕ → ℕ → Bool
   rounding s t = g t || any (λ y. g y && any (λ x. leads rules y x t) z.inputs) s
 
-  pub round-none : {l : List ℕ} → Marks l g → Marks l (rounding 0)
+  pub round-none : {l : List Bool} → Marks l g → Marks l (rounding 0)
   unfolding any
   round-none h = marks-same (rounding 0) h (λ t j. or-false (g t))
 
-  module _ {ds ss l : List ℕ} {f : ℕ → Bool} (d : Marks ds f) (m : Marks ss g) (s : ℕ) (hs : s < 16) where
-    pub round-new : get_or ds s 0 < get_or ss s 0 → Marks l (λ t. rounding s t || any (λ x. leads rules s x t) z.inputs) → Marks l (rounding (s + 1))
+  module _ {ds ss l : List Bool} {f : ℕ → Bool} (d : Marks ds f) (m : Marks ss g) (s : ℕ) (hs : s < 16) where
+    pub round-new : get_or ss s false ≡ true → Marks l (λ t. rounding s t || any (λ x. leads rules s x t) z.inputs) → Marks l (rounding (s + 1))
     unfolding any
     round-new v h = marks-same (rounding (s + 1)) h
-        (λ t j. rw (add-one s, mark-above (g s) (m.at s hs) v) (or-late (g t) (any (λ x. leads rules s x t) z.inputs) _))
+        (λ t j. rw (add-one s, sym (m.at s hs) ∙ v) (or-late (g t) (any (λ x. leads rules s x t) z.inputs) _))
 
-    pub round-known : Follows z rules f g → s < z.states → get_or ss s 0 ≤ get_or ds s 0 → Marks l (rounding s) → Marks l (rounding (s + 1))
+    pub round-known : Follows z rules f g → s < z.states → (get_or ss s false ≡ true → get_or ds s false ≡ true) → Marks l (rounding s) → Marks l (rounding (s + 1))
     unfolding any
     round-known q k v h = marks-same (rounding (s + 1)) h (λ t j. rw (add-one s) (or-known (g t) _ _ (λ e. led t (both (g s) _ e))))
       where
         led : (t : ℕ) → (g s ≡ true) × (any (λ x. leads rules s x t) z.inputs ≡ true) → g t ≡ true
-        led t p = q.each s t k (mark-below (g s) (f s) (m.at s hs) (d.at s hs) v p.0) p.1
+        led t p = q.each s t k (sym (d.at s hs) ∙ v (m.at s hs ∙ p.0)) p.1
 
-no-marks : Marks (replicate 16 0) (λ t. false)
-no-marks = record { size = refl; at = λ t h. get_or-replicate 16 t 0 0 h }
+no-marks : Marks (replicate 16 false) (λ t. false)
+no-marks = record { size = refl; at = λ t h. get_or-replicate 16 t false false h }
 
 -- after j rounds: ss marks the states found, ds some whose rules lead only to such
-pub record Rounds (z : Size) (sh : Sheet) (j : ℕ) (ds ss : List ℕ) : Type 0 where
+pub record Rounds (z : Size) (sh : Sheet) (j : ℕ) (ds ss : List Bool) : Type 0 where
   pub before : ℕ → Bool
   pub done : Marks ds before
   pub seen : Marks ss (reached_within sh j)
   pub follows : Follows z sh.rules before (reached_within sh j)
 
-pub rounds-start : (z : Size) (sh : Sheet) → Rounds z sh 0 (replicate 16 0) (set (replicate 16 0) 0 1)
+pub rounds-start : (z : Size) (sh : Sheet) → Rounds z sh 0 (replicate 16 false) (set (replicate 16 false) 0 true)
 unfolding reached_within
 rounds-start z sh = record {
   before = λ t. false;
@@ -195,7 +183,7 @@ rounds-start z sh = record {
   follows = record { each = λ s t k e l. never (cc) };
 }
 
-pub rounds-more : (z : Size) (sh : Sheet) (j : ℕ) {ds ss : List ℕ} → z ≡ sh.size → Marks ds (reached_within sh j)
+pub rounds-more : (z : Size) (sh : Sheet) (j : ℕ) {ds ss : List Bool} → z ≡ sh.size → Marks ds (reached_within sh j)
     → Marks ss (rounding z sh.rules (reached_within sh j) z.states) → Rounds z sh (j + 1) ds ss
 unfolding reached_within
 rounds-more z sh j e = rw e (λ d m. record {
@@ -207,22 +195,21 @@ rounds-more z sh j e = rw e (λ d m. record {
   };
 })
 
-pub all_more : (g : ℕ → Bool) (i : ℕ) → all g i ≡ true → g i ≡ true → all g (i + 1) ≡ true
-unfolding all
-all_more g i h e = rw (add-one i, e) h
+and_swap : (a b : Bool) → a && b ≡ b && a
+and_swap true true = refl
+and_swap true false = refl
+and_swap false true = refl
+and_swap false false = refl
 
-and-false : (a : Bool) → a && false ≡ false
-and-false true = refl
-and-false false = refl
-
-pub all-stop : (g : ℕ → Bool) (i n : ℕ) → i < n → g i ≡ false → all g n ≡ false
+-- the first n marks
+pub all-marks : {l : List Bool} {g : ℕ → Bool} (n : ℕ) → n ≤ 16 → Marks l g → list_all (λ b. b) (take n l) ≡ all g n
 unfolding all
-all-stop g i zero h e = absurd (omega arith)
-all-stop g i (suc n) h e = go (eqb i n) refl (all-stop g i n)
-  where
-    go : (b : Bool) → eqb i n ≡ b → (i < n → g i ≡ false → all g n ≡ false) → g n && all g n ≡ false
-    go true q ih = rw (← eqb-true i n q, e)
-    go false q ih = let ne = eqb-false i n q in rw (ih (omega arith) e) (and-false (g n))
+all-marks zero k h = refl
+all-marks {l} {g} (suc n) k h =
+    rw (take-suc l n false (omega (arith, h.size)))
+    (and_push (list_all (λ b. b)) (λ b. b) refl (λ _ _. refl) (take n l) (get_or l n false)
+    ∙ and_swap (list_all (λ b. b) (take n l)) (get_or l n false)
+    ∙ (λ i. h.at n (omega arith) i && all-marks n (omega arith) h i))
 
 open_more : (sh : Sheet) (s n r : ℕ) → n ≡ open_below sh s → r ≡ count (is_open sh s) sh.size.inputs → n + r ≡ open_below sh (s + 1)
 unfolding open_below
@@ -271,18 +258,18 @@ unfolding all_reached
 reached-late sh z j r e k h = rw (k, e) at h
 
 module _ (sh : Sheet) (s : List ℕ) (at : ℕ) where
-  pub end_more : at + 1 < length s → Refused 10 (at + 1) ≡ end_of (finishing sh s at)
+  pub end_more : at + 1 < length s → Err (refusal_of 10 (at + 1)) ≡ end_of (finishing sh s at)
   unfolding finishing
   end_more h = rw (lt-ltb (at + 1) (length s) h)
 
-  pub end-lost : length s ≤ at + 1 → all_reached sh ≡ false → Refused 11 at ≡ end_of (finishing sh s at)
+  pub end-lost : length s ≤ at + 1 → all_reached sh ≡ false → Err (refusal_of 11 at) ≡ end_of (finishing sh s at)
   unfolding finishing first_broken
   end-lost h e = rw (le-ltb (at + 1) (length s) h, e)
 
-  pub end-many : length s ≤ at + 1 → all_reached sh ≡ true → 32 < open_slots sh → Refused 12 at ≡ end_of (finishing sh s at)
+  pub end-many : length s ≤ at + 1 → all_reached sh ≡ true → 32 < open_slots sh → Err (refusal_of 12 at) ≡ end_of (finishing sh s at)
   unfolding finishing first_broken
   end-many h e k = rw (le-ltb (at + 1) (length s) h, e, lt-ltb 32 (open_slots sh) k)
 
-  pub end-good : length s ≤ at + 1 → all_reached sh ≡ true → open_slots sh ≤ 32 → Accepted (open_slots sh) ≡ end_of (finishing sh s at)
+  pub end-good : length s ≤ at + 1 → all_reached sh ≡ true → open_slots sh ≤ 32 → Ok (open_slots sh) ≡ end_of (finishing sh s at)
   unfolding finishing first_broken
   end-good h e k = rw (le-ltb (at + 1) (length s) h, e, le-ltb 32 (open_slots sh) k)

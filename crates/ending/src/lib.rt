@@ -11,14 +11,10 @@ ghost use Rattle.sheet.specs.Reading.{finishing};
 ghost use Rattle.sheet.specs.words.Tabled.{Within16, Leads, StartsHold};
 ghost use Rattle.ending.specs.words.Ending.{Marks, Follows, Linked, Gathered, end_of};
 
-use sheet::{Row, Size};
+use sheet::{Refusal, Row, Size};
 
-// How a reading ends: how many choices make up a mutant, or a refusal's number and place.
-#[derive(Clone, Copy)]
-pub enum End {
-    Accepted(usize),
-    Refused(u8, usize),
-}
+// How many choices may make up a mutant.
+const MOST: usize = 32;
 
 // How many choices a pair without a rule has.
 pub fn unruled_choices(size: Size, quiet: bool) -> u16
@@ -28,7 +24,7 @@ pub fn unruled_choices(size: Size, quiet: bool) -> u16
     if quiet {
         return 1;
     }
-    (size.outputs as u16) * (size.states as u16)
+    u16::from(size.outputs) * u16::from(size.states)
 }
 
 // `unruled` says whether a pair without a rule is open.
@@ -37,12 +33,11 @@ fn is_open(unruled: bool, target: &[u8; 256], faulty: &[u8; 256], s: usize, x: u
     ensures { (sh : Sheet) → Linked unruled target.now faulty.now sh → result ≡ is_open sh s x }
 {
     let p = s * 16 + x;
-    let t = target[p];
-    if t < 16 {
-        let f = faulty[p];
-        return f == 1;
+    if target[p] < 16 {
+        faulty[p] == 1
+    } else {
+        unruled
     }
-    unruled
 }
 
 // The number of open pairs at a state.
@@ -52,14 +47,11 @@ fn open_at(size: Size, unruled: bool, target: &[u8; 256], faulty: &[u8; 256], s:
     ensures counted { (sh : Sheet) → size ≡ sh.size → Linked unruled target.now faulty.now sh
         → result ≡ count (is_open sh s) sh.size.inputs }
 {
-    let k = size.inputs as usize;
-    let mut n: usize = 0;
-    let mut x: usize = 0;
-    while x < k {
+    let mut n = 0;
+    for x in 0..usize::from(size.inputs) {
         if is_open(unruled, target, faulty, s, x) {
             n += 1;
         }
-        x += 1;
     }
     n
 }
@@ -84,72 +76,49 @@ fn open_slots(
     ensures { (sh : Sheet) → Gathered size starts quiet target.now faulty.now sh → result ≡ open_slots sh }
 {
     let unruled = 1 < unruled_choices(size, quiet);
-    let m = size.states as usize;
     let mut n = waking_slots(starts);
-    let mut s: usize = 0;
-    while s < m {
+    for s in 0..usize::from(size.states) {
         n += open_at(size, unruled, target, faulty, s);
-        s += 1;
     }
     n
 }
 
-// The states marked, and those that a rule at s leads to.
-fn spread(size: Size, target: &[u8; 256], s: usize, seen: [u8; 16]) -> [u8; 16]
+// Marks the states that a rule at s leads to.
+fn spread(size: Size, target: &[u8; 256], s: usize, seen: &mut [bool; 16])
     requires { Within16 size × (s < 16) }
-    ensures { (rules : List Row) (g : ℕ → Bool) → Leads target.now rules → Marks seen g
-        → Marks result (λ t. g t || any (λ x. leads rules s x t) size.inputs) }
+    ensures { (rules : List Row) (g : ℕ → Bool) → Leads target.now rules → Marks seen.old g
+        → Marks seen.new (λ t. g t || any (λ x. leads rules s x t) size.inputs) }
 {
-    let k = size.inputs as usize;
-    let mut next = seen;
-    let mut x: usize = 0;
-    while x < k {
-        let p = s * 16 + x;
-        let t = target[p];
+    for x in 0..usize::from(size.inputs) {
+        let t = target[s * 16 + x];
         if t < 16 {
-            let i = t as usize;
-            next[i] = 1;
+            seen[usize::from(t)] = true;
         }
-        x += 1;
     }
-    next
 }
 
 // The states seen, and those that a rule at one of them leads to. States done are passed over: where their rules lead is seen.
-fn round(size: Size, target: &[u8; 256], done: [u8; 16], seen: [u8; 16]) -> [u8; 16]
+fn round(size: Size, target: &[u8; 256], done: &[bool; 16], seen: &[bool; 16]) -> [bool; 16]
     requires { Within16 size }
-    ensures { (rules : List Row) (f g : ℕ → Bool) → Leads target.now rules → Marks done f → Marks seen g
+    ensures { (rules : List Row) (f g : ℕ → Bool) → Leads target.now rules → Marks done.now f → Marks seen.now g
         → Follows size rules f g
         → Marks result (λ t. g t || any (λ s. g s && any (λ x. leads rules s x t) size.inputs) size.states) }
 {
-    let n = size.states as usize;
-    let mut next = seen;
-    let mut s: usize = 0;
-    while s < n {
-        if done[s] < seen[s] {
-            let more = spread(size, target, s, next);
-            next = more;
+    let mut next = *seen;
+    for s in 0..usize::from(size.states) {
+        if seen[s] && !done[s] {
+            spread(size, target, s, &mut next);
         }
-        s += 1;
     }
     next
 }
 
 // Are the first n marked?
-fn all_marked(n: u8, seen: [u8; 16]) -> bool
+fn all_marked(n: u8, seen: &[bool; 16]) -> bool
     requires { n ≤ 16 }
-    ensures { (g : ℕ → Bool) → Marks seen g → result ≡ all g n }
+    ensures { (g : ℕ → Bool) → Marks seen.now g → result ≡ all g n }
 {
-    let m = n as usize;
-    let mut i: usize = 0;
-    while i < m {
-        if seen[i] == 1 {
-            i += 1;
-        } else {
-            return false;
-        }
-    }
-    true
+    seen[..usize::from(n)].iter().all(|mark| *mark)
 }
 
 // Is every state reached from 0? One round for each state at most: they end once all are seen.
@@ -157,24 +126,22 @@ fn all_reached(size: Size, target: &[u8; 256]) -> bool
     requires { Within16 size }
     ensures { (sh : Sheet) → size ≡ sh.size → Leads target.now sh.rules → result ≡ all_reached sh }
 {
-    let n = size.states;
-    let mut done = [0u8; 16];
-    let mut seen = [0u8; 16];
-    seen[0] = 1;
-    let mut j: u8 = 0;
-    while j < n {
-        if all_marked(n, seen) {
+    let mut done = [false; 16];
+    let mut seen = [false; 16];
+    seen[0] = true;
+    for _ in 0..size.states {
+        if all_marked(size.states, &seen) {
             return true;
         }
-        let more = round(size, target, done, seen);
+        let more = round(size, target, &done, &seen);
         done = seen;
         seen = more;
-        j += 1;
     }
-    all_marked(n, seen)
+    all_marked(size.states, &seen)
 }
 
-// END at a place: 10 a byte follows, 11 a state is not reached, 12 over 32 open pairs. `starts` is 0 where there is no START.
+// END at a place: how many choices make up a mutant; refused with 10 a byte follows, 11 a state is not reached, 12 over 32 open pairs. `starts` is 0 where there is no START.
+// stays: `starts` a number and `faulty` bytes, 1 where there is a fault: a parameter of `finish`, which docs/ARCHITECTURE.md names, takes no narrower type.
 pub fn finish(
     sheet: &[u8],
     at: usize,
@@ -183,22 +150,20 @@ pub fn finish(
     quiet: bool,
     target: &[u8; 256],
     faulty: &[u8; 256],
-) -> End
+) -> Result<usize, Refusal>
     requires { (at < length sheet.now) × Within16 size }
     ensures { (sh : Sheet) → Gathered size starts quiet target.now faulty.now sh
         → result ≡ end_of (finishing sh sheet.now at) }
 {
     if at + 1 < sheet.len() {
-        return End::Refused(10, at + 1);
+        return Err(Refusal::new(10, at + 1));
     }
-    if all_reached(size, target) {
-        let slots = open_slots(size, starts, quiet, target, faulty);
-        if slots <= 32 {
-            End::Accepted(slots)
-        } else {
-            End::Refused(12, at)
-        }
-    } else {
-        End::Refused(11, at)
+    if !all_reached(size, target) {
+        return Err(Refusal::new(11, at));
     }
+    let slots = open_slots(size, starts, quiet, target, faulty);
+    if slots > MOST {
+        return Err(Refusal::new(12, at));
+    }
+    Ok(slots)
 }

@@ -7,12 +7,13 @@ use Rattle.sheet.specs.Reading.{accepted, refused, size_in_range}
 use Rattle.sheet.specs.Encode.{encode}
 use Rattle.sheet.specs.WellFormed.{SizeIn}
 use Rattle.sheet.specs.laws.CommandLaw.{size_in_lem, in_size}
-use Rattle.writing.specs.declared.Written.{Written}
-use Rattle.writing.specs.declared.Written.TheVariants as written
+use Rattle.std.specs.Prelude.{Err}
+use Rattle.std.specs.Prelude.{Result as Answer}
+use Rattle.sheet.specs.declared.Refusal.{Refusal}
+use Rattle.sheet.specs.Tables.{refusal_of}
 use Rattle.writing.specs.Drawing.{drawing, drawing_of}
 use Rattle.writing.specs.Writing.{writing, written_answer, sheet_writes}
 use Rattle.writing.proofs.laws.WritingLaw.{refuses, writes, written-again}
-use Rattle.generator.specs.declared.pairs.Place.{Place}
 use Rattle.generator.specs.Generating.{drafted, sheet_from, generating}
 use Rattle.generator.specs.Generated.{ToldGenerated}
 use Rattle.generator.specs.words.Standing.{Standing}
@@ -25,10 +26,10 @@ module _ (seed : ℕ) (z : Size) (room : ℕ) where
   generating-sheet w h = rw (in_size z w, le-ltb room 16384 h)
 
   -- and its tables are written
-  module _ {p : Place} {rs rs' fs fs' : List ℕ} (w : SizeIn z) (h : 16384 ≤ room)
-      (s : Standing (drafted z seed (z.states * z.inputs)) (z.states * z.inputs) p rs rs' fs fs') where
+  module _ {standing : ℕ} {rs rs' fs fs' : List ℕ} (w : SizeIn z) (h : 16384 ≤ room)
+      (s : Standing (drafted z seed (z.states * z.inputs)) (z.states * z.inputs) standing rs rs' fs fs') where
     pub written-tables : (pairs : ℕ) → pairs ≡ z.states * z.inputs
-        → writing (drawing z false (take (4 * pairs) rs') (take (4 * p.faults) fs') [] [] []) room ≡ generating seed z room
+        → writing (drawing z false (take (4 * pairs) rs') (take (4 * standing) fs') [] [] []) room ≡ generating seed z room
     unfolding sheet_from drawing_of joined
     written-tables pairs e =
         rw (e, s.rules.front, s.faults.front, generating-sheet w h)
@@ -43,12 +44,12 @@ module _ (seed : ℕ) (z : Size) (room : ℕ) where
   short-room w h = rw (in_size z w, lt-ltb room 16384 h)
 
 module _ (seed : ℕ) (z : Size) (old : List ℕ) where
-  abbrev Promised : Written → List ℕ → Type 0
+  abbrev Promised : Answer ℕ Refusal → List ℕ → Type 0
   Promised r new =
       (r ≡ written_answer (generating seed z (length old))) × ((new ≡ overlay (sheet_writes (generating seed z (length old))) old) × ToldGenerated z r old new)
 
   -- what the answer tells
-  pub promised : (r : Written) (new : List ℕ) → r ≡ written_answer (generating seed z (length old)) → new ≡ overlay (sheet_writes (generating seed z (length old))) old → Promised r new
+  pub promised : (r : Answer ℕ Refusal) (new : List ℕ) → r ≡ written_answer (generating seed z (length old)) → new ≡ overlay (sheet_writes (generating seed z (length old))) old → Promised r new
   promised r new a b =
       let x = generating seed z (length old) in (
         a,
@@ -62,8 +63,8 @@ module _ (seed : ℕ) (z : Size) (old : List ℕ) where
         ),
       )
 
-  pub out_of_range : size_in_range z ≡ false → Promised (written.Refused 4 0) old
+  pub out_of_range : size_in_range z ≡ false → Promised (Err (refusal_of 4 0)) old
   out_of_range e = let k = out-range seed z (length old) e in promised _ old (rw k refl) (rw k refl)
 
-  pub no_room : size_in_range z ≡ true → length old < 16384 → Promised (written.Refused 16 0) old
+  pub no_room : size_in_range z ≡ true → length old < 16384 → Promised (Err (refusal_of 16 0)) old
   no_room w h = let k = short-room seed z (length old) (size_in_lem z w) h in promised _ old (rw k refl) (rw k refl)

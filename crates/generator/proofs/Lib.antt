@@ -1,4 +1,3 @@
 pub mod laws
-pub mod TableLaw
 pub mod StandingLaw
 pub mod GenerateLaw

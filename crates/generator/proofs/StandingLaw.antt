@@ -11,7 +11,6 @@ use Rattle.lists.specs.laws.ListLaw.{joined-append}
 use Rattle.writing.specs.words.Spelled.{Spelled}
 use Rattle.writing.proofs.laws.SpelledLaw.{spelled_none, spelled-both}
 use Rattle.generator.specs.declared.pairs.Pair.{Pair}
-use Rattle.generator.specs.declared.pairs.Place.{Place}
 use Rattle.generator.specs.Generating.{third, drawn, rule_from, is_faulty, fault_of, Draft, with_pair, drafted}
 use Rattle.generator.specs.words.Standing.{pair_from, faults_of, Ready, PairPut, Standing}
 use Rattle.generator.proofs.laws.DraftLaw.{drafts}
@@ -49,14 +48,13 @@ module _ (z : Size) (rule : Row) (lot standing : ℕ) where
 
 -- ---- pair after pair
 
-pub pair_put : (z : Size) (i : ℕ) (p : Place) (pair : Pair) (standing : ℕ) (rs rs' fs fs' : List ℕ) → pair ≡ pair_from z p.seed (i / z.inputs) (i % z.inputs)
-    → Spelled rs rs' (4 * i) (4 * i + 4) (row_of pair.rule) → FaultPut z pair.rule pair.lot p.faults fs fs' standing
-    → PairPut z i p (record { seed = pair.seed; faults = standing }) rs rs' fs fs'
-pair_put z i p pair standing rs rs' fs fs' e rule fault =
+pub pair_put : (z : Size) (i seed standing standing' : ℕ) (pair : Pair) (rs rs' fs fs' : List ℕ) → pair ≡ pair_from z seed (i / z.inputs) (i % z.inputs)
+    → Spelled rs rs' (4 * i) (4 * i + 4) (row_of pair.rule) → FaultPut z pair.rule pair.lot standing fs fs' standing'
+    → PairPut z i seed standing standing' rs rs' fs fs'
+pair_put z i seed standing standing' pair rs rs' fs fs' e rule fault =
     record {
-      seed = ap (λ (q : Pair). q.seed) e;
       rule = subst (λ (q : Pair). Spelled rs rs' (4 * i) (4 * i + 4) (row_of q.rule)) e rule;
-      fault = subst (λ (q : Pair). FaultPut z q.rule q.lot p.faults fs fs' standing) e fault;
+      fault = subst (λ (q : Pair). FaultPut z q.rule q.lot standing fs fs' standing') e fault;
     }
 
 table-length : (l : List Row) → length (joined row_of l) ≡ 4 * length l
@@ -75,36 +73,40 @@ pub blank-ready : {z : Size} → SizeIn z → Ready z (replicate 1024 0) (replic
 blank-ready w = record { size = w; rules = omega (arith, length-replicate {A = ℕ} 1024 0); faults = omega (arith, length-replicate {A = ℕ} 128 0) }
 
 module _ (z : Size) (seed : ℕ) where
-  pub standing-start : (rs fs : List ℕ) → Standing (drafted z seed 0) 0 (record { seed = seed; faults = 0 }) rs rs fs fs
+  pub standing-start : (rs fs : List ℕ) → (seed ≡ (drafted z seed 0).seed) × Standing (drafted z seed 0) 0 0 rs rs fs fs
   unfolding drafted joined
-  standing-start rs fs = record { seed = refl; rules = spelled_none; faults = spelled_none }
+  standing-start rs fs = (refl, record { rules = spelled_none; faults = spelled_none })
 
-  module _ {i : ℕ} {p : Place} {rs rs' fs fs' : List ℕ} (h : Standing (drafted z seed i) i p rs rs' fs fs') where
-    standing-many : p.faults ≡ length (drafted z seed i).faults
+  module _ {i standing : ℕ} {rs rs' fs fs' : List ℕ} (h : Standing (drafted z seed i) i standing rs rs' fs fs') where
+    standing-many : standing ≡ length (drafted z seed i).faults
     standing-many = omega (arith, h.faults.many, table-length (drafted z seed i).faults)
 
-    pub standing-few : SizeIn z → i ≤ z.states * z.inputs → p.faults ≤ 32
+    pub standing-few : SizeIn z → i ≤ z.states * z.inputs → standing ≤ 32
     standing-few w k = omega (arith, standing-many, (drafts z w seed i k).faults.few)
 
     pub standing-ready : Ready z rs fs → Ready z rs' fs'
     standing-ready r = record { size = r.size; rules = omega (arith, r.rules, h.rules.long); faults = omega (arith, r.faults, h.faults.long) }
 
     -- the rows are within the tables
-    pub standing-inside : Ready z rs fs → i ≤ z.states * z.inputs → (4 * i ≤ length rs') × (4 * p.faults ≤ length fs')
+    pub standing-inside : Ready z rs fs → i ≤ z.states * z.inputs → (4 * i ≤ length rs') × (4 * standing ≤ length fs')
     standing-inside r k =
         let s = standing-ready r in
         (omega (arith, s.rules, few-pairs z r.size), omega (arith, s.faults, standing-few r.size k))
 
-    pub standing-more : {q : Place} {rs'' fs'' : List ℕ} → PairPut z i p q rs' rs'' fs' fs'' → Standing (drafted z seed (i + 1)) (i + 1) q rs rs'' fs fs''
+    pub seed-more : {now new : ℕ} → now ≡ (drafted z seed i).seed → new ≡ third now → new ≡ (drafted z seed (i + 1)).seed
+    unfolding drafted with_pair
+    seed-more e s = rw (add-one i) (s ∙ ap third e)
+
+    pub standing-more : {now standing' : ℕ} {rs'' fs'' : List ℕ} → now ≡ (drafted z seed i).seed → PairPut z i now standing standing' rs' rs'' fs' fs''
+        → Standing (drafted z seed (i + 1)) (i + 1) standing' rs rs'' fs fs''
     unfolding drafted with_pair joined
-    standing-more {q} {rs''} {fs''} s =
+    standing-more {now} {standing'} {rs''} {fs''} e s =
         rw (add-one i)
         (record {
-          seed = s.seed ∙ ap third h.seed;
-          rules = grown d.rules (rule ∷ []) h.rules (subst (λ (to : ℕ). Spelled rs' rs'' (4 * i) to (row_of rule)) (omega arith) (rw h.seed at s.rule));
+          rules = grown d.rules (rule ∷ []) h.rules (subst (λ (to : ℕ). Spelled rs' rs'' (4 * i) to (row_of rule)) (omega arith) (rw e at s.rule));
           faults = grown d.faults (faults_of z rule (drawn 8 (third d.seed)) (length d.faults)) h.faults
-              (subst (λ (many : ℕ). Spelled fs' fs'' (4 * p.faults) (4 * q.faults) (joined row_of (faults_of z rule (drawn 8 (third d.seed)) many))) standing-many
-              (rw h.seed at s.fault));
+              (subst (λ (many : ℕ). Spelled fs' fs'' (4 * standing) (4 * standing') (joined row_of (faults_of z rule (drawn 8 (third d.seed)) many))) standing-many
+              (rw e at s.fault));
         })
       where
         d : Draft

@@ -7,7 +7,8 @@ use Rattle.lists.specs.Lists.{All}
 use Rattle.sheet.specs.Sheet.{Sheet, rule_at}
 use Rattle.sheet.specs.Reading.{accepted, reading}
 use Rattle.sheet.specs.WellFormed.{SizeIn}
-use Rattle.writing.specs.declared.Written.{Written}
+use Rattle.std.specs.Prelude.{Result as Answer}
+use Rattle.sheet.specs.declared.Refusal.{Refusal}
 use Rattle.writing.specs.Writing.{Refuses, Writes}
 use Rattle.generator.specs.Generating.{fault_of}
 
@@ -36,7 +37,7 @@ pub record Generated (z : Size) (s : List ℕ) : Type 0 where
   pub faulty : All (Faulty z sheet.rules) sheet.faults
 
 -- 02's sentences in their order, of the answer and of the buffer as lent and after it
-pub record ToldGenerated (z : Size) (r : Written) (old new : List ℕ) : Type 0 where
+pub record ToldGenerated (z : Size) (r : Answer ℕ Refusal) (old new : List ℕ) : Type 0 where
   -- sizes out of range
   pub range : (SizeIn z → ⊥) → Refuses 4 r old new
   -- then a buffer below 16,384 bytes

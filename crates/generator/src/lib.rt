@@ -6,7 +6,6 @@
 
 ghost use Rattle.std.specs.Prelude.{◌≡◌, ◌≤◌, length};
 ghost use Rattle.lists.specs.Lists.{overlay};
-ghost use Rattle.sheet.specs.Reading.{in_one_to16, size_in_range};
 ghost use Rattle.sheet.specs.WellFormed.{SizeIn};
 ghost use Rattle.writing.specs.Writing.{written_answer, sheet_writes};
 ghost use Rattle.generator.specs.Generating.{generating};
@@ -16,31 +15,11 @@ mod draw;
 mod pairs;
 
 use pairs::{pairs_of, put_pairs};
-use sheet::Size;
-use writing::Written;
-
-fn one_to_sixteen(n: u8) -> bool
-    ensures { result ≡ in_one_to16 n }
-{
-    if n == 0 {
-        return false;
-    }
-    n <= 16
-}
-
-fn in_range(size: Size) -> bool
-    ensures { result ≡ size_in_range size }
-{
-    if one_to_sixteen(size.states) {
-        if one_to_sixteen(size.inputs) {
-            return one_to_sixteen(size.outputs);
-        }
-    }
-    false
-}
+use sheet::{Refusal, Size};
+use writing::Drawing;
 
 // The sheet of a size in range, from the tables of its rules and faults, no QUIET, no STARTs and no tests.
-fn spell(seed: u32, size: Size, buffer: &mut [u8]) -> Written
+fn spell(seed: u32, size: Size, buffer: &mut [u8]) -> Result<usize, Refusal>
     requires size_in { SizeIn size }
     requires in_bounds { 16384 ≤ length buffer.old }
     ensures value { result ≡ written_answer (generating seed size (length buffer.old)) }
@@ -48,32 +27,31 @@ fn spell(seed: u32, size: Size, buffer: &mut [u8]) -> Written
 {
     let mut rules = [0u8; 1024];
     let mut faults = [0u8; 128];
-    let place = put_pairs(seed, size, &mut rules, &mut faults);
+    let faulted = 4 * put_pairs(seed, size, &mut rules, &mut faults);
     let ruled = 4 * pairs_of(size);
-    let faulted = 4 * place.faults;
-    writing::write(
+    let drawing = Drawing {
         size,
-        false,
-        &rules[..ruled],
-        &faults[..faulted],
-        &[],
-        &[],
-        &[],
-        buffer,
-    )
+        quiet: false,
+        rules: &rules[..ruled],
+        faults: &faults[..faulted],
+        starts: &[],
+        lengths: &[],
+        presses: &[],
+    };
+    writing::write(&drawing, buffer)
 }
 
 // The sheet of a seed and a size at the buffer's front.
-pub fn generate(seed: u32, size: Size, buffer: &mut [u8]) -> Written
+pub fn generate(seed: u32, size: Size, buffer: &mut [u8]) -> Result<usize, Refusal>
     ensures answer { result ≡ written_answer (generating seed size (length buffer.old)) }
     ensures bytes { buffer.new ≡ overlay (sheet_writes (generating seed size (length buffer.old))) buffer.old }
     ensures told { ToldGenerated size result buffer.old buffer.new }
 {
-    if !in_range(size) {
-        return Written::Refused(4, 0);
+    if !size.is_in_range() {
+        return Err(Refusal::new(4, 0));
     }
     if buffer.len() < 16384 {
-        return Written::Refused(16, 0);
+        return Err(Refusal::new(16, 0));
     }
     spell(seed, size, buffer)
 }

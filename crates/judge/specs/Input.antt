@@ -1,9 +1,6 @@
 -- What reading answers.
-use Rattle.std.specs.Prelude.{List, ℕ, ◌≤◌, ◌≡◌, length, take}
-use Rattle.judge.specs.declared.Input.{Input}
-use Rattle.judge.specs.declared.Input.TheVariants as input
+use Rattle.std.specs.Prelude.{Result, List, ℕ, ◌≤◌, ◌≡◌, IfOk, length, take}
 
 -- the bytes that were read lie in the buffer
-abbrev pub Fits : Input → List ℕ → Type 0
-Fits (input.Bytes n) buffer = (n ≤ length buffer) × (n ≡ length (take n buffer))
-Fits input.Failed buffer = Unit {0}
+abbrev pub Fits : {E : Type 0} → Result ℕ E → List ℕ → Type 0
+Fits r buffer = IfOk r (λ n. (n ≤ length buffer) × (n ≡ length (take n buffer)))

@@ -8,44 +8,21 @@ ghost use Rattle.judge.specs.Input.{Fits};
 
 use report::report;
 use std::env::{Env, FillError};
-use std::io::{Eprint, Print, Read, Stdin};
+use std::io::{self, Eprint, Print, Read, Stdin};
 
-// What reading gave: so many bytes at the buffer's front, or a failure.
-#[derive(Clone, Copy)]
-enum Input {
-    Bytes(usize),
-    Failed,
-}
-
-// Reads once: no bytes where the input ends.
-fn read_some(stdin: &mut Stdin, rest: &mut [u8]) -> Input
-    ensures { Fits result rest.new }
-{
-    match stdin.read(rest) {
-        Ok(n) => Input::Bytes(n),
-        Err(_) => Input::Failed,
-    }
-}
-
-// Reads until the input ends or the buffer is full.
-fn read_input(stdin: &mut Stdin, buffer: &mut [u8]) -> Input
+// Reads until the input ends or the buffer is full; how many bytes came.
+fn read_input(stdin: &mut Stdin, buffer: &mut [u8]) -> io::Result<usize>
     ensures { Fits result buffer.new }
 {
     let mut done: usize = 0;
     while done < buffer.len() {
-        match read_some(stdin, &mut buffer[done..]) {
-            Input::Failed => {
-                return Input::Failed;
-            }
-            Input::Bytes(n) => {
-                if n == 0 {
-                    return Input::Bytes(done);
-                }
-                done += n;
-            }
+        let n = stdin.read(&mut buffer[done..])?;
+        if n == 0 {
+            return Ok(done);
         }
+        done += n;
     }
-    Input::Bytes(done)
+    Ok(done)
 }
 
 // Tells whoever names a file that it is not looked at. The program's own name is the first argument.
@@ -62,7 +39,7 @@ fn main(rt: HostRuntime) {
     warn_of_arguments(&rt);
     let mut buffer = [0u8; 16385];
     let mut stdin = rt.stdin();
-    let Input::Bytes(n) = read_input(&mut stdin, &mut buffer) else {
+    let Ok(n) = read_input(&mut stdin, &mut buffer) else {
         let _ = rt.eprintln("judge: can't read standard input");
         return;
     };

@@ -1,20 +1,8 @@
--- Sets and literals that steer: which members, which transitions.
+-- Literals that steer: which transitions.
 use Rattle.std.specs.Prelude.{◌≡◌, ℕ, ◌/◌, ◌%◌, ◌<◌, ◌⊎◌, List, length, slice_index}
 use Rattle.model.specs.Machine.{Move}
 use Rattle.cubes.specs.Sets.{Has, HasAll}
 use Rattle.cubes.specs.Cube.{Means, MeansStep}
-
--- the members of a that b has not, nothing else
-pub record Without (a b r : ℕ) : Type 0 where
-  pub left : HasAll r a
-  pub apart : (j : ℕ) → Has r j → Has b j → ⊥
-  pub all : (j : ℕ) → Has a j → (Has b j → ⊥) → Has r j
-
--- the members of a set but the least, nothing else
-pub record Later (set r : ℕ) : Type 0 where
-  pub left : HasAll r set
-  pub apart : (j : ℕ) → ((i : ℕ) → i < j → Has set i → ⊥) → Has r j → ⊥
-  pub all : (i j : ℕ) → i < j → Has set i → Has set j → Has r j
 
 -- the literal means the transition, and no other
 pub record MeansOnly (l o t : ℕ) : Type 0 where

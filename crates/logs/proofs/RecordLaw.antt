@@ -105,10 +105,10 @@ module _ {m sheet old new : List ℕ} {from to : ℕ} {whole : List ℕ} {s at l
       let h = low.at s x follows.move follows.ruled in
       record { state = h.state; input = h.input; output = omega (arith, h.output, ruled.output); room = omega (arith, wrote.room) }
 
-  pub testing-more : {k o : ℕ} → k ≡ pair s (get_or sheet (at + 1) 0) → o ≡ rule_output m k →
-      Testing m sheet old (set (set (set new to 17) (to + 1) (get_or sheet (at + 1) 0)) (to + 2) o) from (to + 3) whole (rule_target m k) (at + 2) (left - 1)
+  pub testing-more : {k o next rest : ℕ} → k ≡ pair s (get_or sheet (at + 1) 0) → o ≡ rule_output m k → next ≡ at + 2 → rest ≡ left - 1 →
+      Testing m sheet old (set (set (set new to 17) (to + 1) (get_or sheet (at + 1) 0)) (to + 2) o) from (to + 3) whole (rule_target m k) next rest
   unfolding x
-  testing-more {k} {o} ek eo =
+  testing-more {k} {o} ek eo en er = rw (en, er)
       let same : o ≡ follows.move.output = eo ∙ ap (rule_output m) ek ∙ sym ruled.output in
       subst (λ (q : ℕ). Testing m sheet old (set (set (set new to 17) (to + 1) x) (to + 2) o) from (to + 3) whole q (at + 2) (left - 1)) (ruled.target ∙ ap (rule_target m) (sym ek))
       (record {

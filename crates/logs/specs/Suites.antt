@@ -6,6 +6,7 @@ use Rattle.sheet.specs.Tables.{tables_of}
 use Rattle.model.specs.Log.{suite_log}
 use Rattle.block.specs.Logged.{observations, log_bytes}
 use Rattle.block.specs.Tabled.{Tabled}
+use Rattle.block.specs.declared.packing.Loaded.{Loaded}
 
 -- the sheet's bytes, where its tests stand in them, its tables in the block, and room for the suite's log
 pub record SuiteIn (sh : Sheet) (s starts lengths : List ℕ) (tests : ℕ) (m : List ℕ) (room : ℕ) : Type 0 where
@@ -15,6 +16,10 @@ pub record SuiteIn (sh : Sheet) (s starts lengths : List ℕ) (tests : ℕ) (m :
   pub lengths-are : lengths ≡ (tables_of sh).lengths
   pub many : tests ≡ length sh.tests
   pub fits : length (log_bytes (suite_log sh)) ≤ room
+
+-- the same, of what loading gives
+abbrev pub SuiteOf : Sheet → Loaded → ℕ → Type 0
+SuiteOf sh l room = SuiteIn sh l.sheet.now l.starts l.lengths l.size.tests l.block room
 
 -- the first n bytes are the suite's log
 pub record Logged (sh : Sheet) (log : List ℕ) (n : ℕ) : Type 0 where

@@ -6,7 +6,7 @@ ghost use Rattle.block.specs.Tabulated.{rule_of};
 ghost use Rattle.block.specs.Logged.{log_bytes};
 ghost use Rattle.logs.specs.Tests.{inputs_at, tests_at, TestAt, TestsAt};
 ghost use Rattle.logs.specs.Recorded.{Written, Recorded};
-ghost use Rattle.logs.specs.Suites.{SuiteIn, Logged};
+ghost use Rattle.logs.specs.Suites.{SuiteOf, Logged};
 
 use block::*;
 
@@ -26,56 +26,38 @@ pub fn record_test(
 {
     log[from] = PULSE;
     let mut to = from + 1;
-    let mut at = start;
-    let mut left = inputs;
     let mut s: u8 = 0;
-    while left > 0 {
-        let x = sheet[at + 1];
+    for i in 0..inputs {
+        let x = sheet[start + 2 * i + 1];
         let k = place(s, x);
         log[to] = SEEN;
         log[to + 1] = x;
         log[to + 2] = rule_output(block, k);
         s = rule_target(block, k);
         to += 3;
-        at += 2;
-        left -= 1;
     }
     to
 }
 
 // Writes the log of the tests at the log's front; gives its length.
-fn record_suite(
-    sheet: &[u8],
-    starts: &[u16; 256],
-    lengths: &[u16; 256],
-    tests: usize,
-    block: &Block,
-    log: &mut [u8],
-) -> usize
-    requires tests_at { TestsAt (rule_of block.now) sheet.now starts.now lengths.now tests }
-    requires tests_in_bounds { length (log_bytes (tests_log (rule_of block.now) (tests_at sheet.now starts.now lengths.now tests))) ≤ length log.old }
-    ensures { Recorded log.old log.new result (log_bytes (tests_log (rule_of block.now) (tests_at sheet.now starts.now lengths.now tests))) }
+fn record_suite(loaded: &Loaded, log: &mut [u8]) -> usize
+    requires tests_at { TestsAt (rule_of loaded.now.block) loaded.now.sheet.now loaded.now.starts loaded.now.lengths loaded.now.size.tests }
+    requires tests_in_bounds { length (log_bytes (tests_log (rule_of loaded.now.block) (tests_at loaded.now.sheet.now loaded.now.starts loaded.now.lengths loaded.now.size.tests))) ≤ length log.old }
+    ensures { Recorded log.old log.new result (log_bytes (tests_log (rule_of loaded.now.block) (tests_at loaded.now.sheet.now loaded.now.starts loaded.now.lengths loaded.now.size.tests))) }
 {
     let mut to: usize = 0;
-    let mut t: usize = 0;
-    while t < tests {
-        to = record_test(sheet, wide16(starts[t]), wide16(lengths[t]), block, log, to);
-        t += 1;
+    for t in 0..loaded.size.tests {
+        let start = usize::from(loaded.starts[t]);
+        let inputs = usize::from(loaded.lengths[t]);
+        to = record_test(loaded.sheet, start, inputs, &loaded.block, log, to);
     }
     to
 }
 
 // Writes the log of an accepted sheet's suite at the log's front; gives its length.
-pub fn log_suite<'a>(
-    sheet: &[u8],
-    starts: &'a [u16; 256],
-    lengths: &'a [u16; 256],
-    tests: usize,
-    block: &Block,
-    log: &mut [u8],
-) -> usize
-    requires { (sh : Sheet) × SuiteIn sh sheet.now starts.now lengths.now tests block.now (length log.old) }
-    ensures { (sh : Sheet) → SuiteIn sh sheet.now starts.now lengths.now tests block.now (length log.old) → Logged sh log.new result }
+pub fn log_suite(loaded: &Loaded, log: &mut [u8]) -> usize
+    requires { (sh : Sheet) × SuiteOf sh loaded.now (length log.old) }
+    ensures { (sh : Sheet) → SuiteOf sh loaded.now (length log.old) → Logged sh log.new result }
 {
-    record_suite(sheet, starts, lengths, tests, block, log)
+    record_suite(loaded, log)
 }

@@ -1,5 +1,5 @@
 -- Laying out a mutant.
-use Prim.Native.Nat.{ℕ, ◌+◌, ◌/◌, ◌%◌, ◌<◌, ◌≤◌}
+use Prim.Native.Nat.{ℕ, zero, suc, ◌+◌, ◌/◌, ◌%◌, ◌<◌, ◌≤◌}
 use native.Mathlib.Omega.{arith}
 use mathlib.Core.Path.{◌≡◌, refl, ◌∙◌, ap}
 use mathlib.Core.Bool.{Bool, true, false, cond, ◌&&◌}
@@ -7,7 +7,7 @@ use mathlib.Core.List.{List}
 use borrow.Author.Count.{below_more}
 use borrow.Author.Tests.{le-ltb}
 use lib.Dec.{ltb}
-use lib.ListN.{length, get_or, set}
+use lib.ListN.{length, get_or, set, replicate}
 use lib.Seq.{get_or-set_same, get_or-set_other}
 use Rattle.model.specs.Machine.{Move}
 use Rattle.model.specs.Mutant.{idle}
@@ -37,6 +37,11 @@ acts-inside m p k c r wf ch ls lx ec st =
 pub one_more : (l : List ℕ) (f : ℕ → ℕ) (k v : ℕ) → k < length l → ((t : ℕ) → t < k → get_or l t 0 ≡ f t) → v ≡ f k → (t : ℕ) → t < k + 1 → get_or (set l k v) t 0 ≡ f t
 one_more l f k v lt h e =
     below_more (λ t. get_or (set l k v) t 0 ≡ f t) k (λ t s. get_or-set_other l k t v 0 (λ z. omega arith) ∙ h t s) (get_or-set_same l k v 0 lt ∙ e)
+
+pub zeros : (n t : ℕ) → get_or {A = ℕ} (replicate n 0) t 0 ≡ 0
+zeros zero t = refl
+zeros (suc n) zero = refl
+zeros (suc n) (suc t) = zeros n t
 
 module _ {move : ℕ → ℕ → Move} {outputs targets : List ℕ} where
   pub moves-none : Moves move outputs targets 0

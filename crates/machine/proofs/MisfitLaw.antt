@@ -4,6 +4,7 @@ use native.Mathlib.Omega.{arith}
 use mathlib.Core.Path.{◌≡◌, refl, sym, ◌∙◌}
 use mathlib.Core.List.{List}
 use borrow.Author.Tests.{eq-eqb, ne_eqb}
+use Rattle.std.specs.Prelude.{Ok, Err}
 use lib.ListN.{length, get_or}
 use Rattle.sheet.specs.Sheet.{Sheet}
 use Rattle.model.specs.Mutant.{slots, IsMutant}
@@ -14,8 +15,8 @@ use Rattle.block.specs.Layout.{waking, choices_of, states_of, slots_of}
 use Rattle.block.specs.Tabulated.{choices_at, chosen, step_of, start_of}
 use Rattle.block.specs.Tabled.{Tabled}
 use Rattle.block.specs.laws.TabledLaw.{get_d_default}
-use Rattle.machine.specs.declared.fitting.Fit.{Fit}
-use Rattle.machine.specs.declared.fitting.Fit.TheVariants as fit
+use Rattle.sheet.specs.declared.Refusal.{Refusal}
+use Rattle.sheet.specs.Tables.{refusal_of}
 use Rattle.machine.specs.Laid.{Settles, Moves}
 use Rattle.machine.specs.Fits.{HighAt, fit_of, Widened, Machined}
 use Rattle.machine.specs.laws.LaidLaw.{settled-chosen, settled-start, settled-moves}
@@ -25,9 +26,9 @@ pub few-slots : {sh : Sheet} {m : List ℕ} → Tabled sh m → slots_of m ≤ 3
 few-slots {sh} tb = omega (arith, tb.count, slot-count sh, tb.formed.few-open)
 
 module _ {sh : Sheet} {m : List ℕ} (tb : Tabled sh m) (b : List ℕ) where
-  pub fit_length : (length b ≡ slots_of m → ⊥) → fit.Refused 13 0 ≡ fit_of sh b
+  pub fit_length : (length b ≡ slots_of m → ⊥) → {why : Refusal} → why ≡ refusal_of 13 0 → Err why ≡ fit_of sh b
   unfolding fit_of with_mutant
-  fit_length ne = rw (ne_eqb (length b) (length (slots sh)) (λ e. ne (e ∙ sym tb.count))) refl
+  fit_length ne e = rw (e, ne_eqb (length b) (length (slots sh)) (λ e. ne (e ∙ sym tb.count))) refl
 
   module _ (e : length b ≡ slots_of m) {r : ℕ} (h : HighAt m b r) where
     long : length b ≡ length (slots sh)
@@ -36,11 +37,12 @@ module _ {sh : Sheet} {m : List ℕ} (tb : Tabled sh m) (b : List ℕ) where
     size-at : (j : ℕ) → j < length b → choices_of m j ≡ get_or (slots sh) j 0
     size-at j l = tb.choices j (omega (arith, few-slots tb)) ∙ get_d_default (slots sh) j 1 0 (omega (arith, long))
 
-    pub fit-high : r < slots_of m → fit.Refused 14 r ≡ fit_of sh b
+    pub fit-high : r < length b → {why : Refusal} → why ≡ refusal_of 14 r → Err why ≡ fit_of sh b
     unfolding fit_of with_mutant
-    fit-high l =
+    fit-high l ew =
         let at : r < length b = omega arith in
         rw (
+          ew,
           eq-eqb (length b) (length (slots sh)) long,
           first-high (slots sh) b r
               (record {
@@ -51,7 +53,7 @@ module _ {sh : Sheet} {m : List ℕ} (tb : Tabled sh m) (b : List ℕ) where
               }),
         ) refl
 
-    pub fit_low : slots_of m ≤ r → fit.Mutant ≡ fit_of sh b
+    pub fit_low : length b ≤ r → Ok tt ≡ fit_of sh b
     unfolding IsMutant
     fit_low l = sym (mutant-fits sh b (in-range (slots sh) b long (λ j lj. rw (size-at j lj) at (h.low j (omega arith)))))
 
@@ -60,7 +62,7 @@ module _ {sh : Sheet} {m : List ℕ} (tb : Tabled sh m) {b p : List ℕ} (w : Wi
   pub settles : Settles sh p b
   settles = record { at = λ j l. w.at j (omega (arith, slot-count sh, tb.formed.few-open)) }
 
-  pub machined : {f : Fit} {start : ℕ} {outputs targets : List ℕ} → f ≡ fit_of sh b → (chosen m p waking < choices_at m waking → start ≡ start_of m p) →
-      (IsMutant sh b → Moves (step_of m p) outputs targets (16 * states_of m)) → Machined sh b (record { fit = f; start = start; output = outputs; target = targets })
-  machined e es moved =
-      record { fits = e; start = λ is. es ((settled-chosen tb is settles).at waking (omega arith)) ∙ settled-start tb is settles; moves = λ is. settled-moves tb is settles (moved is) }
+  pub machined : {start : ℕ} {outputs targets : List ℕ} → IsMutant sh b → (chosen m p waking < choices_at m waking → start ≡ start_of m p) →
+      Moves (step_of m p) outputs targets (16 * states_of m) → Machined sh b (record { start = start; output = outputs; target = targets })
+  machined is es moved =
+      record { is = is; start = es ((settled-chosen tb is settles).at waking (omega arith)) ∙ settled-start tb is settles; moves = settled-moves tb is settles moved }

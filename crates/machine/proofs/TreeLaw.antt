@@ -21,12 +21,10 @@ use Rattle.model.proofs.laws.StaysLaw.{Closed}
 use Rattle.model.proofs.laws.CompareLaw.{Shown, dist-uncons, dist-one, dist-cons, dist-nil}
 use Rattle.machine.specs.declared.product.Led.{Led}
 use Rattle.machine.specs.declared.product.Led.TheVariants as led
-use Rattle.machine.specs.declared.product.Expanded.TheVariants as expanded
-use Rattle.machine.specs.declared.product.Difference.{Difference}
-use Rattle.machine.specs.declared.product.Difference.TheVariants as difference
+use Rattle.std.specs.Prelude.{Some, None}
 use Rattle.machine.specs.Product.{leads}
 use Rattle.machine.specs.Tree.{pair_at, link_at, unseen, Spare, EnteredPair, Paths, LinkSettled, Tree, ExpandedOk}
-use Rattle.machine.specs.Differences.{difference_of}
+use Rattle.machine.specs.Differences.{Difference, difference_of}
 use Rattle.machine.proofs.SequenceLaw.{AtMost, after-append, after_last, at-most-append, at-most-longer, at-most-trans, compare-first, compare-nothing, compare-short}
 use Rattle.machine.proofs.PathLaw.{paths-fewer}
 use Rattle.machine.proofs.ProductLaw.{Onward, leads-undefined, leads-apart, leads-to}
@@ -326,10 +324,10 @@ module _ {m : Pair} {entries seen : List ℕ} {n h v : ℕ} where
         let k = entered-keeps entered h g.there in
         record { tree = tree-more cl few narrow g.tree g.there lx (e ∙ rw g.pair refl) together entered; there = k.0; pair = g.pair ∙ rw k.1 refl }
 
-    pub expanding-apart : {r : Led} → x < m.inputs → r ≡ leads m v x → r ≡ led.Apart → ExpandedOk m entries seen h (expanded.Apart x)
-    expanding-apart lx e q = (n, g.there, lx, g.tree, rw (← g.pair) (sym e ∙ q))
+    pub expanding-apart : {r : Led} → x < m.inputs → r ≡ leads m v x → r ≡ led.Apart → ExpandedOk m entries seen n h (Some x)
+    expanding-apart lx e q = (g.there, lx, g.tree, rw (← g.pair) (sym e ∙ q))
 
-    pub expanding-all : x ≡ m.inputs → ExpandedOk m entries seen h (expanded.Grown n)
+    pub expanding-all : x ≡ m.inputs → ExpandedOk m entries seen n h None
     expanding-all e = (g.there, tree-next cl few narrow h (rw e at g.tree))
 
 -- what the tree tells
@@ -470,22 +468,22 @@ Distinguished m r buf₀ buf = (r ≡ difference_of (compare_pair m)) × (buf �
 
 module _ {m : Pair} (cl : Closed m) (few : m.states ≤ 16) (narrow : m.inputs ≤ 16) (low : m.start < m.states) {entries seen : List ℕ} {h : ℕ} where
   -- an input of entry h shows another output
-  module _ {x : ℕ} (ok : ExpandedOk m entries seen h (expanded.Apart x)) where
-    found_here : compare_pair m ≡ some (ok.3.path h ++ x ∷ [])
-    found_here = tree-found cl few narrow ok.3 low h x refl ok.1 ok.2 ok.4
+  module _ {x n : ℕ} (ok : ExpandedOk m entries seen n h (Some x)) where
+    found_here : compare_pair m ≡ some (ok.2.path h ++ x ∷ [])
+    found_here = tree-found cl few narrow ok.2 low h x refl ok.0 ok.1 ok.3
 
-    pub way-there : Paths entries (h + 1) ok.3.path
-    way-there = paths-fewer (h + 1) (omega (arith, ok.1)) ok.3.paths
+    pub way-there : Paths entries (h + 1) ok.2.path
+    way-there = paths-fewer (h + 1) (omega (arith, ok.0)) ok.2.paths
 
-    pub way-short : length (ok.3.path h) < m.states * m.states
-    way-short = omega (arith, compare-short cl low _ found_here, length-append (ok.3.path h) (x ∷ []))
+    pub way-short : length (ok.2.path h) < m.states * m.states
+    way-short = omega (arith, compare-short cl low _ found_here, length-append (ok.2.path h) (x ∷ []))
 
     pub entry-low : h < 256
-    entry-low = omega (arith, ok.1, ok.3.sized.room)
+    entry-low = omega (arith, ok.0, ok.2.sized.room)
 
-    pub told-apart : {d : ℕ} (buf₀ : List ℕ) {buf : List ℕ} → (d ≡ length (ok.3.path h) + 1) × (buf ≡ overlay (ok.3.path h ++ x ∷ []) buf₀) → Distinguished m (difference.Shown d) buf₀ buf
-    told-apart buf₀ w = rw found_here (ap difference.Shown (w.0 ∙ sym (length-append (ok.3.path h) (x ∷ []))), w.1)
+    pub told-apart : {d : ℕ} (buf₀ : List ℕ) {buf : List ℕ} → (d ≡ length (ok.2.path h) + 1) × (buf ≡ overlay (ok.2.path h ++ x ∷ []) buf₀) → Distinguished m (Some d) buf₀ buf
+    told-apart buf₀ w = rw found_here (ap Some (w.0 ∙ sym (length-append (ok.2.path h) (x ∷ []))), w.1)
 
   -- all entries are expanded
-  pub told_none : {n : ℕ} {buf₀ buf : List ℕ} → Tree m entries seen n (16 * h) → h ≡ n → buf ≡ buf₀ → Distinguished m difference.Nothing buf₀ buf
+  pub told_none : {n : ℕ} {buf₀ buf : List ℕ} → Tree m entries seen n (16 * h) → h ≡ n → buf ≡ buf₀ → Distinguished m None buf₀ buf
   told_none t e same = rw (tree-full cl few narrow t low (ap (λ (i : ℕ). 16 * i) e)) (refl, same)

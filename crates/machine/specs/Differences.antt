@@ -1,9 +1,12 @@
 -- What the search for a difference answers.
+use Rattle.std.specs.Prelude.{Option as Maybe, Some, None}
 use Rattle.std.specs.Prelude.{ℕ, List, length}
 use Rattle.std.proofs.Math.Option.{Option, none, some}
-use Rattle.machine.specs.declared.product.Difference.{Difference}
-use Rattle.machine.specs.declared.product.Difference.TheVariants as difference
+
+-- nothing, or the length of a distinguishing sequence
+abbrev pub Difference : Type 0
+Difference = Maybe ℕ
 
 abbrev pub difference_of : Option (List ℕ) → Difference
-difference_of none = difference.Nothing
-difference_of (some xs) = difference.Shown (length xs)
+difference_of none = None
+difference_of (some xs) = Some (length xs)

@@ -1,12 +1,10 @@
 -- The tree of a search, breadth first, in the product of a specification and a machine. Entry i is a pair of states, with the link by
 -- which it was reached: the number of the entry before it, times 16, and the input.
-use Rattle.std.specs.Prelude.{ℕ, ◌+◌, ◌*◌, ◌/◌, ◌%◌, ◌≤◌, ◌<◌, ◌≡◌, ◌⊎◌, List, [], ◌∷◌, ◌++◌, eqb, length, get_or, set}
+use Rattle.std.specs.Prelude.{Option as Maybe, Some, None, ℕ, ◌+◌, ◌*◌, ◌/◌, ◌%◌, ◌≤◌, ◌<◌, ◌≡◌, ◌⊎◌, List, [], ◌∷◌, ◌++◌, eqb, length, get_or, set}
 use Rattle.lists.specs.Lists.{count}
 use Rattle.model.specs.Machine.{Pair}
 use Rattle.machine.specs.declared.product.Led.{Led}
 use Rattle.machine.specs.declared.product.Led.TheVariants as led
-use Rattle.machine.specs.declared.product.Expanded.{Expanded}
-use Rattle.machine.specs.declared.product.Expanded.TheVariants as expanded
 use Rattle.machine.specs.Product.{leads}
 
 abbrev pub pair_at : List ℕ → ℕ → ℕ
@@ -58,7 +56,6 @@ pub record Tree (m : Pair) (entries seen : List ℕ) (n at : ℕ) : Type 0 where
   pub done : (l : ℕ) → l < at → l % 16 < m.inputs → LinkSettled m entries n l
 
 -- entry h was expanded; or its input x shows another output, and the links before that are settled
-abbrev pub ExpandedOk : Pair → List ℕ → List ℕ → ℕ → Expanded → Type 0
-ExpandedOk m entries seen h (expanded.Grown n) = (h < n) × Tree m entries seen n (16 * (h + 1))
-ExpandedOk m entries seen h (expanded.Apart x) =
-    (n : ℕ) × (h < n) × (x < m.inputs) × Tree m entries seen n (16 * h + x) × (leads m (pair_at entries h) x ≡ led.Apart)
+abbrev pub ExpandedOk : Pair → List ℕ → List ℕ → ℕ → ℕ → Maybe ℕ → Type 0
+ExpandedOk m entries seen n h None = (h < n) × Tree m entries seen n (16 * (h + 1))
+ExpandedOk m entries seen n h (Some x) = (h < n) × (x < m.inputs) × Tree m entries seen n (16 * h + x) × (leads m (pair_at entries h) x ≡ led.Apart)

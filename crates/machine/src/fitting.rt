@@ -2,44 +2,35 @@
 ghost use Rattle.std.specs.Prelude.{◌≤◌, ◌≡◌, length};
 ghost use Rattle.sheet.specs.Sheet.{Sheet};
 ghost use Rattle.block.specs.Tabled.{Tabled};
-ghost use Rattle.machine.specs.Fits.{HighAt, fit_of};
+ghost use Rattle.machine.specs.Fits.{FirstHigh, fit_of};
 
-use block::{BLOCK, choices, slots, wide};
+use block::{BLOCK, choices, slots};
+use sheet::Refusal;
 
-// Whether bytes are a mutant of a sheet: 13 for another length, 14 for a choice that is too high.
-#[derive(Clone, Copy)]
-pub enum Fit {
-    Mutant,
-    Refused(u8, usize),
-}
-
-// The lowest index of a choice that is not below its number of choices; the mutant's length where there is none.
-fn first_high(block: &[u8; BLOCK], mutant: &[u8]) -> usize
+// The lowest index of a choice that is not below its number of choices.
+fn first_high(block: &[u8; BLOCK], mutant: &[u8]) -> Option<usize>
     requires { length mutant.now ≤ 32 }
-    ensures { HighAt block.now mutant.now result }
+    ensures { FirstHigh block.now mutant.now result }
 {
-    let mut i: usize = 0;
-    while i < mutant.len() {
-        if choices(block, i as u8) <= mutant[i] as u16 {
-            return i;
+    for (i, &c) in mutant.iter().enumerate() {
+        if choices(block, i as u8) <= u16::from(c) {
+            return Some(i);
         }
-        i += 1;
     }
-    i
+    None
 }
 
-// Whether the bytes are as many as the slots, and each is below its number of choices.
-pub fn fits(block: &[u8; BLOCK], mutant: &[u8]) -> Fit
+// Whether the bytes are a mutant of the sheet: refused with 13 for another length than that of the slots, 14 for a choice that is not
+// below its number of choices.
+pub fn fits(block: &[u8; BLOCK], mutant: &[u8]) -> Result<(), Refusal>
     requires { (sh : Sheet) × Tabled sh block.now }
     ensures { (sh : Sheet) → Tabled sh block.now → result ≡ fit_of sh mutant.now }
 {
-    let count = wide(slots(block));
-    if mutant.len() != count {
-        return Fit::Refused(13, 0);
+    if mutant.len() != usize::from(slots(block)) {
+        return Err(Refusal::new(13, 0));
     }
-    let high = first_high(block, mutant);
-    if high < count {
-        return Fit::Refused(14, high);
+    match first_high(block, mutant) {
+        Some(high) => Err(Refusal::new(14, high)),
+        None => Ok(()),
     }
-    Fit::Mutant
 }

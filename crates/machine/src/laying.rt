@@ -1,19 +1,19 @@
 // What a mutant does, laid out in tables: its output and next state at state * 16 + input.
-ghost use Rattle.std.specs.Prelude.{◌*◌, ◌/◌, ◌%◌, ◌<◌, ◌≡◌, length, get_or, replicate};
+ghost use Rattle.std.specs.Prelude.{◌*◌, ◌/◌, ◌%◌, ◌<◌, ◌≡◌, length, replicate};
 ghost use Rattle.sheet.specs.Sheet.{Sheet};
 ghost use Rattle.block.specs.Layout.{states_of};
 ghost use Rattle.block.specs.Tabulated.{Wf, step_of};
 ghost use Rattle.block.specs.Tabled.{Tabled};
 ghost use Rattle.machine.specs.Laid.{Chosen, as_move, Moves};
-ghost use Rattle.machine.specs.Fits.{Widened, Machined};
+ghost use Rattle.machine.specs.Fits.{Widened, MachinedBy};
 
-use crate::fitting::{Fit, fits};
-use block::{BLOCK, Step, choice_at, initial, inputs, states, transition, wide};
+use crate::fitting::fits;
+use block::{BLOCK, Step, choice_at, initial, inputs, states, transition};
+use sheet::Refusal;
 
-// Where a mutant starts, and what it does at each state and input; or why the bytes are no mutant of the sheet.
+// Where a mutant starts, and what it does at each state and input.
 #[derive(Clone, Copy)]
 pub struct Machine {
-    pub fit: Fit,
     pub start: u8,
     pub output: [u8; 256],
     pub target: [u8; 256],
@@ -24,7 +24,7 @@ fn act(block: &[u8; BLOCK], p: &[u16; 32], k: usize) -> Step
     requires { Wf block.now × Chosen block.now p.now × (k / 16 < states_of block.now) }
     ensures { as_move result ≡ step_of block.now p.now (k / 16) (k % 16) }
 {
-    if k % 16 >= wide(inputs(block)) {
+    if k % 16 >= usize::from(inputs(block)) {
         return Step {
             output: 0,
             target: 0,
@@ -40,13 +40,10 @@ pub fn lay(block: &[u8; BLOCK], p: &[u16; 32], outputs: &mut [u8; 256], targets:
     requires outputs_len { (length outputs.old ≡ 256) × (length targets.old ≡ 256) }
     ensures { Moves (step_of block.now p.now) outputs.new targets.new (16 * states_of block.now) }
 {
-    let n = wide(states(block));
-    let mut k: usize = 0;
-    while k < 16 * n {
+    for k in 0..16 * usize::from(states(block)) {
         let r = act(block, p, k);
         outputs[k] = r.output;
         targets[k] = r.target;
-        k += 1;
     }
 }
 
@@ -57,58 +54,31 @@ pub fn blank() -> [u8; 256]
     [0u8; 256]
 }
 
-fn no_choices() -> [u16; 32]
-    ensures { result ≡ replicate 32 0 }
-{
-    [0u16; 32]
-}
-
-// The byte at an index, 0 past the last.
-fn byte_at(bytes: &[u8], i: usize) -> u16
-    ensures { result ≡ get_or bytes.now i 0 }
-{
-    if i < bytes.len() {
-        return bytes[i] as u16;
-    }
-    0
-}
-
 // The first 32 bytes as choices.
 fn widened(bytes: &[u8]) -> [u16; 32]
     ensures { Widened bytes.now result }
 {
-    let mut p = no_choices();
-    let mut i: usize = 0;
-    while i < 32 {
-        p[i] = byte_at(bytes, i);
-        i += 1;
+    let mut p = [0u16; 32];
+    for i in 0..bytes.len().min(32) {
+        p[i] = u16::from(bytes[i]);
     }
     p
 }
 
-// The machine of the mutant with these bytes.
-pub fn machine_of(block: &[u8; BLOCK], mutant: &[u8]) -> Machine
+// The machine of the mutant with these bytes; or why they are no mutant of the sheet.
+pub fn machine_of(block: &[u8; BLOCK], mutant: &[u8]) -> Result<Machine, Refusal>
     requires { (sh : Sheet) × Tabled sh block.now }
-    ensures { (sh : Sheet) → Tabled sh block.now → Machined sh mutant.now result }
+    ensures { (sh : Sheet) → Tabled sh block.now → MachinedBy sh mutant.now result }
 {
+    fits(block, mutant)?;
     let p = widened(mutant);
     let start = initial(block, &p);
     let mut output = blank();
     let mut target = blank();
-    let fit = fits(block, mutant);
-    if let Fit::Refused(_, _) = fit {
-        return Machine {
-            fit,
-            start,
-            output,
-            target,
-        };
-    }
     lay(block, &p, &mut output, &mut target);
-    Machine {
-        fit,
+    Ok(Machine {
         start,
         output,
         target,
-    }
+    })
 }

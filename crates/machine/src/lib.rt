@@ -8,6 +8,6 @@ mod fitting;
 mod laying;
 mod product;
 
-pub use fitting::{Fit, fits};
+pub use fitting::fits;
 pub use laying::{Machine, blank, lay, machine_of};
 pub use product::{Difference, bound, distinguish};

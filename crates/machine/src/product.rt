@@ -1,5 +1,5 @@
 // Comparing the specification with a mutant laid out in tables: their product, pairs of a state of each, is searched breadth first.
-ghost use Rattle.std.specs.Prelude.{◌≡◌, List, [], ◌∷◌, ◌++◌, ℕ, ◌+◌, ◌*◌, ◌/◌, ◌%◌, ◌≤◌, ◌<◌, length, replicate};
+ghost use Rattle.std.specs.Prelude.{◌≡◌, List, [], ◌∷◌, ◌++◌, ℕ, ◌+◌, ◌*◌, ◌/◌, ◌%◌, ◌≤◌, ◌<◌, length};
 ghost use Rattle.lists.specs.Lists.{overlay};
 ghost use Rattle.model.specs.Compare.{compare_pair, found};
 ghost use Rattle.block.specs.Layout.{states_of, inputs_of};
@@ -7,15 +7,10 @@ ghost use Rattle.machine.specs.Product.{tables, Valid, leads};
 ghost use Rattle.machine.specs.Tree.{Spare, EnteredPair, Paths, Tree, ExpandedOk};
 ghost use Rattle.machine.specs.Differences.{difference_of};
 
-use crate::laying::blank;
-use block::{BLOCK, inputs, place, rule_output, rule_target, wide};
+use block::{BLOCK, inputs, place, rule_output, rule_target};
 
 // What tells a mutant from the specification: nothing, or a distinguishing sequence of this length.
-#[derive(Clone, Copy)]
-pub enum Difference {
-    Nothing,
-    Shown(usize),
-}
+pub type Difference = Option<usize>;
 
 // What an input does at a pair of states: it is not specified, shows another output, or leads to a pair.
 #[derive(Clone, Copy)]
@@ -23,13 +18,6 @@ pub(crate) enum Led {
     Undefined,
     Apart,
     To(u8),
-}
-
-// Where an expansion ends: at an input that shows another output, or with so many entries.
-#[derive(Clone, Copy)]
-pub(crate) enum Expanded {
-    Apart(u8),
-    Grown(usize),
 }
 
 // The longest that a shortest distinguishing sequence of n states can be.
@@ -58,12 +46,6 @@ fn lead(block: &[u8; BLOCK], outputs: &[u8; 256], targets: &[u8; 256], v: u8, x:
     Led::To(s * 16 + targets[b])
 }
 
-fn no_entries() -> [u32; 256]
-    ensures { result ≡ replicate 256 0 }
-{
-    [0u32; 256]
-}
-
 // An entry of the tree is a pair, with the link by which it was reached: the number of the entry before it, times 16, and the input.
 fn pair_of(entry: u32) -> u8
     ensures { result ≡ entry % 256 }
@@ -77,96 +59,94 @@ fn link_of(entry: u32) -> usize
     (entry / 256) as usize
 }
 
-// Enters the pair that a link leads to, if there is one that was not seen before. How many entries there are.
-fn enter(
-    entries: &mut [u32; 256],
-    seen: &mut [u8; 256],
-    count: usize,
-    link: usize,
-    led: Led,
-) -> usize
-    requires { Spare entries.old seen.old count × (link < 4096) }
-    ensures { EnteredPair entries.old seen.old count link led entries.new seen.new result }
-{
-    let Led::To(v) = led else {
-        return count;
-    };
-    let i = wide(v);
-    if seen[i] != 0 {
-        return count;
-    }
-    seen[i] = 1;
-    entries[count] = (256 * link + i) as u32;
-    count + 1
+// The tree of a search: its first `count` entries, and by pair whether it was seen.
+#[derive(Clone, Copy)]
+pub(crate) struct Search {
+    pub entries: [u32; 256],
+    pub seen: [u8; 256],
+    pub count: usize,
 }
 
-// Enters all pairs that entry h leads to, by ascending inputs, unless one shows another output.
-fn expand(
-    block: &[u8; BLOCK],
-    outputs: &[u8; 256],
-    targets: &[u8; 256],
-    entries: &mut [u32; 256],
-    seen: &mut [u8; 256],
-    count: usize,
-    h: usize,
-) -> Expanded
-    requires valid { Valid block.now targets.now × (h < count) }
-    requires by_index { (start : ℕ) × Tree (tables block.now start outputs.now targets.now) entries.old seen.old count (16 * h) }
-    ensures { (start : ℕ) → Tree (tables block.now start outputs.now targets.now) entries.old seen.old count (16 * h) → ExpandedOk (tables block.now start outputs.now targets.now) entries.new seen.new h result }
-{
-    let k = inputs(block);
-    let v = pair_of(entries[h]);
-    let mut n = count;
-    let mut x: u8 = 0;
-    while x < k {
-        let led = lead(block, outputs, targets, v, x);
-        if let Led::Apart = led {
-            return Expanded::Apart(x);
+impl Search {
+    // Enters the pair that a link leads to, if there is one that was not seen before.
+    fn enter(&mut self, link: usize, led: Led)
+        requires { Spare self.old.entries self.old.seen self.old.count × (link < 4096) }
+        ensures { EnteredPair self.old.entries self.old.seen self.old.count link led self.new.entries self.new.seen self.new.count }
+    {
+        let Led::To(v) = led else {
+            return;
+        };
+        let i = usize::from(v);
+        if self.seen[i] != 0 {
+            return;
         }
-        n = enter(entries, seen, n, 16 * h + wide(x), led);
-        x += 1;
+        self.seen[i] = 1;
+        self.entries[self.count] = (256 * link + i) as u32;
+        self.count += 1;
     }
-    Expanded::Grown(n)
-}
 
-// How many inputs lead to entry h.
-fn depth(entries: &[u32; 256], h: usize) -> usize
-    requires { (h < 256) × ((path : ℕ → List ℕ) × Paths entries.now (h + 1) path) }
-    ensures { (path : ℕ → List ℕ) → Paths entries.now (h + 1) path → result ≡ length (path h) }
-{
-    let mut n: usize = 0;
-    let mut i = h;
-    while i > 0 {
-        i = link_of(entries[i]) / 16;
-        n += 1;
+    // Enters all pairs that entry h leads to, by ascending inputs, up to the first input that shows another output.
+    fn expand(
+        &mut self,
+        block: &[u8; BLOCK],
+        outputs: &[u8; 256],
+        targets: &[u8; 256],
+        h: usize,
+    ) -> Option<u8>
+        requires valid { Valid block.now targets.now × (h < self.old.count) }
+        requires by_index { (start : ℕ) × Tree (tables block.now start outputs.now targets.now) self.old.entries self.old.seen self.old.count (16 * h) }
+        ensures { (start : ℕ) → Tree (tables block.now start outputs.now targets.now) self.old.entries self.old.seen self.old.count (16 * h) → ExpandedOk (tables block.now start outputs.now targets.now) self.new.entries self.new.seen self.new.count h result }
+    {
+        let k = inputs(block);
+        let v = pair_of(self.entries[h]);
+        for x in 0..k {
+            let led = lead(block, outputs, targets, v, x);
+            if let Led::Apart = led {
+                return Some(x);
+            }
+            self.enter(16 * h + usize::from(x), led);
+        }
+        None
     }
-    n
-}
 
-// Writes the inputs that lead to entry h, and x after them, at the buffer's front: from the last on. How many they are.
-fn write_path(entries: &[u32; 256], h: usize, x: u8, buf: &mut [u8]) -> usize
-    requires { (h < 256) × ((path : ℕ → List ℕ) × Paths entries.now (h + 1) path × (length (path h) < length buf.old)) }
-    ensures { (path : ℕ → List ℕ) → Paths entries.now (h + 1) path → (result ≡ length (path h) + 1) × (buf.new ≡ overlay (path h ++ x ∷ []) buf.old) }
-{
-    let d = depth(entries, h);
-    buf[d] = x;
-    let mut i = h;
-    let mut n = d;
-    while n > 0 {
-        n -= 1;
-        let link = link_of(entries[i]);
-        buf[n] = (link % 16) as u8;
-        i = link / 16;
+    // How many inputs lead to entry h.
+    fn depth(&self, h: usize) -> usize
+        requires { (h < 256) × ((path : ℕ → List ℕ) × Paths self.now.entries (h + 1) path) }
+        ensures { (path : ℕ → List ℕ) → Paths self.now.entries (h + 1) path → result ≡ length (path h) }
+    {
+        let mut n: usize = 0;
+        let mut i = h;
+        // stays: the entry before is the one that the link names
+        while i > 0 {
+            i = link_of(self.entries[i]) / 16;
+            n += 1;
+        }
+        n
     }
-    d + 1
+
+    // Writes the inputs that lead to entry h, and x after them, at the buffer's front: from the last on. How many they are.
+    fn write_path(&self, h: usize, x: u8, buf: &mut [u8]) -> usize
+        requires { (h < 256) × ((path : ℕ → List ℕ) × Paths self.now.entries (h + 1) path × (length (path h) < length buf.old)) }
+        ensures { (path : ℕ → List ℕ) → Paths self.now.entries (h + 1) path → (result ≡ length (path h) + 1) × (buf.new ≡ overlay (path h ++ x ∷ []) buf.old) }
+    {
+        let d = self.depth(h);
+        buf[d] = x;
+        let mut i = h;
+        for n in (0..d).rev() {
+            let link = link_of(self.entries[i]);
+            buf[n] = (link % 16) as u8;
+            i = link / 16;
+        }
+        d + 1
+    }
 }
 
 // Conforming, or the shortest, then smallest, distinguishing sequence, written at the front of buf. Entries are expanded in the order in
 // which they were made, so the first input that shows another output ends that sequence.
-pub fn distinguish<'a, 'b>(
-    block: &'a [u8; BLOCK],
-    outputs: &'b [u8; 256],
-    targets: &'b [u8; 256],
+pub fn distinguish(
+    block: &[u8; BLOCK],
+    outputs: &[u8; 256],
+    targets: &[u8; 256],
     start: u8,
     buf: &mut [u8],
 ) -> Difference
@@ -176,20 +156,19 @@ pub fn distinguish<'a, 'b>(
     ensures value { result ≡ difference_of (compare_pair (tables block.now start outputs.now targets.now)) }
     ensures buf_after { buf.new ≡ overlay (found (compare_pair (tables block.now start outputs.now targets.now))) buf.old }
 {
-    let mut entries = no_entries();
-    let mut seen = blank();
-    let mut count = enter(&mut entries, &mut seen, 0, 0, Led::To(start));
+    let mut search = Search {
+        entries: [0u32; 256],
+        seen: [0u8; 256],
+        count: 0,
+    };
+    search.enter(0, Led::To(start));
     let mut h: usize = 0;
-    while h < count {
-        match expand(block, outputs, targets, &mut entries, &mut seen, count, h) {
-            Expanded::Apart(x) => {
-                return Difference::Shown(write_path(&entries, h, x, buf));
-            }
-            Expanded::Grown(n) => {
-                count = n;
-                h += 1;
-            }
+    // stays: there are more entries after each expansion
+    while h < search.count {
+        if let Some(x) = search.expand(block, outputs, targets, h) {
+            return Some(search.write_path(h, x, buf));
         }
+        h += 1;
     }
-    Difference::Nothing
+    None
 }

@@ -1,4 +1,5 @@
 -- From survivor to survivor.
+use Rattle.std.specs.Prelude.{Option as Maybe, Some, None, Result as Answer, Ok, Err, IsOk, IsErr}
 use Prim.Native.Nat.{ℕ, zero, suc, ◌+◌, ◌*◌, ◌≤◌, ◌<◌}
 use native.Mathlib.Nat.{mul-le-mul}
 use native.Mathlib.Omega.{arith}
@@ -11,7 +12,7 @@ use lib.ListN.{length, take, replicate, length-append}
 use Rattle.lists.specs.laws.TestLaw.{never}
 use Rattle.sheet.specs.Sheet.{Sheet}
 use Rattle.sheet.specs.Encode.{encode}
-use Rattle.sheet.specs.Reading.{Result}
+use Rattle.sheet.specs.Reading.{Result, refused}
 use Rattle.model.specs.Machine.{DistinguishesFrom}
 use Rattle.model.specs.Suite.{survivor, judge_of}
 use Rattle.model.specs.Log.{Observation, reset, test_log}
@@ -26,22 +27,27 @@ use Rattle.block.specs.Layout.{states_of}
 use Rattle.block.specs.Tabulated.{Wf}
 use Rattle.block.specs.laws.TabledLaw.{well-formed}
 use Rattle.cubes.specs.declared.goal.Goal.TheVariants.{Nonconforming}
-use Rattle.refutation.specs.Lent.{StoreOk}
+use Rattle.refutation.specs.Lent.{StoreOk, Entry}
 use Rattle.refutation.specs.Refuting.{Ready}
 use Rattle.search.specs.Search.{ForSheet, mutant_in}
 use Rattle.clearing.specs.Sweep.{AllCleared, Swept}
 use Rattle.clearing.specs.Looking.{Found}
 use Rattle.clearing.specs.laws.SurvivorLaw.{survivor-judged, swept-first}
-use Rattle.sweep.specs.declared.Outcome.{Outcome}
-use Rattle.sweep.specs.declared.Outcome.TheVariants as outcome
+use Rattle.search.specs.declared.settle.GaveUp.{GaveUp}
 use Rattle.sweep.specs.Outcomes.{OutcomeOk}
 use Rattle.sweep.specs.laws.GrowingLaw.{swept-longer, store-longer}
 use Rattle.making.specs.declared.grow.Growth.{Growth}
-use Rattle.making.specs.declared.grow.Next.TheVariants as next
-use Rattle.making.specs.declared.grow.State.{State}
-use Rattle.making.specs.declared.grow.State.TheVariants as state
-use Rattle.making.specs.words.Growing.{Held, Fits, GrowingIn, Reached, fitting, next_of, ended_in, longer_by}
+use Rattle.making.specs.words.Growing.{Held, Fits, GrowingIn, Complete, fitting, longer_by}
 use Rattle.making.proofs.AppendLaw.{suite-longer, encode-long, body-length}
+
+-- ---- what a sweep answers that does not give up
+pub found_out : {A E : Type 0} (r : Answer A E) → (IsErr r → ⊥) → IsOk r
+found_out (Ok a) h = refl
+found_out (Err e) h = absurd (h refl)
+
+pub none-left : (o : Maybe ℕ) → ((d : ℕ) → o ≡ Some d → ⊥) → o ≡ None
+none-left None h = refl
+none-left (Some d) h = absurd (h d refl)
 
 -- ---- whether a test fits
 fits-means : (room end d : ℕ) → fitting room end d ≡ true → (0 < room) × (end + 2 + 2 * d ≤ 16384)
@@ -61,7 +67,7 @@ pub record At (result : Result Grown) (m bytes log p blame : List ℕ) (g : Grow
 
 module _ {result : Result Grown} {m bytes log p blame : List ℕ} {g : Growth} (at : At result m bytes log p blame g) where
   -- the suite is complete
-  pub complete-at : AllCleared at.sheet → Reached state.Complete result m bytes log g
+  pub complete-at : AllCleared at.sheet → Complete result bytes g.end g.appended
   complete-at all =
       record {
         sheet = at.sheet;
@@ -82,7 +88,7 @@ module _ {result : Result Grown} {m bytes log p blame : List ℕ} {g : Growth} (
     long-then = omega (arith, encode-longer at.sheet found.inputs, encode-long at.sheet, body-length at.growing.held, found.long)
 
     -- its sequence does not fit
-    full_at : fitting g.room g.end d ≡ false → Reached state.Full result m bytes log g
+    pub full_at : fitting g.room g.end d ≡ false → result ≡ refused 18 0
     full_at e =
         at.growing.leads
         ∙ grow-full g.room g.appended at.sheet (mutant_in at.sheet p) found.inputs judged
@@ -130,21 +136,21 @@ module _ {result : Result Grown} {m bytes log p blame : List ℕ} {g : Growth} (
             }
 
         -- what is stored stays true
-        pub store-more : {store : List ℕ} → StoreOk Nonconforming m (take g.observed log) store → StoreOk Nonconforming m (take observed log') store
+        pub store-more : {store : List Entry} → StoreOk Nonconforming m (take g.observed log) store → StoreOk Nonconforming m (take observed log') store
         store-more ok =
             store-longer (reset ∷ test_log (rule at.sheet) 0 found.inputs)
             (held_then.suite.suite ∙ suite-longer at.sheet found.inputs ∙ ap (λ (l : List Observation). l ++ (reset ∷ test_log (rule at.sheet) 0 found.inputs)) (sym at.growing.held.suite.suite)) ok
 
 -- ---- the loop
 -- of every sheet that grows so, and there is one; the facts and what is stored; and how long everything is
-pub record Turning (m store₀ notes₀ bytes₀ log₀ : List ℕ) (from : Growth) (facts store notes bytes log p blame sequence : List ℕ) (g : Growth) : Type 0 where
+pub record Turning (m : List ℕ) (r : Bool) (store₀ : List Entry) (bytes₀ log₀ : List ℕ) (from : Growth) (facts : List ℕ) (store : List Entry) (notes bytes log p blame sequence : List ℕ) (g : Growth) : Type 0 where
   pub some : (result : Result Grown) × At result m bytes log p blame g
   pub each : (result : Result Grown) (sh : Sheet) → GrowingIn result sh m bytes₀ log₀ from → At result m bytes log p blame g
   pub facts-long : length facts ≡ 1088
-  pub ready : 34 ≤ length store₀ → Ready m facts
+  pub ready : r ≡ true → Ready m facts
   pub ok : StoreOk Nonconforming m (take g.observed log) store
   pub same_store : length store ≡ length store₀
-  pub same-notes : length notes ≡ length notes₀
+  pub notes-long : length notes ≡ 9856
   pub same_bytes : length bytes ≡ length bytes₀
   pub same_log : length log ≡ length log₀
   pub long : length sequence ≡ 256
@@ -152,11 +158,11 @@ pub record Turning (m store₀ notes₀ bytes₀ log₀ : List ℕ) (from : Grow
 at_first : {result : Result Grown} {sh : Sheet} {m bytes log p blame : List ℕ} {g : Growth} → GrowingIn result sh m bytes log g → p ≡ replicate 32 0 → blame ≡ replicate 32 0 → At result m bytes log p blame g
 at_first {sh = sh} gr ep eb = record { sheet = sh; growing = gr; swept = rw (ep, eb) (swept-first gr.held.suite.tabled) }
 
-pub turning-start : {m facts store notes bytes log p blame sequence : List ℕ} {g : Growth} →
+pub turning-start : {m facts notes bytes log p blame sequence : List ℕ} {r : Bool} {store : List Entry} {g : Growth} →
     ((result : Result Grown) × (sh : Sheet) × GrowingIn result sh m bytes log g) × (length facts ≡ 1088) →
-    (34 ≤ length store → Ready m facts) × StoreOk Nonconforming m (take g.observed log) store →
-    p ≡ replicate 32 0 → blame ≡ replicate 32 0 → length sequence ≡ 256 → Turning m store notes bytes log g facts store notes bytes log p blame sequence g
-turning-start pre kept ep eb l =
+    (r ≡ true → Ready m facts) × StoreOk Nonconforming m (take g.observed log) store →
+    length notes ≡ 9856 → p ≡ replicate 32 0 → blame ≡ replicate 32 0 → length sequence ≡ 256 → Turning m r store bytes log g facts store notes bytes log p blame sequence g
+turning-start pre kept ln ep eb l =
     record {
       some = (pre.0.0, at_first pre.0.2 ep eb);
       each = λ result sh gr. at_first gr ep eb;
@@ -164,75 +170,39 @@ turning-start pre kept ep eb l =
       ready = kept.0;
       ok = kept.1;
       same_store = refl;
-      same-notes = refl;
+      notes-long = ln;
       same_bytes = refl;
       same_log = refl;
       long = l;
     }
 
 -- what a sweep finds, of each sheet
-abbrev pub Sweeps : List ℕ → List ℕ → List ℕ → List ℕ → Outcome → List ℕ → List ℕ → List ℕ → Type 0
+abbrev pub Sweeps : List ℕ → List ℕ → List ℕ → List ℕ → Answer (Maybe ℕ) GaveUp → List ℕ → List ℕ → List ℕ → Type 0
 Sweeps m log p blame o p' blame' buffer = (sh : Sheet) → ForSheet sh m log → Swept sh m p blame → OutcomeOk sh m o p' blame' buffer
 
 -- a survivor, with what tells it from the specification
 pub at-survivor : {result : Result Grown} {m bytes log p blame p' blame' buffer : List ℕ} {g : Growth} {d : ℕ} → (at : At result m bytes log p blame g) →
-    Sweeps m (take g.observed log) p blame (outcome.Survivor d) p' blame' buffer → (then : At result m bytes log p' blame' g) × Found then.sheet (mutant_in then.sheet p') d buffer
+    Sweeps m (take g.observed log) p blame (Ok (Some d)) p' blame' buffer → (then : At result m bytes log p' blame' g) × Found then.sheet (mutant_in then.sheet p') d buffer
 at-survivor at sw =
     let s = sw at.sheet at.growing.held.suite at.swept in
     (record { sheet = at.sheet; growing = at.growing; swept = s.0 }, s.1)
-
--- no test is appended
-pub reached-end : {result : Result Grown} {m bytes log p blame : List ℕ} {g : Growth} (p' blame' buffer : List ℕ) (o : Outcome) (s : State) → next_of o g.room g.end ≡ next.Ends s →
-    At result m bytes log p blame g → Sweeps m (take g.observed log) p blame o p' blame' buffer → Reached s result m bytes log (ended_in g s)
-reached-end p' blame' buffer outcome.Nothing s e at sw = let same : state.Complete ≡ s = cc in rw (← same) (complete-at at (sw at.sheet at.growing.held.suite at.swept))
-reached-end p' blame' buffer outcome.GaveUp s e at sw = let same : state.Unknown ≡ s = cc in rw (← same) (at.sheet, at.growing)
-reached-end {result} {m} {bytes} {log} {g = g} p' blame' buffer (outcome.Survivor d) s e at sw = go (fitting g.room g.end d) refl e
-  where
-    go : (b : Bool) → fitting g.room g.end d ≡ b → cond b (next.Appends d) (next.Ends state.Full) ≡ next.Ends s → Reached s result m bytes log (ended_in g s)
-    go true ef en = never (cc)
-    go false ef en = let same : state.Full ≡ s = cc in let z = at-survivor at sw in rw (← same) (full_at z.0 z.1 ef)
-
-pub gives_up : (o : Outcome) (room end : ℕ) → next_of o room end ≡ next.Ends state.Unknown → o ≡ outcome.GaveUp
-gives_up outcome.Nothing room end e = never (cc)
-gives_up outcome.GaveUp room end e = refl
-gives_up (outcome.Survivor d) room end e = go (fitting room end d) e
-  where
-    go : (b : Bool) → cond b (next.Appends d) (next.Ends state.Full) ≡ next.Ends state.Unknown → outcome.Survivor d ≡ outcome.GaveUp
-    go true en = never (cc)
-    go false en = never (cc)
-
--- one is, of a survivor's sequence
-pub appends : (o : Outcome) (room end d : ℕ) → next_of o room end ≡ next.Appends d → (o ≡ outcome.Survivor d) × (fitting room end d ≡ true)
-appends outcome.Nothing room end d e = never (cc)
-appends outcome.GaveUp room end d e = never (cc)
-appends (outcome.Survivor k) room end d e = go (fitting room end k) refl e
-  where
-    go : (b : Bool) → fitting room end k ≡ b → cond b (next.Appends k) (next.Ends state.Full) ≡ next.Appends d → (outcome.Survivor k ≡ outcome.Survivor d) × (fitting room end d ≡ true)
-    go true ef en = let same : k ≡ d = cc in (ap outcome.Survivor same, rw (← same) ef)
-    go false ef en = never (cc)
-
-pub next-appends : {o : Outcome} {b : Bool} (room end d : ℕ) → o ≡ outcome.Survivor d → b ≡ fitting room end d → b ≡ true → next.Appends d ≡ next_of o room end
-next-appends room end d eo ef eb = rw (eo, sym ef ∙ eb) refl
-
-pub next-full : {o : Outcome} {b : Bool} (room end d : ℕ) → o ≡ outcome.Survivor d → b ≡ fitting room end d → b ≡ false → next.Ends state.Full ≡ next_of o room end
-next-full room end d eo ef eb = rw (eo, sym ef ∙ eb) refl
 
 -- ---- a test is appended
 -- what `append` promises
 abbrev pub Appends : List ℕ → List ℕ → List ℕ → List ℕ → ℕ → ℕ → List ℕ → List ℕ → ℕ → Type 0
 Appends xs m bytes log end n bytes' log' r = (sh : Sheet) → Held sh m bytes log end n → Fits sh xs end → Held (with_test sh xs) m bytes' log' (end + 1 + 2 * length xs) r
 
-module _ {m store₀ notes₀ bytes₀ log₀ : List ℕ} {from : Growth} {facts store notes bytes log p blame sequence : List ℕ} {g : Growth}
-    (ti : Turning m store₀ notes₀ bytes₀ log₀ from facts store notes bytes log p blame sequence g) where
+module _ {m bytes₀ log₀ : List ℕ} {r : Bool} {store₀ store : List Entry} {from : Growth} {facts notes bytes log p blame sequence : List ℕ} {g : Growth}
+    (ti : Turning m r store₀ bytes₀ log₀ from facts store notes bytes log p blame sequence g) where
   here : At ti.some.0 m bytes log p blame g
   here = ti.some.1
 
   -- what a sweep asks
   pub sweep-asks : (((sh : Sheet) × ForSheet sh m (take g.observed log) × Swept sh m p blame) × (states_of m * states_of m ≤ length sequence))
-      × ((34 ≤ length store → Ready m facts) × StoreOk Nonconforming m (take g.observed log) store)
+      × ((r ≡ true → Ready m facts) × StoreOk Nonconforming m (take g.observed log) store)
   sweep-asks =
       let few : states_of m ≤ 16 = omega (arith, here.growing.held.suite.tabled.states, here.growing.held.suite.tabled.formed.size.states.few) in
-      (((here.sheet, here.growing.held.suite, here.swept), omega (arith, mul-le-mul few few, ti.long)), (λ l. ti.ready (omega (arith, l, ti.same_store)), ti.ok))
+      (((here.sheet, here.growing.held.suite, here.swept), omega (arith, mul-le-mul few few, ti.long)), (ti.ready, ti.ok))
 
   pub log-inside : g.observed ≤ length log
   log-inside = here.growing.held.inside
@@ -240,48 +210,53 @@ module _ {m store₀ notes₀ bytes₀ log₀ : List ℕ} {from : Growth} {facts
   pub block-formed : Wf m
   block-formed = well-formed here.growing.held.suite.tabled
 
-  module _ (o : Outcome) (p' blame' sequence' : List ℕ) (sw : Sweeps m (take g.observed log) p blame o p' blame' sequence') where
-    found_here : {d : ℕ} → o ≡ outcome.Survivor d → (then : At ti.some.0 m bytes log p' blame' g) × Found then.sheet (mutant_in then.sheet p') d sequence'
-    found_here e = at-survivor here (rw e at sw)
+  module _ {o : Answer (Maybe ℕ) GaveUp} (p' blame' sequence' : List ℕ) (sw : Sweeps m (take g.observed log) p blame o p' blame' sequence') where
+    -- there is no survivor
+    pub completes : o ≡ Ok None → {result : Result Grown} → At result m bytes log p blame g → Complete result bytes g.end g.appended
+    completes e at = let none = rw e at sw in complete-at at (none at.sheet at.growing.held.suite at.swept)
 
-    pub follow-asks : (g.end ≤ 16384) × ((d : ℕ) → o ≡ outcome.Survivor d → d ≤ 256)
-    follow-asks = (omega (arith, here.growing.held.short), λ d e. let z = found_here e in short-at z.0 z.1)
+    -- there is one
+    module _ {d : ℕ} (e : o ≡ Ok (Some d)) where
+      found-at : {result : Result Grown} → At result m bytes log p blame g → (then : At result m bytes log p' blame' g) × Found then.sheet (mutant_in then.sheet p') d sequence'
+      found-at at = let one = rw e at sw in at-survivor at one
 
-    module _ {d : ℕ} (en : next_of o g.room g.end ≡ next.Appends d) where
-      is : (o ≡ outcome.Survivor d) × (fitting g.room g.end d ≡ true)
-      is = appends o g.room g.end d en
+      pub fits-asks : (g.end ≤ 16384) × (d ≤ 256)
+      fits-asks = let z = found-at here in (omega (arith, here.growing.held.short), short-at z.0 z.1)
 
-      pub few-inputs : d ≤ 256
-      few-inputs = follow-asks.1 d is.0
+      -- its sequence does not fit
+      pub no_room : fitting g.room g.end d ≡ false → {result : Result Grown} → At result m bytes log p blame g → result ≡ refused 18 0
+      no_room ef at = let z = found-at at in full_at z.0 z.1 ef
 
-      pub append-asks : (sh : Sheet) × Held sh m bytes log g.end g.observed × Fits sh (take d sequence') g.end
-      append-asks = let z = found_here is.0 in (z.0.sheet, z.0.growing.held, fits-at z.0 z.1 is.1)
+      -- it fits
+      module _ (ef : fitting g.room g.end d ≡ true) where
+        pub append-asks : (sh : Sheet) × Held sh m bytes log g.end g.observed × Fits sh (take d sequence') g.end
+        append-asks = let z = found-at here in (z.0.sheet, z.0.growing.held, fits-at z.0 z.1 ef)
 
-      pub longer-asks : (0 < g.room) × (g.end + 1 + 2 * d < 16384) × (g.appended + g.room ≤ 256)
-      longer-asks = let f = fits-means g.room g.end d is.1 in (f.0, omega (arith, f.1), here.growing.few)
+        pub longer-asks : (0 < g.room) × (g.end + 1 + 2 * d < 16384) × (g.appended + g.room ≤ 256)
+        longer-asks = let f = fits-means g.room g.end d ef in (f.0, omega (arith, f.1), here.growing.few)
 
-      -- the next turn
-      module _ (facts' store' notes' bytes' log' : List ℕ) (observed : ℕ) (ap : Appends (take d sequence') m bytes log g.end g.observed bytes' log' observed) where
-        more-at : {result : Result Grown} → At result m bytes log p blame g → At result m bytes' log' p' blame' (longer_by g d observed)
-        more-at at =
-            let z = at-survivor at (rw is.0 at sw) in
-            at_more z.0 z.1 is.1 (ap z.0.sheet z.0.growing.held (fits-at z.0 z.1 is.1))
+        -- the next turn
+        module _ (facts' : List ℕ) (store' : List Entry) (notes' bytes' log' : List ℕ) (observed : ℕ) (ap : Appends (take d sequence') m bytes log g.end g.observed bytes' log' observed) where
+          more-at : {result : Result Grown} → At result m bytes log p blame g → At result m bytes' log' p' blame' (longer_by g d observed)
+          more-at at =
+              let z = found-at at in
+              at_more z.0 z.1 ef (ap z.0.sheet z.0.growing.held (fits-at z.0 z.1 ef))
 
-        pub turning-more : (g' : Growth) → g' ≡ longer_by g d observed → (length facts' ≡ 1088) × ((m' : List ℕ) → Ready m' facts → Ready m' facts') →
-            StoreOk Nonconforming m (take g.observed log) store' → length store' ≡ length store → length notes' ≡ length notes → length bytes' ≡ length bytes → length log' ≡ length log →
-            length sequence' ≡ length sequence → Turning m store₀ notes₀ bytes₀ log₀ from facts' store' notes' bytes' log' p' blame' sequence' g'
-        turning-more g' eg fs ok es en eb el eq =
-            subst (λ (x : Growth). Turning m store₀ notes₀ bytes₀ log₀ from facts' store' notes' bytes' log' p' blame' sequence' x) (sym eg)
-            (let z = found_here is.0 in
-            record {
-              some = (ti.some.0, more-at here);
-              each = λ result sh gr. more-at (ti.each result sh gr);
-              facts-long = fs.0;
-              ready = λ l. fs.1 m (ti.ready l);
-              ok = store-more z.0 z.1 is.1 (ap z.0.sheet z.0.growing.held (fits-at z.0 z.1 is.1)) ok;
-              same_store = es ∙ ti.same_store;
-              same-notes = en ∙ ti.same-notes;
-              same_bytes = eb ∙ ti.same_bytes;
-              same_log = el ∙ ti.same_log;
-              long = eq ∙ ti.long;
-            })
+          pub turning-more : {g' : Growth} → g' ≡ longer_by g d observed → (length facts' ≡ 1088) × ((m' : List ℕ) → Ready m' facts → Ready m' facts') →
+              StoreOk Nonconforming m (take g.observed log) store' → length store' ≡ length store → length notes' ≡ length notes → length bytes' ≡ length bytes → length log' ≡ length log →
+              length sequence' ≡ length sequence → Turning m r store₀ bytes₀ log₀ from facts' store' notes' bytes' log' p' blame' sequence' g'
+          turning-more {g'} eg fs ok es en eb el eq =
+              subst (λ (x : Growth). Turning m r store₀ bytes₀ log₀ from facts' store' notes' bytes' log' p' blame' sequence' x) (sym eg)
+              (let z = found-at here in
+              record {
+                some = (ti.some.0, more-at here);
+                each = λ result sh gr. more-at (ti.each result sh gr);
+                facts-long = fs.0;
+                ready = λ l. fs.1 m (ti.ready l);
+                ok = store-more z.0 z.1 ef (ap z.0.sheet z.0.growing.held (fits-at z.0 z.1 ef)) ok;
+                same_store = es ∙ ti.same_store;
+                notes-long = en ∙ ti.notes-long;
+                same_bytes = eb ∙ ti.same_bytes;
+                same_log = el ∙ ti.same_log;
+                long = eq ∙ ti.long;
+              })

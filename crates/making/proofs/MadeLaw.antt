@@ -1,4 +1,5 @@
 -- From an accepted sheet to the answer.
+use Rattle.std.specs.Prelude.{Ok, Err}
 use Prim.Native.Nat.{ℕ, ◌-◌, ◌≤◌, ◌<◌}
 use native.Mathlib.Omega.{arith}
 use mathlib.Core.Path.{◌≡◌, refl, sym, ◌∙◌, ap, subst}
@@ -9,28 +10,20 @@ use lib.ListN.{length, take, drop}
 use lib.Seq.{length-take-le, take_at, take-take}
 use Rattle.lists.specs.Lists.{overlay}
 use Rattle.lists.specs.laws.TestLaw.{never}
-use Rattle.sheet.specs.declared.Reading.{Reading as ReadAnswer}
-use Rattle.sheet.specs.declared.Reading.TheVariants as read
 use Rattle.sheet.specs.Sheet.{Sheet}
 use Rattle.sheet.specs.Encode.{body, encode}
 use Rattle.sheet.specs.Reading.{Result, accepted, refused, Reading, reading}
-use Rattle.sheet.specs.Tables.{read_answer}
+use Rattle.sheet.specs.declared.Refusal.{Refusal}
+use Rattle.sheet.specs.Tables.{refusal_of}
 use Rattle.writing.specs.words.Spelled.{Spelled}
 use Rattle.writing.proofs.laws.SpelledLaw.{spelled-front}
 use Rattle.model.specs.Making.{Grown, grow_from, make_on, making, MadeMeans}
 use Rattle.model.proofs.laws.MakingLaw.{made_told}
 use Rattle.block.specs.Tabled.{ReadFrom}
-use Rattle.block.specs.laws.OpenedLaw.{closed-by}
-use Rattle.cubes.specs.declared.goal.Goal.{Goal}
 use Rattle.logs.specs.Suites.{Logged}
-use Rattle.refutation.specs.Lent.{StoreOk}
 use Rattle.making.specs.declared.Made.{Made}
-use Rattle.making.specs.declared.Made.TheVariants as made
-use Rattle.making.specs.declared.grow.Growth.{Growth}
-use Rattle.making.specs.declared.grow.State.{State}
-use Rattle.making.specs.declared.grow.State.TheVariants as state
-use Rattle.making.specs.Answers.{Makes, MadeSays, ToldMade}
-use Rattle.making.specs.words.Growing.{Growing, Complete, Reached, Finished}
+use Rattle.making.specs.Answers.{MadeAnswer, Makes, MadeSays, ToldMade}
+use Rattle.making.specs.words.Growing.{Growing, Complete}
 use Rattle.making.proofs.AppendLaw.{encode-long}
 
 -- ---- the start
@@ -69,16 +62,6 @@ module _ {sh : Sheet} {s starts lengths m : List ℕ} {tests : ℕ} (rd : ReadFr
         };
       }
 
--- ---- how it grows
--- there is no entry in a short store
-pub short-store : {goal : Goal} {m log store : List ℕ} → length store < 34 → StoreOk goal m log store
-short-store l = record { at = λ e fits. absurd (omega (arith, fits)) }
-
-pub finished : (s : State) (result : Result Grown) (m bytes log : List ℕ) (g : Growth) → (s ≡ state.Unknown → ⊥) → Reached s result m bytes log g → Finished s result bytes g
-finished state.Complete result m bytes log g not h = h
-finished state.Full result m bytes log g not h = h
-finished state.Unknown result m bytes log g not h = absurd (not refl)
-
 -- ---- the end
 pub made_inside : {result : Result Grown} {bytes : List ℕ} {end appended : ℕ} → Complete result bytes end appended → end ≤ length bytes
 made_inside c = omega (arith, c.short, c.long)
@@ -87,25 +70,20 @@ pub made-long : {result : Result Grown} {bytes : List ℕ} {end appended : ℕ} 
 made-long {bytes = bytes} {end = end} c = omega (arith, length-take-le end bytes (made_inside c), c.short)
 
 pub makes-whole : {result : Result Grown} {bytes old new : List ℕ} {end len appended : ℕ} → Complete result bytes end appended → Spelled old new 0 len (take end bytes ++ 6 ∷ []) →
-    Makes result (made.Done len appended) old new
+    Makes result (Ok (record { length = len; appended = appended })) old new
 unfolding encode
 makes-whole {result} {bytes} {old} {new} {end} {len} {appended} c sp =
     let whole : take end bytes ++ 6 ∷ [] ≡ encode c.sheet = ap (λ (l : List ℕ). l ++ 6 ∷ []) c.spelled in
     let long : len ≡ length (encode c.sheet) = omega (arith, sp.many, ap length whole) in
     record { answer = rw (c.is, long) refl; bytes = rw c.is (spelled-front sp ∙ ap (λ (l : List ℕ). overlay l old) whole) }
 
-pub finished-full : (s : State) (result : Result Grown) (bytes : List ℕ) (g : Growth) → (s ≡ state.Full) ⊎ (s ≡ state.Unknown) → Finished s result bytes g → result ≡ refused 18 0
-finished-full state.Complete result bytes g (inl e) f = absurd (cc)
-finished-full state.Complete result bytes g (inr e) f = absurd (cc)
-finished-full state.Full result bytes g h f = f
-finished-full state.Unknown result bytes g h f = absurd f
-
-pub makes_none : {result : Result Grown} {old : List ℕ} → result ≡ refused 18 0 → Makes result (made.Refused 18 0) old old
-makes_none e = record { answer = rw e refl; bytes = rw e refl }
+-- it does not fit
+pub makes_none : {result : Result Grown} {why : Refusal} (old : List ℕ) → (result ≡ refused 18 0) × (why ≡ refusal_of 18 0) → Makes result (Err why) old old
+makes_none old (e, w) = record { answer = rw (e, w) refl; bytes = rw e refl }
 
 -- ---- the buffer
 module _ (sh : Sheet) (old : List ℕ) where
-  pub makes-short : length old < 16384 → Makes (make_on sh (length old)) (made.Refused 16 0) old old
+  pub makes-short : length old < 16384 → Makes (make_on sh (length old)) (Err (refusal_of 16 0)) old old
   unfolding make_on
   makes-short l = let h = lt-ltb (length old) 16384 l in record { answer = rw h refl; bytes = rw h refl }
 
@@ -113,29 +91,27 @@ module _ (sh : Sheet) (old : List ℕ) where
   unfolding make_on
   make-is l = rw (le-ltb (length old) 16384 l) refl
 
-  pub makes-room : {r : Made} {new : List ℕ} → 16384 ≤ length old → Makes (grow_from (256 - length sh.tests) 0 sh) r old new → Makes (make_on sh (length old)) r old new
+  pub makes-room : {r : MadeAnswer} {new : List ℕ} → 16384 ≤ length old → Makes (grow_from (256 - length sh.tests) 0 sh) r old new → Makes (make_on sh (length old)) r old new
   makes-room {r} {new} l mk = subst (λ (o : Result Grown). Makes o r old new) (sym (make-is l)) mk
 
 -- ---- what it tells
 module _ (s old : List ℕ) where
   -- a sheet refused on reading: the same number and place, and nothing is written
-  pub made-refused : (a : ReadAnswer) (number place : ℕ) (r : Made) → a ≡ read_answer (reading s) → a ≡ read.Refused number place → r ≡ made.Refused number place →
-      Makes (making s (length old)) r old old × ToldMade s (length old) r old
+  pub made-refused : (why : Refusal) → reading s ≡ refused why.number why.place → {r : MadeAnswer} → r ≡ Err why → Makes (making s (length old)) r old old × ToldMade s (length old) r old
   unfolding making ToldMade
-  made-refused a number place r e er ea =
-      let h = closed-by s e number place er in (
-        record { answer = rw h ea; bytes = rw h refl },
-        λ sh es. let same : ◌≡◌ {A = Reading} (accepted sh) (refused number place) = sym es ∙ h in never (cc),
-      )
+  made-refused why h e = (
+    record { answer = rw (h, e) refl; bytes = rw h refl },
+    λ sh es. let same : ◌≡◌ {A = Reading} (accepted sh) (refused why.number why.place) = sym es ∙ h in never (cc),
+  )
 
-  says : (sh : Sheet) (result : Result Grown) → MadeMeans sh result → {r : Made} {new : List ℕ} → Makes result r old new → MadeSays sh r new
+  says : (sh : Sheet) (result : Result Grown) → MadeMeans sh result → {r : MadeAnswer} {new : List ℕ} → Makes result r old new → MadeSays sh r new
   says sh (accepted g) means {r} {new} mk =
       let front : take (length (encode g.sheet)) new ≡ encode g.sheet = rw mk.bytes (take_at (encode g.sheet) (drop (length (encode g.sheet)) old) (length (encode g.sheet)) refl) in
       rw mk.answer (record { sheet = g.sheet; reads = rw front means.1; made = means.0 })
   says sh (refused number place) means mk = rw mk.answer means
 
   -- an accepted one
-  pub made-accepted : (sh : Sheet) → reading s ≡ accepted sh → {r : Made} {new : List ℕ} → Makes (make_on sh (length old)) r old new → Makes (making s (length old)) r old new × ToldMade s (length old) r new
+  pub made-accepted : (sh : Sheet) → reading s ≡ accepted sh → {r : MadeAnswer} {new : List ℕ} → Makes (make_on sh (length old)) r old new → Makes (making s (length old)) r old new × ToldMade s (length old) r new
   unfolding making ToldMade
   made-accepted sh e {r} {new} mk = (rw e mk, told)
     where

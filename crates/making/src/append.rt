@@ -4,13 +4,13 @@ ghost use Rattle.sheet.specs.Sheet.{Sheet};
 ghost use Rattle.model.specs.Longer.{with_test};
 ghost use Rattle.making.specs.words.Growing.{Held, Fits};
 
-use block::BLOCK;
+use block::Block;
 use logs::record_test;
 
 // Appends the inputs as a test to a sheet whose END would stand at `end`, and to the first n bytes of its log; gives the log's length.
 pub(crate) fn append(
     inputs: &[u8],
-    block: &[u8; BLOCK],
+    block: &Block,
     bytes: &mut [u8],
     end: usize,
     log: &mut [u8],

@@ -13,30 +13,23 @@ ghost use Rattle.lists.specs.Lists.{overlay};
 ghost use Rattle.model.specs.Making.{making};
 ghost use Rattle.making.specs.Answers.{made_answer, made_writes, ToldMade};
 
-use block::{fresh, load};
+use block::load;
 use room::make;
-use sheet::{Reading, refusal_of};
+use sheet::Refusal;
 
-// What making answers: the made sheet's length and how many tests were appended.
-#[derive(Clone, Copy)]
-pub enum Made {
-    Done(usize, usize),
-    Refused(u8, usize),
+// What was made: the sheet's length, and how many tests were appended.
+#[derive(Clone, Copy, Debug, PartialEq, Eq)]
+pub struct Made {
+    pub length: usize,
+    pub appended: usize,
 }
 
 // The sheet with its suite made complete at the buffer's front.
-pub fn complete_suite(sheet: &[u8], buffer: &mut [u8]) -> Made
+pub fn complete_suite(sheet: &[u8], buffer: &mut [u8]) -> Result<Made, Refusal>
     ensures answer { result ≡ made_answer (making sheet.now (length buffer.old)) }
     ensures bytes { buffer.new ≡ overlay (made_writes (making sheet.now (length buffer.old))) buffer.old }
     ensures told { ToldMade sheet.now (length buffer.old) result buffer.new }
 {
-    let mut block = fresh();
-    let mut starts = [0u16; 256];
-    let mut lengths = [0u16; 256];
-    let reading = load(sheet, &mut block, &mut starts, &mut lengths);
-    let Reading::Accepted(size) = reading else {
-        let why = refusal_of(reading);
-        return Made::Refused(why.number, why.place);
-    };
-    make(sheet, &starts, &lengths, size.tests, &block, buffer)
+    let loaded = load(sheet)?;
+    make(&loaded, buffer)
 }

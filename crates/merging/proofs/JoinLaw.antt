@@ -1,13 +1,18 @@
 -- From the parts of two sheets to the merged one.
-use Rattle.std.specs.Prelude.{◌+◌, ◌-◌, ◌*◌, ◌/◌, ◌≤◌, ◌<◌, ◌≡◌, ◌∷◌, ◌++◌}
-use Rattle.lists.specs.Proving.{arith, ℕ, zero, suc, refl, sym, ◌∙◌, ap, subst, Bool, true, false, cond, List, [], length, take, drop, ltb, lt-ltb, le-ltb, length-append}
-use mathlib.Core.Bool.{◌||◌}
+use Rattle.std.specs.Prelude.{Result as Answer}
+use Rattle.std.specs.Prelude.{Ok, Err, ◌+◌, ◌*◌, ◌/◌, ◌≤◌, ◌<◌, ◌≡◌, ◌∷◌, ◌++◌}
+use Rattle.lists.specs.Proving.{arith, ℕ, zero, suc, refl, sym, ◌∙◌, ap, ap₂, subst, Bool, true, false, cond, List, [], length, take, eqb, ltb, lt-ltb, le-ltb, length-append}
+use mathlib.Core.Bool.{◌||◌, not}
+use Rattle.std.specs.Cmp.Lexicographic.{pointwise}
+use Rattle.merging.proofs.CompareLaw.{equal_is}
 use mathlib.Core.List.{map, append_assoc}
 use lib.Seq.{take_at}
 use borrow.Author.Tests.{ltb-false}
 use Rattle.lists.specs.Lists.{overlay}
-use Rattle.lists.specs.laws.TestLaw.{not-true-false, clash}
+use Rattle.lists.specs.laws.TestLaw.{not-true-false, clash, never}
 use Rattle.sheet.specs.Sheet.{Sheet, row_of, open_pairs, open_slots}
+use Rattle.sheet.specs.declared.Refusal.{Refusal}
+use Rattle.sheet.specs.Tables.{refusal_of, answer_by}
 use Rattle.sheet.specs.Encode.{row_bytes, operand_bytes, start_bytes, press_bytes, test_bytes, encode}
 use Rattle.sheet.specs.Reading.{Result, accepted, refused}
 use Rattle.sheet.specs.laws.PartLaw.{operands-length}
@@ -18,61 +23,38 @@ use Rattle.writing.proofs.laws.SpelledLaw.{spelled-front}
 use Rattle.renaming.specs.Ordering.{union, only}
 use Rattle.renaming.specs.Merging.{merged, bare, equal, limited, merge_on, SameMachine}
 use Rattle.renaming.proofs.laws.MergedLaw.{equal-same, same-equal, same-machine}
-use Rattle.merging.specs.declared.Merged.{Merged}
-use Rattle.merging.specs.declared.Merged.TheVariants as answer
-use Rattle.merging.specs.declared.outline.Outline.{Outline}
+use Rattle.merging.specs.declared.join.Parts.{Parts}
 use Rattle.merging.specs.words.Uniting.{flat, united}
-use Rattle.merging.specs.words.Outlined.{head_bytes, between, Laid, limit_of, Short, Pieces, Joins}
+use Rattle.merging.specs.words.Outlined.{head_bytes, limit_by, limit_answer, parts_length, Pieces, Joins}
 use Rattle.merging.proofs.PartsLaw.{rows-length, in_parts, fault, wakes, faults-united, starts-united}
 
 -- ---- an answer
-pub joins-refused : {x : Result Sheet} {old : List ℕ} (n : ℕ) → x ≡ refused n 0 → Joins x (answer.Refused 0 n 0) old old
-joins-refused n e = record { answer = rw e refl; bytes = rw e refl }
+joins-refused : {x : Result Sheet} {old : List ℕ} {why : Refusal} {w : Answer ℕ Refusal} → w ≡ Err why → x ≡ refused why.number why.place → Joins x w old old
+joins-refused k e = record { answer = k ∙ sym (ap (answer_by (λ m. length (encode m))) e); bytes = rw e refl }
 
 -- ---- the limits
-over : (full slots long : Bool) (m : Sheet) (n : ℕ) → n ≡ cond full 8 (cond slots 12 (cond long 1 0)) → (n ≡ 0 → ⊥) →
-    refuse_if full 8 0 (refuse_if slots 12 0 (refuse_if long 1 0 (accepted m))) ≡ refused n 0
-over true slots long m n e h = rw e refl
-over false true long m n e h = rw e refl
-over false false true m n e h = rw e refl
-over false false false m n e h = absurd (h e)
+over : (full slots long : Bool) (m : Sheet) (why : Refusal) → Err why ≡ limit_by full slots long →
+    refuse_if full 8 0 (refuse_if slots 12 0 (refuse_if long 1 0 (accepted m))) ≡ refused why.number why.place
+over true slots long m why e = let z : refusal_of 8 0 ≡ why = cc in ap (λ (r : Refusal). refused r.number r.place) z
+over false true long m why e = let z : refusal_of 12 0 ≡ why = cc in ap (λ (r : Refusal). refused r.number r.place) z
+over false false true m why e = let z : refusal_of 1 0 ≡ why = cc in ap (λ (r : Refusal). refused r.number r.place) z
+over false false false m why e = never (cc)
 
-within : (full slots long : Bool) (m : Sheet) (n : ℕ) → n ≡ cond full 8 (cond slots 12 (cond long 1 0)) → n ≡ 0 →
+within : (full slots long : Bool) (m : Sheet) → Ok (tt {0}) ≡ limit_by full slots long →
     (refuse_if full 8 0 (refuse_if slots 12 0 (refuse_if long 1 0 (accepted m))) ≡ accepted m) × (long ≡ false)
-within true slots long m n e z = absurd (omega (arith, e, z))
-within false true long m n e z = absurd (omega (arith, e, z))
-within false false true m n e z = absurd (omega (arith, e, z))
-within false false false m n e z = (refl, refl)
+within true slots long m e = never (cc)
+within false true long m e = never (cc)
+within false false true m e = never (cc)
+within false false false m e = (refl, refl)
 
-pub limit-room : (faults tests slots long n : ℕ) → n ≡ limit_of faults tests slots long → n ≡ 0 → long ≤ 16384
-limit-room faults tests slots long n e z = ltb-false 16384 long (within-long (ltb 256 faults || ltb 256 tests) (ltb 32 slots) (ltb 16384 long) e)
+pub limit-room : (faults tests slots long : ℕ) → Ok (tt {0}) ≡ limit_answer faults tests slots long → long ≤ 16384
+limit-room faults tests slots long e = ltb-false 16384 long (within-long (ltb 256 faults || ltb 256 tests) (ltb 32 slots) (ltb 16384 long) e)
   where
-    within-long : (full few big : Bool) → n ≡ cond full 8 (cond few 12 (cond big 1 0)) → big ≡ false
-    within-long true few big f = absurd (omega (arith, f, z))
-    within-long false true big f = absurd (omega (arith, f, z))
-    within-long false false true f = absurd (omega (arith, f, z))
+    within-long : (full few big : Bool) → Ok (tt {0}) ≡ limit_by full few big → big ≡ false
+    within-long true few big f = never (cc)
+    within-long false true big f = never (cc)
+    within-long false false true f = never (cc)
     within-long false false false f = refl
-
--- the answers of `is_full` and `limit`
-module _ (faults tests : ℕ) where
-  pub full-faults : 256 < faults → true ≡ ltb 256 faults || ltb 256 tests
-  full-faults h = rw (lt-ltb 256 faults h) refl
-
-  pub full-tests : faults ≤ 256 → ltb 256 tests ≡ ltb 256 faults || ltb 256 tests
-  full-tests h = rw (le-ltb 256 faults h) refl
-
-  module _ (slots long : ℕ) {full : Bool} (e : full ≡ ltb 256 faults || ltb 256 tests) where
-    pub limit-full : full ≡ true → 8 ≡ limit_of faults tests slots long
-    limit-full f = rw (sym e ∙ f) refl
-
-    pub limit-slots : full ≡ false → 32 < slots → 12 ≡ limit_of faults tests slots long
-    limit-slots f h = rw (sym e ∙ f, lt-ltb 32 slots h) refl
-
-    pub limit-long : full ≡ false → slots ≤ 32 → 16384 < long → 1 ≡ limit_of faults tests slots long
-    limit-long f o h = rw (sym e ∙ f, le-ltb 32 slots o, lt-ltb 16384 long h) refl
-
-    pub limit-none : full ≡ false → slots ≤ 32 → long ≤ 16384 → 0 ≡ limit_of faults tests slots long
-    limit-none f o h = rw (sym e ∙ f, le-ltb 32 slots o, le-ltb 16384 long h) refl
 
 -- how many choices make up a mutant
 module _ (m : Sheet) (pairs starts : ℕ) (e : pairs ≡ open_pairs m) (f : starts ≡ 2 * length m.starts) where
@@ -93,41 +75,46 @@ module _ (m : Sheet) (pairs starts : ℕ) (e : pairs ≡ open_pairs m) (f : star
       some (suc n) k = omega arith
 
 -- ---- the sheet of its parts
-module _ {m : Sheet} {head faults starts tests more : List ℕ} {count pairs : ℕ} (p : Pieces m head faults starts tests more count pairs) {slots : ℕ} (es : slots ≡ open_slots m) {why : ℕ}
-    (ew : why ≡ limit_of (length faults / 5) count slots (length head + length faults + length starts + length tests + length more + 1)) where
-  long-is : length head + length faults + length starts + length tests + length more + 1 ≡ length (encode m)
+module _ {m : Sheet} {p : Parts} {count pairs : ℕ} (q : Pieces m p count pairs) {slots : ℕ} (es : slots ≡ open_slots m) {r : Answer (Unit {0}) Refusal}
+    (ew : r ≡ limit_answer (length p.faults.now / 5) count slots (parts_length p)) where
+  long-is : parts_length p ≡ length (encode m)
   long-is =
+      let H = p.head.now in
+      let F = p.faults.now in
+      let S = p.starts.now in
+      let T = p.tests.now in
+      let M = p.more.now in
       omega (
         arith,
-        ap length p.bytes,
-        length-append head (faults ++ (starts ++ (tests ++ (more ++ 6 ∷ [])))),
-        length-append faults (starts ++ (tests ++ (more ++ 6 ∷ []))),
-        length-append starts (tests ++ (more ++ 6 ∷ [])),
-        length-append tests (more ++ 6 ∷ []),
-        length-append more (6 ∷ []),
+        ap length q.bytes,
+        length-append H (F ++ (S ++ (T ++ (M ++ 6 ∷ [])))),
+        length-append F (S ++ (T ++ (M ++ 6 ∷ []))),
+        length-append S (T ++ (M ++ 6 ∷ [])),
+        length-append T (M ++ 6 ∷ []),
+        length-append M (6 ∷ []),
       )
 
-  faults-are : length faults / 5 ≡ length m.faults
-  faults-are = omega (arith, p.many-faults)
+  faults-are : length p.faults.now / 5 ≡ length m.faults
+  faults-are = omega (arith, q.many-faults)
 
-  limit_is : why ≡ limit_of (length m.faults) (length m.tests) (open_slots m) (length (encode m))
-  limit_is = ew ∙ rw (faults-are, p.many-tests, es, long-is) refl
+  limit_is : r ≡ limit_answer (length m.faults) (length m.tests) (open_slots m) (length (encode m))
+  limit_is = ew ∙ rw (faults-are, q.many-tests, es, long-is) refl
 
-  pub close-refused : {old : List ℕ} → (why ≡ 0 → ⊥) → Joins (limited m) (answer.Refused 0 why 0) old old
+  pub close-refused : {old : List ℕ} {why : Refusal} {w : Answer ℕ Refusal} → r ≡ Err why → w ≡ Err why → Joins (limited m) w old old
   unfolding limited
-  close-refused h =
-      joins-refused why (over (ltb 256 (length m.faults) || ltb 256 (length m.tests)) (ltb 32 (open_slots m)) (ltb 16384 (length (encode m))) m why limit_is h)
+  close-refused {why = why} h k =
+      joins-refused k (over (ltb 256 (length m.faults) || ltb 256 (length m.tests)) (ltb 32 (open_slots m)) (ltb 16384 (length (encode m))) m why (sym h ∙ limit_is))
 
-  limited-is : why ≡ 0 → limited m ≡ accepted m
+  limited-is : r ≡ Ok (tt {0}) → limited m ≡ accepted m
   unfolding limited
-  limited-is z = (within (ltb 256 (length m.faults) || ltb 256 (length m.tests)) (ltb 32 (open_slots m)) (ltb 16384 (length (encode m))) m why limit_is z).0
+  limited-is h = (within (ltb 256 (length m.faults) || ltb 256 (length m.tests)) (ltb 32 (open_slots m)) (ltb 16384 (length (encode m))) m (sym h ∙ limit_is)).0
 
-  pub close-done : {old new : List ℕ} {r : ℕ} → why ≡ 0 → Spelled old new 0 r (head ++ (faults ++ (starts ++ (tests ++ (more ++ 6 ∷ []))))) → Joins (limited m) (answer.Done r) old new
-  close-done {old} {new} {r} z sp =
-      let long : r ≡ length (encode m) = omega (arith, sp.many, ap length p.bytes) in
+  pub close-done : {old new : List ℕ} {n : ℕ} → r ≡ Ok (tt {0}) → Spelled old new 0 n (p.head.now ++ (p.faults.now ++ (p.starts.now ++ (p.tests.now ++ (p.more.now ++ 6 ∷ []))))) → Joins (limited m) (Ok n) old new
+  close-done {old} {new} {n} h sp =
+      let long : n ≡ length (encode m) = omega (arith, sp.many, ap length q.bytes) in
       record {
-        answer = rw (limited-is z, long) refl;
-        bytes = rw (limited-is z) (spelled-front sp ∙ ap (λ (l : List ℕ). overlay l old) (sym p.bytes));
+        answer = rw (limited-is h, long) refl;
+        bytes = rw (limited-is h) (spelled-front sp ∙ ap (λ (l : List ℕ). overlay l old) (sym q.bytes));
       }
 
 -- ---- the two sheets
@@ -145,70 +132,73 @@ unfolding test_bytes
 tests-both [] m = refl
 tests-both (xs ∷ l) m = rw (tests-both l m) (ap (λ (t : List ℕ). 4 ∷ t) (sym (append_assoc (press_bytes xs) (test_bytes l) (test_bytes m))))
 
-module _ {x y : Sheet} {s t : List ℕ} {a b : Outline} (p : Laid x s a) (q : Laid y t b) where
-  machine-bytes : encode (bare x) ≡ take a.rules s ++ 6 ∷ []
-  machine-bytes = bare-bytes x ∙ ap (λ (l : List ℕ). l ++ 6 ∷ []) (sym p.head)
+pub join-short : (x y : Sheet) {old : List ℕ} {why : Refusal} → why ≡ refusal_of 16 0 → length old < 16384 → Joins (merge_on x y (length old)) (Err why) old old
+unfolding merge_on
+join-short x y {old} h l = joins-refused (ap Err h) (rw (lt-ltb (length old) 16384 l) refl)
 
-  machine-bytes-2 : encode (bare y) ≡ take b.rules t ++ 6 ∷ []
-  machine-bytes-2 = bare-bytes y ∙ ap (λ (l : List ℕ). l ++ 6 ∷ []) (sym q.head)
+-- whether the heads of two sheets are the same
+module _ (x y : Sheet) where
+  same_bytes : true ≡ equal (head_bytes x) (head_bytes y) → encode (bare x) ≡ encode (bare y)
+  same_bytes e = bare-bytes x ∙ ap (λ (l : List ℕ). l ++ 6 ∷ []) (equal-same (head_bytes x) (head_bytes y) (sym e)) ∙ sym (bare-bytes y)
 
-  same_bytes : true ≡ equal (take a.rules s) (take b.rules t) → encode (bare x) ≡ encode (bare y)
-  same_bytes e = machine-bytes ∙ ap (λ (l : List ℕ). l ++ 6 ∷ []) (equal-same (take a.rules s) (take b.rules t) (sym e)) ∙ sym machine-bytes-2
-
-  pub join-same : true ≡ equal (take a.rules s) (take b.rules t) → SameMachine x y
+  pub join-same : true ≡ equal (head_bytes x) (head_bytes y) → SameMachine x y
   join-same e = same-machine x y (same_bytes e)
 
-  other-bytes : false ≡ equal (take a.rules s) (take b.rules t) → equal (encode (bare x)) (encode (bare y)) ≡ false
+  other-bytes : false ≡ equal (head_bytes x) (head_bytes y) → equal (encode (bare x)) (encode (bare y)) ≡ false
   other-bytes e =
       not-true-false (equal (encode (bare x)) (encode (bare y)))
       (λ h.
-      let k = snoc-same (take a.rules s) (take b.rules t) 6 (sym machine-bytes ∙ equal-same (encode (bare x)) (encode (bare y)) h ∙ machine-bytes-2) in
-      clash (equal (take a.rules s) (take b.rules t)) (ap (λ (l : List ℕ). equal l (take b.rules t)) k ∙ same-equal (take b.rules t)) (sym e))
+      let k = snoc-same (head_bytes x) (head_bytes y) 6 (sym (bare-bytes x) ∙ equal-same (encode (bare x)) (encode (bare y)) h ∙ bare-bytes y) in
+      clash (equal (head_bytes x) (head_bytes y)) (ap (λ (l : List ℕ). equal l (head_bytes y)) k ∙ same-equal (head_bytes y)) (sym e))
+
+  module _ {s t : List ℕ} {r : Bool} (e : r ≡ not (pointwise eqb s t)) (es : s ≡ head_bytes x) (et : t ≡ head_bytes y) where
+    pub other-heads : r ≡ true → false ≡ equal (head_bytes x) (head_bytes y)
+    other-heads h = go (pointwise eqb s t) (sym e ∙ h) ∙ equal_is s t ∙ ap₂ equal es et
+      where
+        go : (b : Bool) → not b ≡ true → false ≡ b
+        go true k = never (cc)
+        go false k = refl
+
+    pub same-heads : r ≡ false → true ≡ equal (head_bytes x) (head_bytes y)
+    same-heads h = go (pointwise eqb s t) (sym e ∙ h) ∙ equal_is s t ∙ ap₂ equal es et
+      where
+        go : (b : Bool) → not b ≡ false → true ≡ b
+        go true k = refl
+        go false k = never (cc)
 
   module _ (old : List ℕ) (room : 16384 ≤ length old) where
-    pub join-other : false ≡ equal (take a.rules s) (take b.rules t) → Joins (merge_on x y (length old)) (answer.Refused 0 21 0) old old
+    pub join-other : {why : Refusal} → why ≡ refusal_of 21 0 → false ≡ equal (head_bytes x) (head_bytes y) → Joins (merge_on x y (length old)) (Err why) old old
     unfolding merge_on
-    join-other e = joins-refused 21 (rw (le-ltb (length old) 16384 room, other-bytes e) refl)
+    join-other {why} h e = joins-refused (ap Err h) (rw (le-ltb (length old) 16384 room, other-bytes e) refl)
 
-    limited-only : true ≡ equal (take a.rules s) (take b.rules t) → merge_on x y (length old) ≡ limited (merged x y)
+    limited-only : true ≡ equal (head_bytes x) (head_bytes y) → merge_on x y (length old) ≡ limited (merged x y)
     unfolding merge_on
     limited-only e = rw (le-ltb (length old) 16384 room, same_bytes e, same-equal (encode (bare y))) refl
 
-    pub join-within : true ≡ equal (take a.rules s) (take b.rules t) → {r : Merged} {new : List ℕ} → Joins (limited (merged x y)) r old new → Joins (merge_on x y (length old)) r old new
+    pub join-within : true ≡ equal (head_bytes x) (head_bytes y) → {r : Answer ℕ Refusal} {new : List ℕ} → Joins (limited (merged x y)) r old new → Joins (merge_on x y (length old)) r old new
     join-within e {r} {new} j = subst (λ (z : Result Sheet). Joins z r old new) (sym (limited-only e)) j
 
-  -- the parts of the merged sheet
-  pub pieces : {fs fs₀ ss ss₀ : List ℕ} {f u count pairs : ℕ} → Spelled fs₀ fs 0 f (flat (united (map fault x.faults) (map fault y.faults))) →
-      Spelled ss₀ ss 0 u (flat (united (map wakes x.starts) (map wakes y.starts))) → count ≡ a.count + b.count → pairs ≡ open_pairs (merged x y) →
-      Pieces (merged x y) (take a.rules s) (take f fs) (take u ss) (between a.starts a.tests s) (between b.starts b.tests t) count pairs
-  pieces {fs} {fs₀} {ss} {ss₀} {f} {u} {count} {pairs} sf ss' ec ep =
-      let F : take f fs ≡ row_bytes 3 (union row_of x.faults y.faults) = sf.front ∙ faults-united x.faults y.faults in
-      let U : take u ss ≡ start_bytes (union only x.starts y.starts) = ss'.front ∙ starts-united x.starts y.starts in
-      record {
-        bytes =
-            in_parts (merged x y)
-            ∙ ap (λ (l : List ℕ). head_bytes x ++ (row_bytes 3 (union row_of x.faults y.faults) ++ (start_bytes (union only x.starts y.starts) ++ l)))
-            (ap (λ (l : List ℕ). l ++ 6 ∷ []) (tests-both x.tests y.tests) ∙ append_assoc (test_bytes x.tests) (test_bytes y.tests) (6 ∷ []))
-            ∙ rw (p.head, F, U, p.tests, q.tests) refl;
-        many-faults = ap length F ∙ rows-length 3 (union row_of x.faults y.faults);
-        many-starts = ap length U ∙ operands-length 7 (union only x.starts y.starts);
-        many-tests = omega (arith, ec, p.many, q.many, length-append x.tests y.tests);
-        open-are = ep;
-      }
+-- the parts of the merged sheet
+pub pieces : (x y : Sheet) {p : Parts} {fs fs₀ ss ss₀ : List ℕ} {f u count pairs : ℕ} → p.head.now ≡ head_bytes x → p.faults.now ≡ take f fs → p.starts.now ≡ take u ss →
+    p.tests.now ≡ test_bytes x.tests → p.more.now ≡ test_bytes y.tests → Spelled fs₀ fs 0 f (flat (united (map fault x.faults) (map fault y.faults))) →
+    Spelled ss₀ ss 0 u (flat (united (map wakes x.starts) (map wakes y.starts))) → count ≡ length x.tests + length y.tests → pairs ≡ open_pairs (merged x y) → Pieces (merged x y) p count pairs
+pieces x y {p} {fs} {fs₀} {ss} {ss₀} {f} {u} {count} {pairs} eh ef es et em sf ss' ec ep =
+    let F : p.faults.now ≡ row_bytes 3 (union row_of x.faults y.faults) = ef ∙ sf.front ∙ faults-united x.faults y.faults in
+    let U : p.starts.now ≡ start_bytes (union only x.starts y.starts) = es ∙ ss'.front ∙ starts-united x.starts y.starts in
+    record {
+      bytes =
+          in_parts (merged x y)
+          ∙ ap (λ (l : List ℕ). head_bytes x ++ (row_bytes 3 (union row_of x.faults y.faults) ++ (start_bytes (union only x.starts y.starts) ++ l)))
+          (ap (λ (l : List ℕ). l ++ 6 ∷ []) (tests-both x.tests y.tests) ∙ append_assoc (test_bytes x.tests) (test_bytes y.tests) (6 ∷ []))
+          ∙ rw (eh, F, U, et, em) refl;
+      many-faults = ap length F ∙ rows-length 3 (union row_of x.faults y.faults);
+      many-starts = ap length U ∙ operands-length 7 (union only x.starts y.starts);
+      many-tests = omega (arith, ec, length-append x.tests y.tests);
+      open-are = ep;
+    }
 
 -- ---- no part is longer than a sheet
-take-fewer : (n : ℕ) (l : List ℕ) → length (take n l) ≤ n
+pub take-fewer : (n : ℕ) (l : List ℕ) → length (take n l) ≤ n
 take-fewer zero l = omega arith
 take-fewer (suc n) [] = omega arith
 take-fewer (suc n) (x ∷ l) = omega (arith, take-fewer n l)
-
-pub short-parts : {x y : Sheet} {s t : List ℕ} {a b : Outline} (p : Laid x s a) (q : Laid y t b) (f u : ℕ) (fs ss : List ℕ) → f ≤ 2560 → u ≤ 64 →
-    Short (take a.rules s) (take f fs) (take u ss) (between a.starts a.tests s) (between b.starts b.tests t)
-short-parts {s = s} {t = t} {a = a} {b = b} p q f u fs ss lf lu =
-    record {
-      head-short = omega (arith, take-fewer a.rules s, p.ruled, p.faulted, p.started, p.tested, p.short);
-      faults-short = omega (arith, take-fewer f fs, lf);
-      starts-short = omega (arith, take-fewer u ss, lu);
-      tests-short = omega (arith, take-fewer (a.tests - a.starts) (drop a.starts s), p.tested, p.short);
-      more-short = omega (arith, take-fewer (b.tests - b.starts) (drop b.starts t), q.tested, q.short);
-    }

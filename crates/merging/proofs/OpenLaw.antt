@@ -129,11 +129,3 @@ count_no p x n e h = rw (add-one x, e) h
 pub open_more : (choices others : List ℕ) (inputs s n r : ℕ) → n ≡ open_both choices others inputs s → r ≡ count (either_open choices others s) inputs → n + r ≡ open_both choices others inputs (s + 1)
 unfolding open_both
 open_more choices others inputs s n r e f = rw (add-one s, e, f) refl
-
--- ---- one pair
-module _ (choices others : List ℕ) (s x : ℕ) where
-  pub either_first : 1 < get_or choices (place_of s x) 0 → true ≡ either_open choices others s x
-  either_first h = rw (lt-ltb 1 (get_or choices (place_of s x) 0) h) refl
-
-  pub either_second : get_or choices (place_of s x) 0 ≤ 1 → ltb 1 (get_or others (place_of s x) 0) ≡ either_open choices others s x
-  either_second h = rw (le-ltb 1 (get_or choices (place_of s x) 0) h) refl

@@ -1,8 +1,8 @@
 -- The parts of a sheet's bytes: where they end, and the commands they hold.
 use Rattle.std.specs.Prelude.{◌+◌, ◌-◌, ◌*◌, ◌≤◌, ◌≡◌, ◌∷◌, ◌++◌}
-use Rattle.lists.specs.Proving.{arith, eq-eqb, le-ltb, ℕ, refl, sym, ◌∙◌, ap, Bool, true, false, cond, inr, List, [], length, take, length-append}
+use Rattle.lists.specs.Proving.{arith, eq-eqb, le-ltb, ℕ, refl, sym, ◌∙◌, ap, Bool, true, false, cond, inr, List, [], length, take, drop, length-append}
 use mathlib.Core.List.{map, append_assoc}
-use lib.Seq.{take_at, drop_at}
+use lib.Seq.{take_at, drop-drop, drop-append_seam}
 use Rattle.lists.specs.Lists.{Before, precedes, joined}
 use Rattle.lists.specs.laws.AllLaw.{all-every, all_map}
 use Rattle.lists.specs.laws.MemberLaw.{ascending-map}
@@ -10,7 +10,11 @@ use Rattle.sheet.specs.declared.Row.{Row}
 use Rattle.sheet.specs.declared.Summary.{Summary}
 use Rattle.sheet.specs.Sheet.{Sheet, row_of, wakings, waking_choices}
 use Rattle.sheet.specs.Encode.{size_bytes, quiet_bytes, row_bytes, operand_bytes, start_bytes, test_bytes, encode}
-use Rattle.sheet.specs.Reading.{summary_of}
+use Rattle.std.specs.Prelude.{Ok}
+use denote.Ref.{Bor}
+use Rattle.sheet.specs.Reading.{accepted, reading, summary_of}
+use Rattle.sheet.specs.Tables.{read_answer}
+use Rattle.reading.specs.Layout.{layout_of}
 use Rattle.sheet.specs.laws.EncodedLaw.{encoded}
 use Rattle.sheet.specs.laws.InjectiveLaw.{encode-parts}
 use Rattle.sheet.specs.laws.AcceptedLaw.{well-formed, short-enough}
@@ -20,7 +24,8 @@ use Rattle.renaming.specs.Ordering.{insert, union, only}
 use Rattle.renaming.proofs.laws.PlaceLaw.{rises-only}
 use Rattle.merging.specs.declared.outline.Outline.{Outline}
 use Rattle.merging.specs.words.Uniting.{itself, flat, united, Part}
-use Rattle.merging.specs.words.Outlined.{Known, head_bytes, between, Laid}
+use Rattle.reading.specs.declared.layout.Layout.{Layout}
+use Rattle.merging.specs.words.Outlined.{head_bytes, Laid}
 
 -- ---- lengths
 pub rows-length : (b : ℕ) (rows : List Row) → length (row_bytes b rows) ≡ 5 * length rows
@@ -32,104 +37,87 @@ head-length : (sh : Sheet) → length (head_bytes sh) ≡ 4 + length (quiet_byte
 unfolding size_bytes
 head-length sh = simp length-append (omega (arith, rows-length 2 sh.rules))
 
-pub quiet-few : (q : Bool) → length (quiet_bytes q) ≤ 1
-unfolding quiet_bytes
-quiet-few true = omega arith
-quiet-few false = omega arith
-
 -- ---- where they stand
-between-at : (p q r : List ℕ) (from to : ℕ) → length p ≡ from → from + length q ≡ to → between from to (p ++ (q ++ r)) ≡ q
-between-at p q r from to e f = ap (take (to - from)) (drop_at p (q ++ r) from e) ∙ take_at q r (to - from) (omega (arith, f))
-
 module _ (sh : Sheet) where
   pub in_parts : encode sh ≡ head_bytes sh ++ (row_bytes 3 sh.faults ++ (start_bytes sh.starts ++ (test_bytes sh.tests ++ 6 ∷ [])))
   in_parts = encode-parts sh ∙ sym (append_assoc (size_bytes sh.size) (quiet_bytes sh.quiet ++ row_bytes 2 sh.rules) (row_bytes 3 sh.faults ++ (start_bytes sh.starts ++ (test_bytes sh.tests ++ 6 ∷ [])))
       ∙ ap (λ (l : List ℕ). size_bytes sh.size ++ l) (append_assoc (quiet_bytes sh.quiet) (row_bytes 2 sh.rules) (row_bytes 3 sh.faults ++ (start_bytes sh.starts ++ (test_bytes sh.tests ++ 6 ∷ [])))))
 
--- a sheet's parts, from its counts
-module _ {sh : Sheet} {s : List ℕ} {summary : Summary} {quiet : Bool} {waking : ℕ} (k : Known sh s summary quiet waking) where
-  starts-are : waking ≡ 1 + length sh.starts
-  unfolding waking_choices wakings
-  starts-are = omega (arith, k.waking-is)
-
-  rules-are : summary.rules ≡ length sh.rules
-  unfolding summary_of
-  rules-are = ap (λ (z : Summary). z.rules) k.told
-
-  faults-are : summary.faults ≡ length sh.faults
-  unfolding summary_of
-  faults-are = ap (λ (z : Summary). z.faults) k.told
-
-  tests-are : summary.tests ≡ length sh.tests
-  unfolding summary_of
-  tests-are = ap (λ (z : Summary). z.tests) k.told
-
-  quiet-bytes : length (quiet_bytes quiet) ≡ length (quiet_bytes sh.quiet)
-  quiet-bytes = ap (λ (q : Bool). length (quiet_bytes q)) k.quiet_is
-
-  bytes-are : s ≡ head_bytes sh ++ (row_bytes 3 sh.faults ++ (start_bytes sh.starts ++ (test_bytes sh.tests ++ 6 ∷ [])))
-  bytes-are = sym (encoded s sh k.reads) ∙ in_parts sh
-
-  -- all that is added up stays within the sheet
-  pub counts : length s ≡ 5 + length (quiet_bytes quiet) + 5 * summary.rules + 5 * summary.faults + 2 * (waking - 1) + length (test_bytes sh.tests)
-  counts =
+  pub parts-long : length (encode sh) ≡ length (head_bytes sh) + length (row_bytes 3 sh.faults) + length (start_bytes sh.starts) + length (test_bytes sh.tests) + 1
+  parts-long =
       let H = head_bytes sh in
       let F = row_bytes 3 sh.faults in
       let S = start_bytes sh.starts in
       let T = test_bytes sh.tests in
       omega (
         arith,
-        ap length bytes-are,
+        ap length in_parts,
         length-append H (F ++ (S ++ (T ++ 6 ∷ []))),
         length-append F (S ++ (T ++ 6 ∷ [])),
         length-append S (T ++ 6 ∷ []),
         length-append T (6 ∷ []),
-        head-length sh,
-        rows-length 3 sh.faults,
-        operands-length 7 sh.starts,
-        starts-are,
-        rules-are,
-        faults-are,
-        quiet-bytes,
       )
 
-  pub short : length s ≤ 16384
-  short = short-enough s sh k.reads
+-- a part that stands from one place to another in bytes
+module _ (s part rest : List ℕ) (i j : ℕ) (h : drop i s ≡ part ++ rest) (e : j ≡ i + length part) where
+  part-there : take (j - i) (drop i s) ≡ part
+  part-there = ap (take (j - i)) h ∙ take_at part rest (j - i) (omega (arith, e))
 
-  pub some-waking : 1 ≤ waking
-  some-waking = omega (arith, starts-are)
+  rest-there : drop j s ≡ rest
+  rest-there = ap (λ n. drop n s) e ∙ sym (drop-drop (length part) i s) ∙ ap (drop (length part)) h ∙ drop-append_seam part rest
 
-  pub size_few : (summary.states ≤ 16) × (summary.inputs ≤ 16)
-  unfolding summary_of
-  size_few =
-      let w = well-formed s sh k.reads in
-      (omega (arith, ap (λ (z : Summary). z.states) k.told, w.size.states.few), omega (arith, ap (λ (z : Summary). z.inputs) k.told, w.size.inputs.few))
+-- what reading told of an accepted sheet, and the layout of its parts
+pub outlined : (sheet : Bor (List ℕ)) {summary : Summary} {layout : Layout} (sh : Sheet) → reading sheet.now ≡ accepted sh → Ok summary ≡ read_answer (reading sheet.now) → layout ≡ layout_of sh →
+    Laid sh (record { sheet = sheet; layout = layout; count = summary.tests })
+unfolding summary_of
+outlined sheet {summary} sh e h el =
+    let told : Ok summary ≡ read_answer (accepted sh) = h ∙ ap read_answer e in
+    let same : summary ≡ summary_of sh = cc in
+    record {
+      formed = well-formed sheet.now sh e;
+      short = short-enough sheet.now sh e;
+      bytes = sym (encoded sheet.now sh e);
+      laid = el;
+      many = ap (λ (z : Summary). z.tests) same;
+    }
 
-  pub laid : (o : Outline) → o.rules ≡ 4 + length (quiet_bytes quiet) + 5 * summary.rules → o.faults ≡ o.rules + 5 * summary.faults → o.starts ≡ o.faults + 2 * (waking - 1) →
-      o.tests ≡ length s - 1 → o.count ≡ summary.tests → Laid sh s o
-  laid o er ef es et ec =
-      let H = head_bytes sh in
-      let F = row_bytes 3 sh.faults in
-      let S = start_bytes sh.starts in
-      let T = test_bytes sh.tests in
-      let h : length H ≡ o.rules = omega (arith, head-length sh, rules-are, quiet-bytes, er) in
-      let f : length (H ++ F) ≡ o.faults = omega (arith, length-append H F, h, rows-length 3 sh.faults, faults-are, ef) in
-      let g : length (H ++ F ++ S) ≡ o.starts = omega (arith, length-append (H ++ F) S, f, operands-length 7 sh.starts, starts-are, es) in
-      let after-faults : s ≡ H ++ F ++ (S ++ (T ++ 6 ∷ [])) = bytes-are ∙ sym (append_assoc H F (S ++ (T ++ 6 ∷ []))) in
-      let after-starts : s ≡ H ++ F ++ S ++ (T ++ 6 ∷ []) = after-faults ∙ sym (append_assoc (H ++ F) S (T ++ 6 ∷ [])) in
-      record {
-        formed = well-formed s sh k.reads;
-        short = short;
-        ruled = omega (arith, ef);
-        faulted = omega (arith, es);
-        started = omega (arith, counts, er, ef, es, et);
-        tested = omega (arith, et);
-        head = ap (take o.rules) bytes-are ∙ take_at H (F ++ (S ++ (T ++ 6 ∷ []))) o.rules h;
-        faults = ap (between o.rules o.faults) bytes-are ∙ between-at H F (S ++ (T ++ 6 ∷ [])) o.rules o.faults h (omega (arith, rows-length 3 sh.faults, faults-are, ef));
-        starts = ap (between o.faults o.starts) after-faults ∙ between-at (H ++ F) S (T ++ 6 ∷ []) o.faults o.starts f (omega (arith, operands-length 7 sh.starts, starts-are, es));
-        tests = ap (between o.starts o.tests) after-starts ∙ between-at (H ++ F ++ S) T (6 ∷ []) o.starts o.tests g (omega (arith, counts, er, ef, es, et));
-        many = ec ∙ tests-are;
-      }
+-- the parts of an outline
+module _ {sh : Sheet} {o : Outline} (l : Laid sh o) where
+  faults-at : o.layout.faults ≡ length (head_bytes sh)
+  faults-at = omega (arith, ap (λ (z : Layout). z.faults) l.laid, head-length sh)
+
+  starts-at : o.layout.starts ≡ o.layout.faults + length (row_bytes 3 sh.faults)
+  starts-at = omega (arith, ap (λ (z : Layout). z.starts) l.laid, ap (λ (z : Layout). z.faults) l.laid, rows-length 3 sh.faults)
+
+  tests-at : o.layout.tests ≡ o.layout.starts + length (start_bytes sh.starts)
+  tests-at = omega (arith, ap (λ (z : Layout). z.tests) l.laid, ap (λ (z : Layout). z.starts) l.laid, operands-length 7 sh.starts)
+
+  end-at : length o.sheet.now - 1 ≡ o.layout.tests + length (test_bytes sh.tests)
+  end-at = omega (arith, ap length l.bytes, parts-long sh, faults-at, starts-at, tests-at)
+
+  pub in_order : (o.layout.faults ≤ o.layout.starts) × (o.layout.starts ≤ o.layout.tests) × (o.layout.tests + 1 ≤ length o.sheet.now)
+  in_order = (omega (arith, starts-at), omega (arith, tests-at), omega (arith, ap length l.bytes, parts-long sh, faults-at, starts-at, tests-at))
+
+  pub head-there : take o.layout.faults o.sheet.now ≡ head_bytes sh
+  head-there = ap (take o.layout.faults) (l.bytes ∙ in_parts sh) ∙ take_at (head_bytes sh) (row_bytes 3 sh.faults ++ (start_bytes sh.starts ++ (test_bytes sh.tests ++ 6 ∷ []))) o.layout.faults (sym faults-at)
+
+  faults_from : drop o.layout.faults o.sheet.now ≡ row_bytes 3 sh.faults ++ (start_bytes sh.starts ++ (test_bytes sh.tests ++ 6 ∷ []))
+  faults_from = rest-there o.sheet.now (head_bytes sh) (row_bytes 3 sh.faults ++ (start_bytes sh.starts ++ (test_bytes sh.tests ++ 6 ∷ []))) 0 o.layout.faults (l.bytes ∙ in_parts sh) (omega (arith, faults-at))
+
+  pub faults-there : take (o.layout.starts - o.layout.faults) (drop o.layout.faults o.sheet.now) ≡ row_bytes 3 sh.faults
+  faults-there = part-there o.sheet.now (row_bytes 3 sh.faults) (start_bytes sh.starts ++ (test_bytes sh.tests ++ 6 ∷ [])) o.layout.faults o.layout.starts faults_from starts-at
+
+  starts_from : drop o.layout.starts o.sheet.now ≡ start_bytes sh.starts ++ (test_bytes sh.tests ++ 6 ∷ [])
+  starts_from = rest-there o.sheet.now (row_bytes 3 sh.faults) (start_bytes sh.starts ++ (test_bytes sh.tests ++ 6 ∷ [])) o.layout.faults o.layout.starts faults_from starts-at
+
+  pub starts-there : take (o.layout.tests - o.layout.starts) (drop o.layout.starts o.sheet.now) ≡ start_bytes sh.starts
+  starts-there = part-there o.sheet.now (start_bytes sh.starts) (test_bytes sh.tests ++ 6 ∷ []) o.layout.starts o.layout.tests starts_from tests-at
+
+  tests_from : drop o.layout.tests o.sheet.now ≡ test_bytes sh.tests ++ 6 ∷ []
+  tests_from = rest-there o.sheet.now (start_bytes sh.starts) (test_bytes sh.tests ++ 6 ∷ []) o.layout.starts o.layout.tests starts_from tests-at
+
+  pub tests-there : take (length o.sheet.now - 1 - o.layout.tests) (drop o.layout.tests o.sheet.now) ≡ test_bytes sh.tests
+  tests-there = part-there o.sheet.now (test_bytes sh.tests) (6 ∷ []) o.layout.tests (length o.sheet.now - 1) tests_from end-at
 
 -- ---- as commands
 abbrev pub fault : Row → List ℕ
@@ -180,30 +168,34 @@ one-byte-more : (b : ℕ) (x y : List ℕ) → Before x y → Before (b ∷ x) (
 unfolding Before
 one-byte-more b x y h = inr (refl, h)
 
-module _ {sh : Sheet} {s : List ℕ} {o : Outline} (l : Laid sh s o) where
-  pub head-inside : o.rules ≤ length s
-  head-inside = omega (arith, l.ruled, l.faulted, l.started, l.tested)
+module _ {sh : Sheet} {o : Outline} (l : Laid sh o) where
+  -- no part is longer than a sheet
+  pub head-short : length (head_bytes sh) ≤ 16384
+  head-short = omega (arith, parts-long sh, ap length l.bytes, l.short)
 
-  pub fault-room : length (between o.rules o.faults s) ≤ 1280
-  fault-room = omega (arith, ap length l.faults, rows-length 3 sh.faults, l.formed.few-faults)
+  pub tests-short : length (test_bytes sh.tests) ≤ 16384
+  tests-short = omega (arith, parts-long sh, ap length l.bytes, l.short)
 
-  pub start-room : length (between o.faults o.starts s) ≤ 30
-  start-room = omega (arith, ap length l.starts, operands-length 7 sh.starts, few-starts l.formed)
+  pub fault-room : length (row_bytes 3 sh.faults) ≤ 1280
+  fault-room = omega (arith, rows-length 3 sh.faults, l.formed.few-faults)
 
-  pub fault-part : Part 5 (map fault sh.faults) (between o.rules o.faults s)
-  fault-part =
+  pub start-room : length (start_bytes sh.starts) ≤ 30
+  start-room = omega (arith, operands-length 7 sh.starts, few-starts l.formed)
+
+  pub fault-part : {s : List ℕ} → s ≡ row_bytes 3 sh.faults → Part 5 (map fault sh.faults) s
+  fault-part e =
       record {
         some = omega arith;
         wide = all_map (λ x. length x ≡ 5) fault sh.faults (all-every (λ r. length (fault r) ≡ 5) (λ r. refl) sh.faults);
         up = ascending-map (λ q r. Before (row_of q) (row_of r)) Before fault (λ q r h. one-byte-more 3 (row_of q) (row_of r) h) sh.faults l.formed.faults-ascend;
-        is = l.faults ∙ faults-flat sh.faults;
+        is = e ∙ faults-flat sh.faults;
       }
 
-  pub start-part : Part 2 (map wakes sh.starts) (between o.faults o.starts s)
-  start-part =
+  pub start-part : {s : List ℕ} → s ≡ start_bytes sh.starts → Part 2 (map wakes sh.starts) s
+  start-part e =
       record {
         some = omega arith;
         wide = all_map (λ x. length x ≡ 2) wakes sh.starts (all-every (λ t. length (wakes t) ≡ 2) (λ t. refl) sh.starts);
         up = ascending-map (λ s t. Before (only s) (only t)) Before wakes (λ s t h. one-byte-more 7 (only s) (only t) h) sh.starts (rises-only sh.starts l.formed.starts-ascend);
-        is = l.starts ∙ starts-flat sh.starts;
+        is = e ∙ starts-flat sh.starts;
       }

@@ -1,72 +1,67 @@
 // Two accepted sheets become one: the machine, the united faults and STARTs, the tests of both, within the limits.
-ghost use Rattle.std.specs.Prelude.{◌≡◌, ◌||◌, [], ◌∷◌, ◌++◌, ◌+◌, ◌*◌, ◌≤◌, ltb, length};
+ghost use Rattle.std.specs.Prelude.{◌≡◌, [], ◌∷◌, ◌++◌, ◌+◌, ◌*◌, ◌≤◌, length};
 ghost use Rattle.sheet.specs.Sheet.{Sheet, open_pairs, open_slots};
 ghost use Rattle.writing.specs.words.Spelled.{Spelled};
 ghost use Rattle.renaming.specs.Merging.{SameMachine, merged, limited, merge_on};
-ghost use Rattle.merging.specs.words.Outlined.{Laid, limit_of, Short, Pieces, Joins};
+ghost use Rattle.merging.specs.words.Outlined.{Laid, limit_answer, Short, parts_length, Pieces, Joins};
 
-use crate::Merged;
 use crate::outline::Outline;
-use crate::union::{same, unite};
+use crate::union::unite;
+use sheet::Refusal;
 use writing::spell::{byte, bytes};
 
-fn no_faults() -> [u8; 2560]
-    ensures { length result ≡ 2560 }
-{
-    [0u8; 2560]
+// The parts of a sheet; its tests are those of two sheets.
+#[derive(Clone, Copy)]
+struct Parts<'a> {
+    head: &'a [u8],
+    faults: &'a [u8],
+    starts: &'a [u8],
+    tests: &'a [u8],
+    more: &'a [u8],
 }
 
-fn no_starts() -> [u8; 64]
-    ensures { length result ≡ 64 }
-{
-    [0u8; 64]
-}
-
-// One part after another, then END; gives the sheet's length.
-fn assemble(
-    head: &[u8],
-    faults: &[u8],
-    starts: &[u8],
-    tests: &[u8],
-    more: &[u8],
-    buffer: &mut [u8],
-) -> usize
-    requires { length head.now + length faults.now + length starts.now + length tests.now + length more.now + 1 ≤ length buffer.old }
-    ensures { Spelled buffer.old buffer.new 0 result (head.now ++ (faults.now ++ (starts.now ++ (tests.now ++ (more.now ++ 6 ∷ []))))) }
-{
-    let ruled = bytes(head, buffer, 0);
-    let faulted = bytes(faults, buffer, ruled);
-    let started = bytes(starts, buffer, faulted);
-    let tested = bytes(tests, buffer, started);
-    let ended = bytes(more, buffer, tested);
-    byte(6, buffer, ended)
-}
-
-// Over 256 FAULTs or over 256 tests?
-fn is_full(faults: usize, tests: usize) -> bool
-    ensures { result ≡ ltb 256 faults || ltb 256 tests }
-{
-    if faults > 256 {
-        return true;
+impl Parts<'_> {
+    // How many bytes they are, with END.
+    fn len(self) -> usize
+        requires { Short self }
+        ensures { result ≡ parts_length self.entry }
+    {
+        self.head.len()
+            + self.faults.len()
+            + self.starts.len()
+            + self.tests.len()
+            + self.more.len()
+            + 1
     }
-    tests > 256
+
+    // One part after another, then END; gives the sheet's length.
+    fn assemble(self, buffer: &mut [u8]) -> usize
+        requires { parts_length self ≤ length buffer.old }
+        ensures { Spelled buffer.old buffer.new 0 result (self.entry.head.now ++ (self.entry.faults.now ++ (self.entry.starts.now ++ (self.entry.tests.now ++ (self.entry.more.now ++ 6 ∷ []))))) }
+    {
+        let ruled = bytes(self.head, buffer, 0);
+        let faulted = bytes(self.faults, buffer, ruled);
+        let started = bytes(self.starts, buffer, faulted);
+        let tested = bytes(self.tests, buffer, started);
+        let ended = bytes(self.more, buffer, tested);
+        byte(6, buffer, ended)
+    }
 }
 
-// The number of the first limit that is passed, 0 for none: so many FAULTs, tests, open pairs, bytes.
-fn limit(faults: usize, tests: usize, slots: usize, long: usize) -> u8
-    ensures { result ≡ limit_of faults tests slots long }
+// Whether so many FAULTs, tests, open pairs and bytes are within the limits.
+fn limit(faults: usize, tests: usize, slots: usize, long: usize) -> Result<(), Refusal>
+    ensures { result ≡ limit_answer faults tests slots long }
 {
-    let full = is_full(faults, tests);
-    if full {
-        return 8;
+    if faults > 256 || tests > 256 {
+        return Err(Refusal::new(8, 0));
     }
     if slots > 32 {
-        return 12;
+        return Err(Refusal::new(12, 0));
     }
     if long > 16384 {
-        return 1;
+        return Err(Refusal::new(1, 0));
     }
-    0
+    Ok(())
 }
 
 // The open pairs, and one more if a mutant may wake in another state.
@@ -78,65 +73,42 @@ fn slots_of(pairs: usize, starts: usize) -> usize
 }
 
 // The sheet of these parts, if it is within the limits.
-fn close(
-    head: &[u8],
-    faults: &[u8],
-    starts: &[u8],
-    tests: &[u8],
-    more: &[u8],
-    count: usize,
-    pairs: usize,
-    buffer: &mut [u8],
-) -> Merged
-    requires { (16384 ≤ length buffer.old) × (pairs ≤ 256) × Short head.now faults.now starts.now tests.now more.now }
-    ensures { (m : Sheet) → Pieces m head.now faults.now starts.now tests.now more.now count pairs
-        → Joins (limited m) result buffer.old buffer.new }
+fn close(parts: Parts, count: usize, pairs: usize, buffer: &mut [u8]) -> Result<usize, Refusal>
+    requires { (16384 ≤ length buffer.old) × (pairs ≤ 256) × Short parts }
+    ensures { (m : Sheet) → Pieces m parts.entry count pairs → Joins (limited m) result buffer.old buffer.new }
 {
-    let slots = slots_of(pairs, starts.len());
-    let long = head.len() + faults.len() + starts.len() + tests.len() + more.len() + 1;
-    let why = limit(faults.len() / 5, count, slots, long);
-    if why != 0 {
-        return Merged::Refused(0, why, 0);
-    }
-    Merged::Done(assemble(head, faults, starts, tests, more, buffer))
+    let slots = slots_of(pairs, parts.starts.len());
+    limit(parts.faults.len() / 5, count, slots, parts.len())?;
+    Ok(parts.assemble(buffer))
 }
 
-// What becomes of two accepted sheets and a buffer that is long enough; `pairs` is the number of open pairs if they have one machine.
+// What becomes of two accepted sheets; `pairs` is the number of open pairs if they have one machine.
 pub(crate) fn join(
-    first: &[u8],
-    a: Outline,
-    second: &[u8],
-    b: Outline,
+    first: Outline,
+    second: Outline,
     pairs: usize,
     buffer: &mut [u8],
-) -> Merged
-    requires { (16384 ≤ length buffer.old) × (pairs ≤ 256) × ((x y : Sheet) × Laid x first.now a × Laid y second.now b) }
-    ensures { (x y : Sheet) → Laid x first.now a → Laid y second.now b
+) -> Result<usize, Refusal>
+    requires { (pairs ≤ 256) × ((x y : Sheet) × Laid x first × Laid y second) }
+    ensures { (x y : Sheet) → Laid x first.entry → Laid y second.entry
         → (SameMachine x y → pairs ≡ open_pairs (merged x y)) → Joins (merge_on x y (length buffer.old)) result buffer.old buffer.new }
 {
-    let ra = a.rules;
-    let rb = b.rules;
-    if !same(&first[..ra], &second[..rb]) {
-        return Merged::Refused(0, 21, 0);
+    if buffer.len() < 16384 {
+        return Err(Refusal::new(16, 0));
     }
-    let fa = a.faults;
-    let fb = b.faults;
-    let mut faults = no_faults();
-    let f = unite(&first[ra..fa], &second[rb..fb], 5, &mut faults);
-    let sa = a.starts;
-    let sb = b.starts;
-    let mut starts = no_starts();
-    let t = unite(&first[fa..sa], &second[fb..sb], 2, &mut starts);
-    let ta = a.tests;
-    let tb = b.tests;
-    close(
-        &first[..ra],
-        &faults[..f],
-        &starts[..t],
-        &first[sa..ta],
-        &second[sb..tb],
-        a.count + b.count,
-        pairs,
-        buffer,
-    )
+    if first.head() != second.head() {
+        return Err(Refusal::new(21, 0));
+    }
+    let mut faults = [0u8; 2560];
+    let f = unite(first.faults(), second.faults(), 5, &mut faults);
+    let mut starts = [0u8; 64];
+    let t = unite(first.starts(), second.starts(), 2, &mut starts);
+    let parts = Parts {
+        head: first.head(),
+        faults: &faults[..f],
+        starts: &starts[..t],
+        tests: first.tests(),
+        more: second.tests(),
+    };
+    close(parts, first.count + second.count, pairs, buffer)
 }

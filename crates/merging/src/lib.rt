@@ -11,45 +11,54 @@ mod union;
 ghost use Rattle.std.specs.Prelude.{◌≡◌, length};
 ghost use Rattle.lists.specs.Lists.{overlay};
 ghost use Rattle.renaming.specs.Merging.{merging};
+ghost use Rattle.sheet.specs.Reading as reading;
+ghost use Rattle.sheet.specs.Tables.{loaded_of};
 ghost use Rattle.merging.specs.Answers.{merged_answer, merged_writes, ToldMerge};
+ghost use Rattle.merging.specs.words.Outlined.{survey_answer};
 
 use join::join;
-use outline::{no_choices, open_pairs, outline_of, survey};
-use sheet::{Reading, refusal_of};
+use outline::{Outline, open_pairs};
+use sheet::{Refusal, Summary, Tables};
 
-// What merging answers: the merged sheet's length; or which sheet a refusal on reading concerns (1 or 2, 0 for another refusal), its number and
-// its place.
-#[derive(Clone, Copy)]
-pub enum Merged {
-    Done(usize),
-    Refused(u8, u8, usize),
+// The sheet that a refusal concerns: the first or the second one on reading, otherwise the merged one.
+#[derive(Clone, Copy, Debug, PartialEq, Eq)]
+pub enum Concerns {
+    Merged,
+    First,
+    Second,
 }
 
-// The sheet with the faults and STARTs of both, each once, in order, and the first sheet's tests followed by the second's, at the buffer's front.
-pub fn merge(first: &[u8], second: &[u8], buffer: &mut [u8]) -> Merged
+// Why two sheets are not merged.
+#[derive(Clone, Copy, Debug, PartialEq, Eq)]
+pub struct Unmerged {
+    pub concerns: Concerns,
+    pub why: Refusal,
+}
+
+// Reads one of the two sheets into tables.
+fn survey(sheet: &[u8], concerns: Concerns, tables: &mut Tables) -> Result<Summary, Unmerged>
+    ensures answer { result ≡ survey_answer concerns (reading.reading sheet.now) }
+    ensures tables { tables.new ≡ loaded_of (reading.reading sheet.now) }
+{
+    reading::load(sheet, tables).map_err(|why| Unmerged { concerns, why })
+}
+
+// The sheet with the faults and STARTs of both, each once, in order, and the first sheet's tests followed by the second's, at the buffer's front;
+// gives its length.
+pub fn merge(first: &[u8], second: &[u8], buffer: &mut [u8]) -> Result<usize, Unmerged>
     ensures answer { result ≡ merged_answer (merging first.now second.now (length buffer.old)) }
     ensures bytes { buffer.new ≡ overlay (merged_writes (merging first.now second.now (length buffer.old))) buffer.old }
     ensures told { ToldMerge first.now second.now result buffer.old buffer.new }
 {
-    let mut choices = no_choices();
-    let a = survey(first, &mut choices);
-    let reading = a.reading;
-    let Reading::Accepted(x) = reading else {
-        let why = refusal_of(reading);
-        return Merged::Refused(1, why.number, why.place);
-    };
-    let mut others = no_choices();
-    let b = survey(second, &mut others);
-    let later = b.reading;
-    let Reading::Accepted(y) = later else {
-        let why = refusal_of(later);
-        return Merged::Refused(2, why.number, why.place);
-    };
-    if buffer.len() < 16384 {
-        return Merged::Refused(0, 16, 0);
-    }
-    let one = outline_of(first, x, a.quiet, a.waking);
-    let other = outline_of(second, y, b.quiet, b.waking);
-    let pairs = open_pairs(&choices, &others, x.states, x.inputs);
-    join(first, one, second, other, pairs, buffer)
+    let mut one = Tables::blank();
+    let mut other = Tables::blank();
+    let x = survey(first, Concerns::First, &mut one)?;
+    let y = survey(second, Concerns::Second, &mut other)?;
+    let pairs = open_pairs(&one.choices, &other.choices, x.states, x.inputs);
+    let a = Outline::new(first, x);
+    let b = Outline::new(second, y);
+    join(a, b, pairs, buffer).map_err(|why| Unmerged {
+        concerns: Concerns::Merged,
+        why,
+    })
 }

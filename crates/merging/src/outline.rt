@@ -1,82 +1,63 @@
-// What merging looks at in a sheet: where its parts end, and which pairs are open in it or in another.
-ghost use Rattle.std.specs.Prelude.{◌≡◌, ◌||◌, ◌+◌, ◌*◌, ◌<◌, ◌≤◌, ltb, length, get_or};
+// What merging looks at in a sheet: its parts, and which pairs are open in it or in another.
+ghost use Rattle.std.specs.Prelude.{◌≡◌, ◌<◌, ◌≤◌, Ok};
 ghost use Rattle.lists.specs.Lists.{count};
 ghost use Rattle.sheet.specs.Sheet.{Sheet};
-ghost use Rattle.sheet.specs.Encode.{quiet_bytes};
+ghost use Rattle.sheet.specs.Encode.{row_bytes, start_bytes, test_bytes};
 ghost use Rattle.sheet.specs.Reading as reading;
 ghost use Rattle.sheet.specs.Tables.{read_answer};
-ghost use Rattle.merging.specs.words.Outlined.{Surveyed, Known, Laid, either_open, open_both};
+ghost use Rattle.merging.specs.words.Outlined.{Laid, head_bytes, either_open, open_both};
 
-use sheet::{Loaded, Summary};
+use reading::layout::Layout;
+use reading::layout_of;
+use sheet::Summary;
 
-// Where the RULEs, the FAULTs, the STARTs and the tests of a sheet end, and how many tests there are.
+// An accepted sheet, where its parts stand, and how many tests it has.
 #[derive(Clone, Copy)]
-pub(crate) struct Outline {
-    pub(crate) rules: usize,
-    pub(crate) faults: usize,
-    pub(crate) starts: usize,
-    pub(crate) tests: usize,
+pub(crate) struct Outline<'a> {
+    sheet: &'a [u8],
+    layout: Layout,
     pub(crate) count: usize,
 }
 
-pub(crate) fn no_choices() -> [u16; 256]
-    ensures { length result ≡ 256 }
-{
-    [0u16; 256]
-}
+impl<'a> Outline<'a> {
+    pub(crate) fn new(sheet: &'a [u8], summary: Summary) -> Outline<'a>
+        requires { Ok summary ≡ read_answer (reading.reading sheet.now) }
+        ensures { (sh : Sheet) → reading.reading sheet.now ≡ reading.accepted sh → Laid sh result }
+    {
+        Outline {
+            sheet,
+            layout: layout_of(sheet, summary),
+            count: summary.tests,
+        }
+    }
 
-// Reads a sheet; of an accepted one, the numbers of choices by pair.
-pub(crate) fn survey(sheet: &[u8], choices: &mut [u16; 256]) -> Loaded
-    ensures reading_value { result.reading ≡ read_answer (reading.reading sheet.now) }
-    ensures surveyed { (sh : Sheet) → reading.reading sheet.now ≡ reading.accepted sh → Surveyed sh result choices.new }
-{
-    let mut output = [0u8; 256];
-    let mut target = [0u8; 256];
-    let mut first = [0u16; 256];
-    let mut mutated = [0u8; 256];
-    let mut diverted = [0u8; 256];
-    let mut starts = [0u16; 256];
-    let mut lengths = [0u16; 256];
-    reading::load(
-        sheet,
-        &mut output,
-        &mut target,
-        choices,
-        &mut first,
-        &mut mutated,
-        &mut diverted,
-        &mut starts,
-        &mut lengths,
-    )
-}
+    // SIZE, QUIET and the RULEs.
+    pub(crate) fn head(self) -> &'a [u8]
+        requires { (sh : Sheet) × Laid sh self }
+        ensures { (sh : Sheet) → Laid sh self.entry → result.now ≡ head_bytes sh }
+    {
+        &self.sheet[..self.layout.faults]
+    }
 
-fn wide(n: u8) -> usize
-    ensures { result ≡ n }
-{
-    n as usize
-}
+    pub(crate) fn faults(self) -> &'a [u8]
+        requires { (sh : Sheet) × Laid sh self }
+        ensures { (sh : Sheet) → Laid sh self.entry → result.now ≡ row_bytes 3 sh.faults }
+    {
+        &self.sheet[self.layout.faults..self.layout.starts]
+    }
 
-// Where the RULEs begin.
-fn rules_at(quiet: bool) -> usize
-    ensures { result ≡ 4 + length (quiet_bytes quiet) }
-{
-    if quiet { 5 } else { 4 }
-}
+    pub(crate) fn starts(self) -> &'a [u8]
+        requires { (sh : Sheet) × Laid sh self }
+        ensures { (sh : Sheet) → Laid sh self.entry → result.now ≡ start_bytes sh.starts }
+    {
+        &self.sheet[self.layout.starts..self.layout.tests]
+    }
 
-// The parts of an accepted sheet.
-pub(crate) fn outline_of(sheet: &[u8], summary: Summary, quiet: bool, waking: u8) -> Outline
-    requires { (sh : Sheet) × Known sh sheet.now summary quiet waking }
-    ensures { (sh : Sheet) → Known sh sheet.now summary quiet waking → Laid sh sheet.now result }
-{
-    let rules = rules_at(quiet) + 5 * summary.rules;
-    let faults = rules + 5 * summary.faults;
-    let starts = faults + 2 * (wide(waking) - 1);
-    Outline {
-        rules,
-        faults,
-        starts,
-        tests: sheet.len() - 1,
-        count: summary.tests,
+    pub(crate) fn tests(self) -> &'a [u8]
+        requires { (sh : Sheet) × Laid sh self }
+        ensures { (sh : Sheet) → Laid sh self.entry → result.now ≡ test_bytes sh.tests }
+    {
+        &self.sheet[self.layout.tests..self.sheet.len() - 1]
     }
 }
 
@@ -86,10 +67,7 @@ fn is_open(choices: &[u16; 256], others: &[u16; 256], s: usize, x: usize) -> boo
     ensures { result ≡ either_open choices.now others.now s x }
 {
     let p = s * 16 + x;
-    if choices[p] > 1 {
-        return true;
-    }
-    others[p] > 1
+    choices[p] > 1 || others[p] > 1
 }
 
 // How many pairs at a state are.
@@ -98,13 +76,11 @@ fn open_at(choices: &[u16; 256], others: &[u16; 256], s: usize, inputs: usize) -
     ensures few { result ≤ 16 }
     ensures counted { result ≡ count (either_open choices.now others.now s) inputs }
 {
-    let mut n: usize = 0;
-    let mut x: usize = 0;
-    while x < inputs {
+    let mut n = 0;
+    for x in 0..inputs {
         if is_open(choices, others, s, x) {
             n += 1;
         }
-        x += 1;
     }
     n
 }
@@ -115,13 +91,9 @@ pub(crate) fn open_pairs(choices: &[u16; 256], others: &[u16; 256], states: u8, 
     ensures few { result ≤ 256 }
     ensures counted { result ≡ open_both choices.now others.now inputs states }
 {
-    let m = wide(states);
-    let k = wide(inputs);
-    let mut n: usize = 0;
-    let mut s: usize = 0;
-    while s < m {
-        n += open_at(choices, others, s, k);
-        s += 1;
+    let mut n = 0;
+    for s in 0..usize::from(states) {
+        n += open_at(choices, others, s, usize::from(inputs));
     }
     n
 }

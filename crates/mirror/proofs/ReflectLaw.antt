@@ -1,6 +1,7 @@
 -- A cube in which no mutant is sought, and which does not tell two exchangeable states apart but at one suspect.
 use Rattle.std.specs.Prelude.{◌/◌, ◌%◌, ◌<◌, ◌≡◌}
-use Rattle.lists.specs.Proving.{arith, ℕ, refl, sym, ◌∙◌, ap, subst, ⊎_elim, by_cases, List, get_or, ℕ_discrete, dec_lt}
+use Rattle.lists.specs.Proving.{arith, ℕ, Bool, true, false, never, refl, sym, ◌∙◌, ap, subst, ⊎_elim, by_cases, List, get_or, ℕ_discrete, dec_lt}
+use mathlib.Core.Bool.{beq}
 use native.Mathlib.Nat.{div-add-mod'}
 use Rattle.model.specs.Machine.{Move}
 use Rattle.block.specs.Layout.{pair, waking, site_at}
@@ -23,6 +24,13 @@ blind-some {a} {b} {l} n there back = record { at = λ v h. go v (meant l v n h)
   where
     go : (v : Move) → (l / 65536 ≡ v.output) × Has (l % 65536) v.target → Means l (turned a b v)
     go v h = meaning l (turned a b v) h.0 (other-cases (λ t. Has (l % 65536) t) a b v.target (λ e. there (rw e at h.1)) (λ e. back (rw e at h.1)) (λ p q. h.1))
+
+-- two answers that are the same, of a set whether it has a and whether it has b
+pub blind-same : {a b l set : ℕ} (x y : Bool) → set ≡ l % 65536 → (l ≡ 4294967295 → ⊥) → (x ≡ true → Has set a) × (x ≡ false → Has set a → ⊥) → (y ≡ true → Has set b) × (y ≡ false → Has set b → ⊥) → beq x y ≡ true → Blind a b l
+blind-same true true es n p q e = blind-some n (λ h. rw es at (q.0 refl)) (λ h. rw es at (p.0 refl))
+blind-same false false es n p q e = blind-some n (λ h. absurd (p.1 refl (rw es h))) (λ h. absurd (q.1 refl (rw es h)))
+blind-same true false es n p q e = never cc
+blind-same false true es n p q e = never cc
 
 -- ---- a mutant in `all` whose transition at the pair k leads to b is not sought, as its image is in the cube
 module _ {m cube all : List ℕ} {k a b o : ℕ} (wf : Wf m) (lk : k < 257) (nk : site_at m k ≡ 255 → ⊥) (mn : MeansStep (get_or cube (site_at m k) 0) o a) (sa : Silent m cube a)

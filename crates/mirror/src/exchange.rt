@@ -6,6 +6,7 @@ ghost use Rattle.cubes.specs.Cube.{Given};
 ghost use Rattle.mirror.specs.Mirror.{other, Each, Below, OffersStep, Answered, Exchanges, RowExchanges, Movable, FixedOk, Exchangeable, Partnered, Exchanged};
 
 use block::*;
+use cubes::literals::ANY;
 use cubes::tables::{EXCHANGES, Facts};
 use cubes::words::{holds, one, union};
 
@@ -50,10 +51,7 @@ fn is_choice(block: &Block, j: usize, d: u16, o: u8, t: u8) -> bool
 fn clipped(d: u16, end: u16) -> u16
     ensures { 0 < end → result < end }
 {
-    if d < end {
-        return d;
-    }
-    0
+    if d < end { d } else { 0 }
 }
 
 // Whether a choice of the pair j is the transition. They are tried in a circle from `first` on.
@@ -63,13 +61,11 @@ fn offered(block: &Block, j: usize, o: u8, t: u8, first: u16) -> bool
 {
     let end = choices_at(block, j);
     let mut d = clipped(first, end);
-    let mut left = end;
-    while left > 0 {
+    for tries in 0..end {
         if is_choice(block, j, d, o, t) {
             return true;
         }
         d = clipped(d + 1, end);
-        left -= 1;
     }
     false
 }
@@ -79,11 +75,7 @@ fn near(c: u16, target: u8, image: u8) -> u16 {
     if c >= 1024 {
         return 0;
     }
-    let at = c + (image as u16);
-    if at <= (target as u16) {
-        return 0;
-    }
-    at - (target as u16) - 1
+    (c + u16::from(image)).saturating_sub(u16::from(target) + 1)
 }
 
 // Whether choice c of the pair k, exchanged, is one of the pair j.
@@ -119,7 +111,7 @@ fn unruled_alike(block: &Block, k: usize, j: usize) -> bool
     if c != choices_at(block, j) {
         return false;
     }
-    c % (states(block) as u16) == 0
+    c % u16::from(states(block)) == 0
 }
 
 // Whether a pair is a suspect without a rule.
@@ -183,7 +175,7 @@ fn fixed(block: &Block, facts: &Facts) -> u16
     requires { Given block.now facts.now }
     ensures { FixedOk block.now result }
 {
-    let all = [4294967295u32; 32];
+    let all = [ANY; 32];
     union(one(0), cubes::starts::starts(block, facts, &all))
 }
 

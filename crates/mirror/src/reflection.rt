@@ -6,9 +6,9 @@ ghost use Rattle.mirror.specs.Mirror.{Each, Exchangeable, SwapsOk};
 ghost use Rattle.mirror.specs.Reflect.{Quiet, Silent, Blind, BlindBut, Mirrors, ReflectedOk};
 
 use block::*;
-use cubes::literals::Cube;
+use cubes::literals::{ANY, Cube, lit_next, literal, means};
 use cubes::tables::{EXCHANGES, Facts};
-use cubes::words::{Sets, holds};
+use cubes::words::{Sets, holds, one, union};
 
 // Whether the cube does not speak of the pair k.
 fn quiet(block: &Block, cube: &Cube, k: usize) -> bool
@@ -19,7 +19,7 @@ fn quiet(block: &Block, cube: &Cube, k: usize) -> bool
     if i == 255 {
         return true;
     }
-    cube[wide(i)] == 4294967295
+    cube[wide(i)] == ANY
 }
 
 // Nor of any pair of the state s.
@@ -41,14 +41,11 @@ fn blind(l: u32, a: u8, b: u8) -> bool
     requires { (a < 16) × (b < 16) }
     ensures { result ≡ true → Blind a b l }
 {
-    if l == 4294967295 {
+    if l == ANY {
         return true;
     }
-    let set = cubes::literals::lit_next(l);
-    if holds(set, a) {
-        return holds(set, b);
-    }
-    !holds(set, b)
+    let set = lit_next(l);
+    holds(set, a) == holds(set, b)
 }
 
 // The same of the literal of j, unless it is i.
@@ -89,7 +86,7 @@ fn image(block: &Block, cube: &Cube, i: u8, set: u16, a: u8, b: u8) -> u16
     if !blind_but(cube, i, a, b) {
         return 0;
     }
-    cubes::words::one(b)
+    one(b)
 }
 
 // The states of the set that the cube does not tell from a.
@@ -99,15 +96,9 @@ fn images(block: &Block, cube: &Cube, i: u8, set: u16, a: u8) -> u16
 {
     let mut found: u16 = 0;
     for b in 0..16 {
-        found = cubes::words::union(found, image(block, cube, i, set, a, b));
+        found = union(found, image(block, cube, i, set, a, b));
     }
     found
-}
-
-fn literal(o: u8, set: u16) -> u32
-    ensures { (result < 16777216) × (result / 65536 ≡ o) × (result % 65536 ≡ set) }
-{
-    (o as u32) * 65536 + (set as u32)
 }
 
 // Adds to `done` the transitions of the pair k with the output o to states that the cube, in which no mutant is sought and which
@@ -116,7 +107,7 @@ pub fn reflect(block: &Block, facts: &Facts, cube: &Cube, k: usize, a: u8, o: u8
     requires { Wf block.now × SwapsOk block.now facts.now × (k < 257) × (site_at block.now k ≡ 255 → ⊥) × (length done.old ≡ 16) }
     ensures { ReflectedOk block.now cube.now done.old done.new k }
 {
-    if a >= 16 {
+    if a >= 16 || o >= 16 {
         return;
     }
     let set = facts[EXCHANGES + wide(a)];
@@ -124,7 +115,7 @@ pub fn reflect(block: &Block, facts: &Facts, cube: &Cube, k: usize, a: u8, o: u8
         return;
     }
     let i = site(block, k);
-    if !cubes::literals::means(cube[wide(i)], o, a) {
+    if !means(cube[wide(i)], o, a) {
         return;
     }
     if !silent(block, cube, a) {

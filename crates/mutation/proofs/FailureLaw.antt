@@ -1,4 +1,5 @@
 -- The first failed test, along the log of an accepted sheet's suite.
+use Rattle.std.specs.Prelude.{Option as Maybe, Some, None}
 use Prim.Native.Nat.{ℕ}
 use native.Mathlib.Omega.{arith}
 use mathlib.Core.Path.{◌≡◌, refl, ◌∙◌, ap, ap₂}
@@ -15,7 +16,6 @@ use Rattle.model.specs.Log.{failed_in}
 use Rattle.model.proofs.laws.SuiteLaw.{specified-length, failed-means}
 use Rattle.block.specs.Logged.{observations}
 use Rattle.logs.specs.declared.walk.Wrong.{Wrong}
-use Rattle.logs.specs.declared.walk.Wrong.TheVariants as wrong
 use Rattle.logs.specs.Tests.{tests_at}
 use Rattle.logs.specs.Walked.{moves_in, wrong_of}
 use Rattle.logs.specs.laws.TestsLaw.{length_at}
@@ -25,11 +25,12 @@ use Rattle.mutation.specs.declared.Used.{Used}
 use Rattle.usage.specs.Marks.{start_slot_of, acts_in}
 use Rattle.usage.specs.Tried.{Inside, place_of, Reached}
 use Rattle.usage.specs.laws.MarksLaw.{used-tried}
-use Rattle.mutation.specs.declared.Failed.{Failed}
-use Rattle.mutation.specs.Answers.{used_of, failed_of, failed_answer}
+use Rattle.machine.specs.declared.laying.Machine.{Machine}
+use Rattle.machine.specs.Fits.{Machined}
+use Rattle.mutation.specs.declared.Tested.{Tested}
+use Rattle.mutation.specs.Answers.{used_of, tested_of}
 use Rattle.logs.specs.Suites.{SuiteIn, Logged}
 use Rattle.logs.specs.laws.SuitesLaw.{wf, suite, located}
-use Rattle.mutation.specs.words.Suites.{Plays, failed_by}
 
 -- its tests are inside the sheet
 pub inside : {sh : Sheet} {s starts lengths m : List ℕ} {tests room : ℕ} → SuiteIn sh s starts lengths tests m room → Inside s starts lengths tests
@@ -39,39 +40,38 @@ place-wrong : (o : Option Place) → place_of (wrong_of o) ≡ o
 place-wrong none = refl
 place-wrong (some f) = refl
 
-by_place : (w : Wrong) (u : Used) → failed_by w u ≡ failed_of (place_of w) u
-by_place wrong.Nothing u = refl
-by_place (wrong.At test position) u = refl
-
-module _ {sh : Sheet} {b s starts lengths m outputs targets log : List ℕ} {tests room start n : ℕ} (su : SuiteIn sh s starts lengths tests m room)
-    (pl : Plays sh b outputs targets start) (lg : Logged sh log n) {w : Wrong}
-    (ew : w ≡ wrong_of (failed_in (moves_in outputs targets) start start 0 0 (observations (take n log)))) where
+module _ {sh : Sheet} {b s starts lengths m log : List ℕ} {tests room n : ℕ} (su : SuiteIn sh s starts lengths tests m room)
+    {r : Machine} (is : Machined sh b r) (lg : Logged sh log n) {w : Maybe Wrong}
+    (ew : w ≡ wrong_of (failed_in (moves_in r.output r.target) r.start r.start 0 0 (observations (take n log)))) where
   -- what the walk finds is the first failed test
+  found-wrong : w ≡ wrong_of (first_failed_of sh b)
+  found-wrong =
+      ew
+      ∙ ap wrong_of
+      (ap (failed_in (moves_in r.output r.target) r.start r.start 0 0) lg.is ∙ walked-failed sh (wf su) b (tabulates (wf su) b is.moves) r.start is.start)
+
   found-place : place_of w ≡ first_failed_of sh b
-  found-place =
-      ap place_of ew ∙ place-wrong (failed_in (moves_in outputs targets) start start 0 0 (observations (take n log)))
-      ∙ ap (failed_in (moves_in outputs targets) start start 0 0) lg.is
-      ∙ walked-failed sh (wf su) b (tabulates (wf su) b pl.moves) start pl.starts
+  found-place = ap place_of found-wrong ∙ place-wrong (first_failed_of sh b)
 
   -- it is an output of a test
   pub found-reached : Reached lengths tests w
   found-reached = go w found-place
     where
-      go : (v : Wrong) → place_of v ≡ first_failed_of sh b → Reached lengths tests v
-      go wrong.Nothing e = tt
-      go (wrong.At test position) e =
-          let f : FirstFailed sh b (record { test = test; position = position }) = rw (← e) at (failed-means sh b (wf su)) in
-          let long = specified-length (rule sh) 0 (get_or sh.tests test []) f.expected (unfold specified in f.specifies) in
-          let many = length_at sh test f.is (omega (arith, f.is, (wf su).few-tests)) in
+      go : (v : Maybe Wrong) → place_of v ≡ first_failed_of sh b → Reached lengths tests v
+      go None e = tt
+      go (Some v) e =
+          let f : FirstFailed sh b (record { test = v.test; position = v.position }) = rw (← e) at (failed-means sh b (wf su)) in
+          let long = specified-length (rule sh) 0 (get_or sh.tests v.test []) f.expected (unfold specified in f.specifies) in
+          let many = length_at sh v.test f.is (omega (arith, f.is, (wf su).few-tests)) in
           (omega (arith, f.is, su.many), rw su.lengths-are (omega (arith, f.reached, long, many)))
 
   -- and the slots used until then are told with it
-  pub first_found : {set : ℕ} {u : Used} {r : Failed} →
-      set ≡ mark_all (acts_in m targets) start (mark 0 (start_slot_of m)) (tried_of (tests_at s starts lengths tests) (place_of w)) → u ≡ used_of (counted set) →
-      r ≡ failed_by w u → r ≡ failed_answer (accepted (finding_of sh b))
+  pub first_found : {set : ℕ} {u : Used} {t : Tested} →
+      set ≡ mark_all (acts_in m r.target) r.start (mark 0 (start_slot_of m)) (tried_of (tests_at s starts lengths tests) (place_of w)) → u ≡ used_of (counted set) →
+      t ≡ record { failed = w; used = u } → t ≡ tested_of (finding_of sh b)
   unfolding finding_of
-  first_found {set} {u} es eu er =
-      er ∙ by_place w u ∙ ap₂ failed_of found-place (eu ∙ ap used_of (ap counted marked ∙ used-tried su.tabled b (tabulates (wf su) b pl.moves) pl.starts (first_failed_of sh b)))
-    where
-      marked : set ≡ mark_all (acts_in m targets) start (mark 0 (start_slot_of m)) (tried_of sh.tests (first_failed_of sh b))
-      marked = es ∙ rw (found-place, suite su) refl
+  first_found {set} {u} es eu et =
+      let is-used : u ≡ used_of (counted (mark_all (acts_in m r.target) r.start (mark 0 (start_slot_of m)) (tried_of sh.tests (first_failed_of sh b)))) =
+      eu ∙ ap used_of (ap counted (es ∙ rw (found-place, suite su) refl)) in
+      et ∙ ap₂ (λ (v : Maybe Wrong) (x : Used). record { failed = v; used = x }) found-wrong
+      (is-used ∙ ap used_of (used-tried su.tabled b (tabulates (wf su) b is.moves) is.start (first_failed_of sh b)))

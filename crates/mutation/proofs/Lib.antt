@@ -1,4 +1,5 @@
 -- What the proofs of the functions share.
+mod OverLaw
 mod RespondLaw
 mod OperateLaw
 mod FailureLaw

@@ -8,22 +8,13 @@ use lib.ListN.{length, get_or, set, take, drop, length-set, take-append-drop, dr
 use lib.Seq.{take-suc-set, append_snoc, drop-set-lt, drop-drop, drop-cons}
 use Rattle.model.specs.Machine.{outputs_from}
 use Rattle.model.specs.Used.{mark, mark_from}
-use Rattle.model.specs.Operations.{first_over}
-use Rattle.model.proofs.laws.OperationLaw.{first-over, none_over}
 use Rattle.model.proofs.laws.SuiteLaw.{outputs-length}
-use Rattle.lists.specs.Lists.{index_or, overlay}
+use Rattle.lists.specs.Lists.{overlay}
 use Rattle.block.specs.Layout.{pair, states_of}
 use Rattle.machine.specs.Product.{moves_in}
 use Rattle.machine.specs.laws.LaidLaw.{move_at}
 use Rattle.usage.specs.Marks.{start_slot_of, slot_at, acts_in}
 use Rattle.mutation.specs.Operate.{Runnable}
-
-module _ (k : ℕ) (xs : List ℕ) (i : ℕ) (below : (j : ℕ) → j < i → get_or xs j 0 < k) where
-  pub over-at : i < length xs → k ≤ get_or xs i 0 → i ≡ index_or (length xs) (first_over k xs)
-  over-at l over = rw (first-over k xs i (record { is = l; over = over; below = below })) refl
-
-  pub over-nowhere : length xs ≤ i → i ≤ length xs → i ≡ index_or (length xs) (first_over k xs)
-  over-nowhere l le = rw (none_over k xs (λ j lj. below j (omega arith))) (omega arith)
 
 pub record Responding (m outputs targets : List ℕ) (start : ℕ) (xs buf₀ buf : List ℕ) (used s i : ℕ) : Type 0 where
   pub counts : i ≤ length xs

@@ -1,4 +1,3 @@
 pub mod Answers
 pub mod Operate
 pub mod Judging
-pub mod words

@@ -2,42 +2,32 @@
 ghost use Rattle.std.specs.Prelude.{◌≡◌, length};
 ghost use Rattle.sheet.specs.Sheet.{Sheet};
 ghost use Rattle.model.specs.Operations.{compare_on};
-ghost use Rattle.block.specs.Tabled.{Tabled};
-ghost use Rattle.mutation.specs.Answers.{compared_by, Compares};
+ghost use Rattle.block.specs.Tabled.{LoadedFrom};
+ghost use Rattle.mutation.specs.Answers.{Compares};
 
-use crate::Compared;
-use block::{BLOCK, states, wide};
-use machine::{Difference, Fit, bound, distinguish, machine_of};
-
-// A mutant that nothing tells from the specification conforms.
-fn compared(found: Difference) -> Compared
-    ensures { result ≡ compared_by found }
-{
-    match found {
-        Difference::Nothing => Compared::Conforms,
-        Difference::Shown(length) => Compared::Differs(length),
-    }
-}
+use block::{Loaded, states};
+use machine::{Difference, bound, distinguish, machine_of};
+use sheet::Refusal;
 
 // Compare, on an accepted sheet.
-pub(crate) fn compare_accepted(block: &[u8; BLOCK], mutant: &[u8], buffer: &mut [u8]) -> Compared
-    requires { (sh : Sheet) × Tabled sh block.now }
-    ensures { (sh : Sheet) → Tabled sh block.now → Compares (compare_on sh mutant.now (length buffer.old)) result buffer.old buffer.new }
+pub(crate) fn compare_loaded(
+    loaded: &Loaded,
+    mutant: &[u8],
+    buffer: &mut [u8],
+) -> Result<Difference, Refusal>
+    requires { (sh : Sheet) × LoadedFrom sh loaded.now }
+    ensures { (sh : Sheet) → LoadedFrom sh loaded.now → Compares (compare_on sh mutant.now (length buffer.old)) result buffer.old buffer.new }
 {
-    let machine = machine_of(block, mutant);
-    let fit = machine.fit;
-    if let Fit::Refused(number, place) = fit {
-        return Compared::Refused(number, place);
+    let block = &loaded.block;
+    let machine = machine_of(block, mutant)?;
+    if buffer.len() < usize::from(bound(usize::from(states(block)))) {
+        return Err(Refusal::new(16, 0));
     }
-    if buffer.len() < bound(wide(states(block))) as usize {
-        return Compared::Refused(16, 0);
-    }
-    let found = distinguish(
+    Ok(distinguish(
         block,
         &machine.output,
         &machine.target,
         machine.start,
         buffer,
-    );
-    compared(found)
+    ))
 }

@@ -8,6 +8,6 @@ mod node;
 mod prefix;
 mod tell;
 
-pub use node::{Node, UNHINTED, child, root};
+pub use node::{Node, UNHINTED};
 pub use prefix::has_prefix;
-pub use tell::look;
+pub use tell::Question;

@@ -13,62 +13,49 @@ pub const UNHINTED: u16 = 32767;
 pub struct Node {
     pub p: [u8; 32],
     pub settled: u32,
+    // stays: a number with 254 for none, as in a cursor, of which `cursors::advance_all` says that it moves if it waits for `last`
+    // (`Advanced`)
     pub last: u8,
     pub left: u8,
+    // stays: one number with UNHINTED, as the notes lent hold hints, and as `hint >= FROM_TEST` tells a test from an entry
     pub hint: u16,
 }
 
-// The node with one transition more.
-pub fn child(node: Node, i: u8, step: Step, hint: u16) -> Node
-    requires { 0 < node.left }
-    ensures { result.left + 1 ≡ node.left }
-{
-    let mut p = node.p;
-    p[wide(i % 32)] = packed(step.output, step.target);
-    Node {
-        p,
-        settled: joined(node.settled, i),
-        last: i,
-        left: node.left - 1,
-        hint,
+impl Node {
+    // The node of a prefix.
+    pub fn root(block: &Block, prefix: &[u16; 32]) -> Node {
+        let mut node = Node {
+            p: [0; 32],
+            settled: 0,
+            last: 254,
+            left: 32,
+            hint: UNHINTED,
+        };
+        for j in 0..32 {
+            let c = prefix[usize::from(j)];
+            let k = pair_of(block, j);
+            if c != 256 && site(block, k) == j {
+                let step = transition(block, k, c);
+                node.p[usize::from(j)] = packed(step.output, step.target);
+                node.settled = with(node.settled, j);
+            }
+        }
+        node
     }
-}
 
-// The transition of a choice of a suspect.
-fn step_of(block: &Block, j: u8, c: u16) -> u8
-    requires { j < 32 }
-{
-    let step = transition(block, pair_of(block, j), c);
-    packed(step.output, step.target)
-}
-
-// The set with a slot of the prefix, if it is a suspect that is settled.
-fn settled_with(block: &Block, set: u32, j: u8, c: u16) -> u32
-    requires { j < 32 }
-{
-    if c == 256 {
-        return set;
-    }
-    if site(block, pair_of(block, j)) != j {
-        return set;
-    }
-    joined(set, j)
-}
-
-// The node of a prefix.
-pub fn root(block: &Block, prefix: &[u16; 32]) -> Node {
-    let mut p = [0u8; 32];
-    let mut settled: u32 = 0;
-    for j in 0..32 {
-        let c = prefix[wide(j)];
-        p[wide(j)] = step_of(block, j, c);
-        settled = settled_with(block, settled, j, c);
-    }
-    Node {
-        p,
-        settled,
-        last: 254,
-        left: 32,
-        hint: UNHINTED,
+    // The node with one transition more.
+    pub fn child(&self, i: u8, step: Step, hint: u16) -> Node
+        requires { 0 < self.now.left }
+        ensures { result.left + 1 ≡ self.now.left }
+    {
+        let mut p = self.p;
+        p[usize::from(i % 32)] = packed(step.output, step.target);
+        Node {
+            p,
+            settled: with(self.settled, i),
+            last: i,
+            left: self.left - 1,
+            hint,
+        }
     }
 }

@@ -12,11 +12,11 @@ fn slot_has(block: &Block, cube: &Cube, prefix: &[u16; 32], i: u8) -> bool
     requires { Wf block.now × (i < 32) }
     ensures { result ≡ true → SlotHas block.now cube.now prefix.now i }
 {
-    let l = cube[wide(i)];
+    let l = cube[usize::from(i)];
     if l == ANY {
         return true;
     }
-    let c = prefix[wide(i)];
+    let c = prefix[usize::from(i)];
     if c == 256 {
         return false;
     }
@@ -25,11 +25,7 @@ fn slot_has(block: &Block, cube: &Cube, prefix: &[u16; 32], i: u8) -> bool
         return false;
     }
     let step = transition(block, k, c);
-    let t = step.target;
-    if t >= 16 {
-        return false;
-    }
-    cubes::literals::means(l, step.output, t)
+    step.target < 16 && cubes::literals::means(l, step.output, step.target)
 }
 
 // Slot by slot, as few of the 257 pairs are suspects; a cube says nothing of most slots.

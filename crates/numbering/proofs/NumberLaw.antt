@@ -2,19 +2,20 @@
 use Rattle.std.specs.Prelude.{◌/◌, ◌%◌, ◌<◌, ◌≤◌, ◌≡◌}
 use Rattle.lists.specs.Proving.{arith, ℕ, refl, sym, ◌∙◌, ap, subst, cond, List, length, get_or, take, lt-ltb, never}
 use Rattle.lists.specs.Lists.{overlay}
-use Rattle.sheet.specs.declared.Reading.{Reading as ReadAnswer}
-use Rattle.sheet.specs.declared.Reading.TheVariants as read
+use Rattle.std.specs.Prelude.{Result as Answer}
+use Rattle.std.specs.Prelude.{Ok, Err}
+use Rattle.sheet.specs.declared.Refusal.{Refusal}
 use Rattle.sheet.specs.declared.Summary.{Summary}
 use Rattle.sheet.specs.Sheet.{Sheet, rule_at, wakings, waking_choices}
 use Rattle.sheet.specs.Encode.{encode}
 use Rattle.sheet.specs.Reading.{Reading, accepted, refused, reading, summary_of}
-use Rattle.sheet.specs.Tables.{Tables, tables_of, read_answer, loaded_of}
+use Rattle.sheet.specs.declared.Tables.{Tables}
+use Rattle.sheet.specs.Tables.{refusal_of, tables_of, read_answer, loaded_of}
 use Rattle.sheet.specs.words.Tabled.{ByPair, place_of, rule_target}
 use Rattle.sheet.specs.laws.AcceptedLaw.{well-formed, short-enough}
+use Rattle.sheet.specs.laws.RefusalLaw.{refused-by}
 use Rattle.sheet.specs.laws.EncodedLaw.{encoded}
 use Rattle.sheet.specs.laws.TablesLaw.{table-length, table_at}
-use Rattle.writing.specs.declared.Written.{Written}
-use Rattle.writing.specs.declared.Written.TheVariants as written
 use Rattle.writing.specs.Writing.{written_answer, sheet_writes}
 use Rattle.writing.specs.words.Spelled.{Spelled}
 use Rattle.writing.proofs.laws.SpelledLaw.{spelled-front}
@@ -25,9 +26,10 @@ use Rattle.renaming.proofs.laws.AgainLaw.{renamed-same}
 use Rattle.renaming.proofs.laws.MetLaw.{numbers}
 use Rattle.renaming.proofs.laws.NumberedLaw.{rows-length}
 use Rattle.renaming.proofs.laws.NumberingLaw.{numbering-is, numbered-told}
-use Rattle.numbering.specs.declared.ordered.Parts.{Parts}
+use Rattle.reading.specs.declared.layout.Layout.{Layout}
+use Rattle.reading.specs.Layout.{layout_of}
 use Rattle.numbering.specs.words.Searched.{Searched}
-use Rattle.numbering.specs.words.Ordered.{named, parts_by, Parted}
+use Rattle.numbering.specs.words.Ordered.{named, Parted}
 use Rattle.numbering.specs.Told.{ToldNumbered}
 
 -- what was read of an accepted sheet
@@ -37,14 +39,14 @@ pub record Opened (s : List ℕ) (size : Summary) (t : Tables) : Type 0 where
   pub summary : size ≡ summary_of sheet
   pub tabled : t ≡ tables_of sheet
 
-pub opened : (s : List ℕ) {r : ReadAnswer} {size : Summary} {t : Tables} → r ≡ read_answer (reading s) → r ≡ read.Accepted size → t ≡ loaded_of (reading s) → Opened s size t
-opened s {r} {size} {t} e h et = go (reading s) refl
+pub opened : (s : List ℕ) {size : Summary} {t : Tables} → read_answer (reading s) ≡ Ok size → t ≡ loaded_of (reading s) → Opened s size t
+opened s {size} {t} e et = go (reading s) refl
   where
     go : (d : Reading) → reading s ≡ d → Opened s size t
     go (accepted sh) is =
-        let a : read.Accepted size ≡ read.Accepted (summary_of sh) = sym h ∙ e ∙ ap read_answer is in
+        let a : Ok size ≡ read_answer (accepted sh) = sym e ∙ ap read_answer is in
         record { sheet = sh; is = is; summary = cc; tabled = et ∙ ap loaded_of is }
-    go (refused number place) is = let a : read.Accepted size ≡ read.Refused number place = sym h ∙ e ∙ ap read_answer is in never (cc)
+    go (refused number place) is = let a : Ok size ≡ read_answer (refused number place) = sym e ∙ ap read_answer is in never (cc)
 
 module _ {s : List ℕ} {size : Summary} {t : Tables} (o : Opened s size t) where
   abbrev sh : Sheet
@@ -64,33 +66,6 @@ module _ {s : List ℕ} {size : Summary} {t : Tables} (o : Opened s size t) wher
   unfolding summary_of
   states-are = ap (λ (z : Summary). z.states) o.summary
 
-  rules-are : size.rules ≡ length sh.rules
-  unfolding summary_of
-  rules-are = ap (λ (z : Summary). z.rules) o.summary
-
-  faults-are : size.faults ≡ length sh.faults
-  unfolding summary_of
-  faults-are = ap (λ (z : Summary). z.faults) o.summary
-
-  quiet_is : t.quiet ≡ sh.quiet
-  unfolding tables_of
-  quiet_is = ap (λ (t : Tables). t.quiet) o.tabled
-
-  waking-are : t.waking ≡ waking_choices sh
-  unfolding tables_of
-  waking-are = ap (λ (t : Tables). t.waking) o.tabled
-
-  -- the numbers of commands that `parts_of` asks for
-  pub counted : (size.rules ≤ 16384) × (size.faults ≤ 16384) × (1 ≤ t.waking)
-  unfolding waking_choices wakings
-  counted =
-      let long = short-enough s sh o.is in
-      let bytes = ap length (encoded s sh o.is) in (
-        omega (arith, rules-are, parts-length sh, rows-length 2 sh.rules, long, bytes),
-        omega (arith, faults-are, parts-length sh, rows-length 3 sh.faults, long, bytes),
-        omega (arith, waking-are),
-      )
-
   module _ (number : List ℕ) (long : length number ≡ 16) (is : (t : ℕ) → t < sh.size.states → get_or number t 0 ≡ number_of sh t) where
     renames : Renames sh.size.states (named number)
     renames =
@@ -103,12 +78,12 @@ module _ {s : List ℕ} {size : Summary} {t : Tables} (o : Opened s size t) wher
           apart = λ s t ls lt e. n.apart s t ls lt (sym (is s ls) ∙ e ∙ is t lt);
         }
 
-    pub parted : {parts : Parts} {buffer : List ℕ} → parts ≡ parts_by (cond t.quiet 5 4) size.rules size.faults t.waking → length s ≤ length buffer → Parted sh s parts number buffer
-    parted {parts} e room =
+    pub parted : {layout : Layout} {buffer : List ℕ} → layout ≡ layout_of sh → length s ≤ length buffer → Parted sh s layout number buffer
+    parted e room =
         record {
           formed = well-formed s sh o.is;
           bytes = sym (encoded s sh o.is);
-          parts_are = e ∙ (λ i. parts_by (cond (quiet_is i) 5 4) (rules-are i) (faults-are i) (waking-are i));
+          laid = e;
           names = record { long = long };
           renames = renames;
           room = room;
@@ -119,7 +94,7 @@ module _ {s : List ℕ} {size : Summary} {t : Tables} (o : Opened s size t) wher
     numbered-by = renamed-same sh (well-formed s sh o.is) (named number) (number_of sh) is
 
 -- ---- what the answer tells
-abbrev Promised : List ℕ → Written → List ℕ → List ℕ → Type 0
+abbrev Promised : List ℕ → Answer ℕ Refusal → List ℕ → List ℕ → Type 0
 Promised s r old new =
     (r ≡ written_answer (numbering s (length old))) × (new ≡ overlay (sheet_writes (numbering s (length old))) old) × ToldNumbered s r old new
 
@@ -131,7 +106,7 @@ short : (s : List ℕ) (sh : Sheet) (room : ℕ) → reading s ≡ accepted sh �
 unfolding numbering
 short s sh room e l = rw (e, lt-ltb room (length s) l) refl
 
-promised : (s : List ℕ) (r : Written) (old new : List ℕ) → r ≡ written_answer (numbering s (length old)) → new ≡ overlay (sheet_writes (numbering s (length old))) old → Promised s r old new
+promised : (s : List ℕ) (r : Answer ℕ Refusal) (old new : List ℕ) → r ≡ written_answer (numbering s (length old)) → new ≡ overlay (sheet_writes (numbering s (length old))) old → Promised s r old new
 promised s r old new a b =
     let room = length old in
     let out = numbering s room in (
@@ -143,31 +118,26 @@ promised s r old new a b =
         numbers = λ sh e l.
             let w = writes out r old new a b (numbering-is s sh room e l) in
             let told = numbered-told s sh e in
-            (w.answer ∙ ap written.Done told.long, subst (Numbers s sh) (sym (ap (λ n. take n new) (sym told.long) ∙ w.front)) told);
+            (w.answer ∙ ap Ok told.long, subst (Numbers s sh) (sym (ap (λ n. take n new) (sym told.long) ∙ w.front)) told);
       },
     )
 
-pub told-unread : (s : List ℕ) (old : List ℕ) {r : ReadAnswer} {number place : ℕ} {w : Written} → r ≡ read_answer (reading s) → r ≡ read.Refused number place → w ≡ written.Refused number place → Promised s w old old
-told-unread s old {r} {number} {place} {w} e h k = go (reading s) refl
-  where
-    go : (d : Reading) → reading s ≡ d → Promised s w old old
-    go (accepted sh) is = let a : read.Refused number place ≡ read.Accepted (summary_of sh) = sym h ∙ e ∙ ap read_answer is in never (cc)
-    go (refused n p) is =
-        let a : read.Refused number place ≡ read.Refused n p = sym h ∙ e ∙ ap read_answer is in
-        let out : numbering s (length old) ≡ refused number place = unread s (length old) n p is ∙ cc in
-        promised s w old old (k ∙ sym (ap written_answer out)) (sym (ap (λ x. overlay (sheet_writes x) old) out))
+pub told-unread : (s : List ℕ) (old : List ℕ) {why : Refusal} {w : Answer ℕ Refusal} → read_answer (reading s) ≡ Err why → w ≡ Err why → Promised s w old old
+told-unread s old {why} e k =
+    let out = unread s (length old) why.number why.place (refused-by why (reading s) e) in
+    promised s _ old old (k ∙ sym (ap written_answer out)) (sym (ap (λ x. overlay (sheet_writes x) old) out))
 
 module _ {s : List ℕ} {size : Summary} {t : Tables} (o : Opened s size t) (old : List ℕ) where
-  pub told-short : length old < length s → Promised s (written.Refused 16 0) old old
-  told-short l =
+  pub told-short : {why : Refusal} → why ≡ refusal_of 16 0 → length old < length s → Promised s (Err why) old old
+  told-short {why} e l =
       let out = short s o.sheet (length old) o.is l in
-      promised s (written.Refused 16 0) old old (sym (ap written_answer out)) (sym (ap (λ x. overlay (sheet_writes x) old) out))
+      promised s (Err why) old old (ap Err e ∙ sym (ap written_answer out)) (sym (ap (λ x. overlay (sheet_writes x) old) out))
 
   pub told-numbered : (number : List ℕ) {new : List ℕ} {r : ℕ} → length number ≡ 16 → ((t : ℕ) → t < o.sheet.size.states → get_or number t 0 ≡ number_of o.sheet t) → length s ≤ length old →
-      Spelled old new 0 r (encode (renamed (named number) o.sheet)) → Promised s (written.Done r) old new
+      Spelled old new 0 r (encode (renamed (named number) o.sheet)) → Promised s (Ok r) old new
   told-numbered number {new} {r} long is room sp =
       let out = numbering-is s o.sheet (length old) o.is room in
       let bytes : encode (renamed (named number) o.sheet) ≡ encode (numbered o.sheet) = ap encode (numbered-by o number long is) in
       let many : r ≡ length (encode (numbered o.sheet)) = omega (arith, sp.many, ap length bytes) in
-      promised s (written.Done r) old new (ap written.Done many ∙ sym (ap written_answer out))
+      promised s (Ok r) old new (ap Ok many ∙ sym (ap written_answer out))
       (spelled-front sp ∙ ap (λ (l : List ℕ). overlay l old) bytes ∙ sym (ap (λ x. overlay (sheet_writes x) old) out))

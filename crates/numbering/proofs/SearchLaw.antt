@@ -18,13 +18,7 @@ module _ {met o number : List ℕ} {count : ℕ} (m : Marked met o number count)
   next-met : t < 16 → meet_next met t ≡ meet met t
   next-met l = rw (lt-ltb t 16 l) refl
 
-  pub meet-none : 16 ≤ t → Marked (meet_next met t) o number count
-  meet-none l = let same : met ≡ meet_next met t = rw (le-ltb t 16 l) refl in subst (λ (l : List ℕ). Marked l o number count) same m
-
   module _ (low : t < 16) where
-    pub meet-old : (get_or number t 0 ≡ 255 → ⊥) → Marked (meet_next met t) o number count
-    meet-old marked = subst (λ (l : List ℕ). Marked l o number count) (sym (next-met low)) (marked-old m t low marked)
-
     module _ (room : Room met t) (free : get_or number t 0 ≡ 255) where
       pub meet-room : count < 16
       meet-room = omega (arith, m.counted, room low (unmarked m t low free))
@@ -32,13 +26,13 @@ module _ {met o number : List ℕ} {count : ℕ} (m : Marked met o number count)
       pub meet-new : Marked (meet_next met t) (set o count t) (set number t count) (count + 1)
       meet-new = subst (λ (l : List ℕ). Marked l (set o count t) (set number t count) (count + 1)) (sym (next-met low)) (marked-new m t low free meet-room)
 
+  pub meet-at : {i : ℕ} → i ≡ t → i < 16 → Room met t → get_or number i 0 ≡ 255 → Marked (meet_next met t) (set o count t) (set number i count) (count + 1)
+  meet-at e low room free = rw e (meet-new (omega arith) room (rw e at free))
+
 -- ---- the states that s leads to
-pub read-there : {sh : Sheet} {target : List ℕ} {inputs : ℕ} → Searched sh target inputs → (s x r : ℕ) → s < sh.size.states → x < inputs → r ≡ place_of (s % 16) (x % 16) → get_or target r 0 ≡ get_or target (place_of s x) 0
-read-there {target = target} h s x r l m e =
-    let few = h.formed.size.states.few in
-    let narrow = h.formed.size.inputs.few in
-    let same : r ≡ place_of s x = omega (arith, e, h.width) in
-    ap (λ k. get_or target k 0) same
+-- where the code reads in the table
+pub read-there : (target : List ℕ) {r : ℕ} (s x : ℕ) → r ≡ place_of s x → get_or target r 0 ≡ get_or target (place_of s x) 0
+read-there target s x e = ap (λ k. get_or target k 0) e
 
 module _ {sh : Sheet} {target : List ℕ} {inputs : ℕ} (h : Searched sh target inputs) (s : ℕ) (in-range : s < sh.size.states) (met : List ℕ) where
   module _ (x : ℕ) (below : x < inputs) (t : ℕ) (is : t ≡ get_or target (place_of s x) 0) where

@@ -15,44 +15,21 @@ ghost use Rattle.renaming.specs.Renaming.{numbering};
 ghost use Rattle.numbering.specs.Told.{ToldNumbered};
 
 use first_reached::numbers_of;
-use ordered::{parts_of, rewrite};
-use sheet::{Reading, refusal_of};
-use writing::Written;
+use ordered::rewrite;
+use reading::layout_of;
+use sheet::{Refusal, Tables};
 
-// The sheet in first-reached form at the buffer's front.
-pub fn renumber(sheet: &[u8], buffer: &mut [u8]) -> Written
+// The sheet in first-reached form at the buffer's front; gives its length.
+pub fn renumber(sheet: &[u8], buffer: &mut [u8]) -> Result<usize, Refusal>
     ensures answer { result ≡ written_answer (numbering sheet.now (length buffer.old)) }
     ensures bytes { buffer.new ≡ overlay (sheet_writes (numbering sheet.now (length buffer.old))) buffer.old }
     ensures told { ToldNumbered sheet.now result buffer.old buffer.new }
 {
-    let mut output = [0u8; 256];
-    let mut target = [0u8; 256];
-    let mut choices = [0u16; 256];
-    let mut first = [0u16; 256];
-    let mut mutated = [0u8; 256];
-    let mut diverted = [0u8; 256];
-    let mut starts = [0u16; 256];
-    let mut lengths = [0u16; 256];
-    let loaded = reading::load(
-        sheet,
-        &mut output,
-        &mut target,
-        &mut choices,
-        &mut first,
-        &mut mutated,
-        &mut diverted,
-        &mut starts,
-        &mut lengths,
-    );
-    let reading = loaded.reading;
-    let Reading::Accepted(size) = reading else {
-        let why = refusal_of(reading);
-        return Written::Refused(why.number, why.place);
-    };
+    let mut tables = Tables::blank();
+    let size = reading::load(sheet, &mut tables)?;
     if buffer.len() < sheet.len() {
-        return Written::Refused(16, 0);
+        return Err(Refusal::new(16, 0));
     }
-    let number = numbers_of(&target, size.states, size.inputs);
-    let parts = parts_of(size, loaded.quiet, loaded.waking);
-    Written::Done(rewrite(sheet, parts, &number, buffer))
+    let number = numbers_of(&tables.target, size.states, size.inputs);
+    Ok(rewrite(sheet, layout_of(sheet, size), &number, buffer))
 }

@@ -9,5 +9,5 @@ mod proposal;
 mod reach;
 mod witness;
 
-pub use proposal::propose;
+pub use proposal::{Proposal, propose};
 pub use reach::meet;

@@ -1,167 +1,132 @@
 // No test waits: the first unsettled suspect on the walk of the settled part, or a witness.
-ghost use Rattle.std.specs.Prelude.{◌≡◌, true, ◌⊎◌};
+ghost use Rattle.std.specs.Prelude.{◌≡◌, IfSome, IfOk};
 ghost use Rattle.pairs.specs.Meeting.{Free, Meets};
 
-use crate::cells::{Cell, look};
-use crate::witness::keep;
+use crate::cells::look;
+use crate::witness::{Wrong, keep};
 use block::*;
 use cubes::literals::Cube;
 use cubes::tables::Facts;
 use cubes::words::Sets;
 use leaves::*;
 
-// How many pairs of states are listed, the first unsettled suspect met (255: none), and whether an output can be wrong: at
-// which suspect, and which is right.
-#[derive(Clone, Copy)]
+// The suspect, if all its transitions are meant by the cube.
+fn unsettled(cube: &Cube, i: u8) -> Option<u8>
+    ensures { Free cube.now result }
+{
+    (i < 32 && cube[usize::from(i)] == ANY).then_some(i)
+}
+
+// The pairs of states in reach, in the order in which they are met, and the first unsettled suspect met.
+#[derive(Drop)]
 struct Reach {
+    seen: Sets,
+    list: [u8; 256],
     end: usize,
-    first: u8,
-    wrong: bool,
-    at: u8,
-    want: u8,
+    first: Option<u8>,
 }
 
-// A wrong output is in reach.
-fn wrong(mut w: Reach, cell: Cell) -> Reach
-    ensures { result.first ≡ w.first }
-{
-    w.wrong = true;
-    w.at = cell.site;
-    w.want = cell.output;
-    w
-}
-
-// An unsettled suspect; the first one stays.
-fn wait(mut w: Reach, i: u8) -> Reach
-    ensures { (result.first ≡ w.first) ⊎ (result.first ≡ i) }
-{
-    if w.first != 255 {
-        return w;
-    }
-    w.first = i;
-    w
-}
-
-// Lists a pair of states, if it is not listed.
-fn list_pair(seen: &mut Sets, list: &mut [u8; 256], mut w: Reach, a: u8, b: u8) -> Reach
-    ensures { result.first ≡ w.first }
-{
-    let row = wide(low(a));
-    if in_set(seen[row], b) {
-        return w;
-    }
-    let end = w.end;
-    if end >= 256 {
-        return w;
-    }
-    seen[row] = add(seen[row], b);
-    list[end] = packed(a, b);
-    w.end = end + 1;
-    w
-}
-
-// Whether it is a suspect all of whose transitions the cube means.
-fn unsettled(cube: &Cube, i: u8) -> bool
-    ensures { result ≡ true → Free cube.now i }
-{
-    if i >= 32 {
-        return false;
-    }
-    cube[wide(i)] == ANY
-}
-
-// One input at a pair of states.
-fn walk_cell(
-    block: &Block,
-    facts: &Facts,
-    cube: &Cube,
-    seen: &mut Sets,
-    list: &mut [u8; 256],
-    w: Reach,
-    z: u8,
-    x: u8,
-) -> Reach
-    ensures { Free cube.now w.first → Free cube.now result.first }
-{
-    let cell = look(block, facts, cube, z, x);
-    if cell.next == 255 {
-        return w;
-    }
-    if !cell.sound {
-        return wrong(w, cell);
-    }
-    if unsettled(cube, cell.site) {
-        return wait(w, cell.site);
-    }
-    list_pair(seen, list, w, cell.next, least(cell.go))
-}
-
-// Every input at a pair of states.
-fn walk_pair(
-    block: &Block,
-    facts: &Facts,
-    cube: &Cube,
-    seen: &mut Sets,
-    list: &mut [u8; 256],
-    from: Reach,
-    z: u8,
-) -> Reach
-    ensures { Free cube.now from.first → Free cube.now result.first }
-{
-    let end = inputs(block);
-    let mut w = from;
-    for x in 0..end {
-        w = walk_cell(block, facts, cube, seen, list, w, z, x);
-        if w.wrong {
-            return w;
+impl Reach {
+    // Lists a pair of states, if it is not listed.
+    fn list_pair(&mut self, a: u8, b: u8)
+        ensures { self.new.first ≡ self.old.first }
+    {
+        let row = usize::from(low(a));
+        if holds(self.seen[row], b) || self.end >= 256 {
+            return;
         }
+        self.seen[row] = with(self.seen[row], b);
+        self.list[self.end] = packed(a, b);
+        self.end += 1;
     }
-    w
+
+    // One input at a pair of states.
+    fn walk_cell(
+        &mut self,
+        block: &Block,
+        facts: &Facts,
+        cube: &Cube,
+        z: u8,
+        x: u8,
+    ) -> Result<(), Wrong>
+        ensures { Free cube.now self.old.first → Free cube.now self.new.first }
+    {
+        let Some(cell) = look(block, facts, cube, z, x) else {
+            return Ok(());
+        };
+        if !cell.sound {
+            return Err(Wrong {
+                at: cell.site,
+                want: cell.output,
+            });
+        }
+        if let Some(i) = cell.site {
+            let waits = unsettled(cube, i);
+            if waits.is_some() {
+                if self.first.is_none() {
+                    self.first = waits;
+                }
+                return Ok(());
+            }
+        }
+        self.list_pair(cell.next, least(cell.go));
+        Ok(())
+    }
+
+    // Every input at a pair of states.
+    fn walk_pair(&mut self, block: &Block, facts: &Facts, cube: &Cube, z: u8) -> Result<(), Wrong>
+        ensures { Free cube.now self.old.first → Free cube.now self.new.first }
+    {
+        for x in 0..inputs(block) {
+            self.walk_cell(block, facts, cube, z, x)?;
+        }
+        Ok(())
+    }
 }
 
-// Every pair of states in reach.
-fn walk(block: &Block, facts: &Facts, cube: &Cube, seen: &mut Sets, list: &mut [u8; 256]) -> Reach
-    ensures { Free cube.now result.first }
+// The first unsettled suspect that is met at a pair of states in reach, if no output there can be wrong.
+fn walk(block: &Block, facts: &Facts, cube: &Cube) -> Result<Option<u8>, Wrong>
+    ensures { IfOk result (λ first. Free cube.now first) }
 {
-    let mut w = Reach {
+    let mut reach = Reach {
+        seen: [0; 16],
+        list: [0; 256],
         end: 0,
-        first: 255,
-        wrong: false,
-        at: 255,
-        want: 0,
+        first: None,
     };
-    let b = least(cubes::starts::starts(block, facts, cube));
-    w = list_pair(seen, list, w, 0, b);
+    reach.list_pair(0, least(cubes::starts::starts(block, facts, cube)));
     for h in 0..256 {
-        if h >= w.end {
-            return w;
+        if h >= reach.end {
+            break;
         }
-        let z = list[h];
-        w = walk_pair(block, facts, cube, seen, list, w, z);
-        if w.wrong {
-            return w;
-        }
+        let z = reach.list[h];
+        reach.walk_pair(block, facts, cube, z)?;
     }
-    w
+    Ok(reach.first)
 }
 
-// The first unsettled suspect on the walk of the settled part, the waking state before all; 255 if there is none, or if a wrong
+// The first unsettled suspect on the walk of the settled part, the waking state before all; nothing if there is none, or if a wrong
 // output is in reach: then a witness is kept.
-pub fn meet(block: &Block, facts: &Facts, p: &[u8; 32], settled: u32, notes: &mut [u16]) -> u8
+pub fn meet(
+    block: &Block,
+    facts: &Facts,
+    p: &[u8; 32],
+    settled: u32,
+    notes: &mut [u16],
+) -> Option<u8>
     ensures { Meets settled notes.old notes.new result }
 {
     let mut cube = [ANY; 32];
-    let mut seen = [0u16; 16];
-    let mut list = [0u8; 256];
     exact(p, settled, &mut cube);
-    let i = site(block, WAKING);
-    if unsettled(&cube, i) {
-        return i;
+    let waking = unsettled(&cube, site(block, WAKING));
+    if waking.is_some() {
+        return waking;
     }
-    let w = walk(block, facts, &cube, &mut seen, &mut list);
-    if !w.wrong {
-        return w.first;
+    match walk(block, facts, &cube) {
+        Ok(first) => first,
+        Err(wrong) => {
+            keep(block, p, settled, wrong, notes);
+            None
+        }
     }
-    keep(block, p, settled, w.at, w.want, notes);
-    255
 }

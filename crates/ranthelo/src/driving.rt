@@ -2,21 +2,20 @@
 ghost use Rattle.std.specs.Prelude.{◌≡◌, ◌∷◌};
 ghost use Rattle.station.specs.Station.{beginning, nexting, taking, changing};
 ghost use Rattle.station.specs.Answers.{begun_answer, next_answer, taken_answer, changed_answer};
-ghost use Rattle.ranthelo.specs.Driving.{phase_of, state_of, state_numbers, begun_numbers, begun_state, step_numbers, advanced_numbers, advanced_state, taken_numbers, taken_state, changed_numbers};
+ghost use Rattle.ranthelo.specs.Driving.{phase_of, state_of, state_numbers, begun_numbers, begun_state, step_numbers, advanced_numbers, advanced_state, wrong_numbers, taken_numbers, taken_state, changed_numbers};
 
-use station::{Advanced, Begun, Changed, Phase, State, Step, Taken};
+use crate::numbers::{done_numbers, refused};
+use logs::Wrong;
+use station::{Advanced, Phase, State, Step};
 
 fn phase_of(due: usize, verdict: usize) -> Phase
     ensures { result ≡ phase_of due verdict }
 {
-    if verdict == 0 {
-        if due == 0 { Phase::Ready } else { Phase::Due }
-    } else {
-        if verdict == 1 {
-            Phase::Passed
-        } else {
-            Phase::Failed
-        }
+    match (verdict, due) {
+        (0, 0) => Phase::Ready,
+        (0, _) => Phase::Due,
+        (1, _) => Phase::Passed,
+        _ => Phase::Failed,
     }
 }
 
@@ -30,26 +29,16 @@ fn state_of(numbers: &[usize; 4]) -> State
     }
 }
 
-fn keep(state: State, numbers: &mut [usize; 4])
-    ensures { numbers.new ≡ state_numbers state }
+fn state_numbers(state: State) -> [usize; 4]
+    ensures { result ≡ state_numbers state }
 {
-    let begun = state.begun;
-    let position = state.position;
-    let phase = state.phase;
-    match phase {
-        Phase::Ready => {
-            *numbers = [begun, position, 0, 0];
-        }
-        Phase::Due => {
-            *numbers = [begun, position, 1, 0];
-        }
-        Phase::Passed => {
-            *numbers = [begun, position, 0, 1];
-        }
-        Phase::Failed => {
-            *numbers = [begun, position, 0, 2];
-        }
-    }
+    let (due, verdict) = match state.phase {
+        Phase::Ready => (0, 0),
+        Phase::Due => (1, 0),
+        Phase::Passed => (0, 1),
+        Phase::Failed => (0, 2),
+    };
+    [state.begun, state.position, due, verdict]
 }
 
 // Begin.
@@ -63,33 +52,24 @@ pub extern "C" fn ranthelo_station_begin(
     ensures state_after { state.new ≡ begun_state (begun_answer (beginning sheet.now)) state.old }
 {
     match station::begin(sheet) {
-        Begun::At(left) => {
-            keep(left, state);
+        Ok(left) => {
+            *state = state_numbers(left);
             *answer = [0, 0];
         }
-        Begun::Refused(number, place) => {
-            *answer = [number as usize, place];
-        }
+        Err(why) => *answer = refused(why),
     }
 }
 
 // A step as numbers, with the state that it leaves.
-fn tell_step(step: Step, left: State, answer: &mut [usize; 5])
-    ensures { answer.new ≡ 0 ∷ 0 ∷ step_numbers step left }
+fn step_numbers(given: Advanced) -> [usize; 5]
+    ensures { result ≡ 0 ∷ 0 ∷ step_numbers given.step given.state }
 {
-    match step {
-        Step::Reset => {
-            *answer = [0, 0, 0, station::test_of(left.begun), 0];
-        }
-        Step::Input(x) => {
-            *answer = [0, 0, 1, x as usize, left.position];
-        }
-        Step::Pass => {
-            *answer = [0, 0, 2, 0, 0];
-        }
-        Step::Failure(test, position) => {
-            *answer = [0, 0, 3, test, position];
-        }
+    let left = given.state;
+    match given.step {
+        Step::Reset => [0, 0, 0, station::test_of(left.begun), 0],
+        Step::Input(x) => [0, 0, 1, usize::from(x), left.position],
+        Step::Pass => [0, 0, 2, 0, 0],
+        Step::Failure(test, position) => [0, 0, 3, test, position],
     }
 }
 
@@ -103,15 +83,22 @@ pub extern "C" fn ranthelo_station_next(
     ensures answer_after { answer.new ≡ advanced_numbers (next_answer (nexting sheet.now (state_of state.old))) }
     ensures state_after { state.new ≡ advanced_state (next_answer (nexting sheet.now (state_of state.old))) state.old }
 {
-    let before = state_of(state);
-    match station::next(sheet, before) {
-        Advanced::Given(step, left) => {
-            tell_step(step, left, answer);
-            keep(left, state);
+    match station::next(sheet, state_of(state)) {
+        Ok(given) => {
+            *state = state_numbers(given.state);
+            *answer = step_numbers(given);
         }
-        Advanced::Refused(number, place) => {
-            *answer = [number as usize, place, 0, 0, 0];
-        }
+        Err(why) => *answer = refused(why),
+    }
+}
+
+// What came of an output, as numbers.
+fn wrong_numbers(wrong: Option<Wrong>) -> [usize; 5]
+    ensures { result ≡ 0 ∷ 0 ∷ wrong_numbers wrong }
+{
+    match wrong {
+        None => [0, 0, 0, 0, 0],
+        Some(found) => [0, 0, 3, found.test, found.position],
     }
 }
 
@@ -126,19 +113,12 @@ pub extern "C" fn ranthelo_station_sound(
     ensures answer_after { answer.new ≡ taken_numbers (taken_answer (taking sheet.now (state_of state.old) sound)) }
     ensures state_after { state.new ≡ taken_state (taken_answer (taking sheet.now (state_of state.old) sound)) state.old }
 {
-    let before = state_of(state);
-    match station::take_output(sheet, before, sound) {
-        Taken::Right(left) => {
-            keep(left, state);
-            *answer = [0, 0, 0, 0, 0];
+    match station::take_output(sheet, state_of(state), sound) {
+        Ok(heard) => {
+            *state = state_numbers(heard.state);
+            *answer = wrong_numbers(heard.wrong);
         }
-        Taken::Wrong(test, position, left) => {
-            keep(left, state);
-            *answer = [0, 0, 3, test, position];
-        }
-        Taken::Refused(number, place) => {
-            *answer = [number as usize, place, 0, 0, 0];
-        }
+        Err(why) => *answer = refused(why),
     }
 }
 
@@ -152,13 +132,5 @@ pub extern "C" fn ranthelo_station_change(
 )
     ensures { answer.new ≡ changed_numbers (changed_answer (changing sheet.now (state_of state.now) changed.now)) }
 {
-    let before = state_of(state);
-    match station::change(sheet, changed, before) {
-        Changed::Accepted => {
-            *answer = [0, 0];
-        }
-        Changed::Refused(number, place) => {
-            *answer = [number as usize, place];
-        }
-    }
+    *answer = done_numbers(station::change(sheet, changed, state_of(state)));
 }

@@ -23,46 +23,29 @@ ghost use Rattle.walking.specs.Taking.{standing, taken_answer, taken_board, take
 ghost use Rattle.adding.specs.Adding.{adding};
 ghost use Rattle.making.specs.Answers.{made_answer, made_writes};
 ghost use Rattle.tray.specs.Answers.{tried_answer, tried_writes};
-ghost use Rattle.ranthelo.specs.Numbers.{read_numbers, part_numbers, written_numbers, ran_numbers, failed_numbers, compared_numbers, judged_numbers, made_numbers, tried_numbers, bit, recorded_numbers, explained_numbers, merged_numbers, taken_numbers, place_of};
+ghost use Rattle.ranthelo.specs.Numbers.{read_numbers, part_numbers, written_numbers, ran_numbers, failed_numbers, compared_numbers, judged_numbers, made_numbers, tried_numbers, recorded_numbers, explained_numbers, merged_numbers, taken_numbers, place_of};
 ghost use Rattle.records.specs.Record.{checking, explaining};
 ghost use Rattle.records.specs.Answers.{recorded_answer, explained_answer, explained_board, explained_sequence};
 ghost use Rattle.renaming.specs.Merging.{merging};
 ghost use Rattle.merging.specs.Answers.{merged_answer, merged_writes};
 
 mod driving;
+mod numbers;
 
-use making::Made;
-use merging::Merged;
-use mutation::{Compared, Failed, Judged, Ran};
-use records::{Explained, Recorded};
-use sheet::{Parting, Reading, Size};
-use tray::Tried;
-use walking::{Place, Taken};
-use writing::Written;
+use numbers::{
+    difference_numbers, done_numbers, failed_numbers, made_numbers, merged_numbers, mutant_numbers,
+    part_numbers, ran_numbers, read_numbers, recorded_numbers, written_numbers,
+};
+use sheet::Size;
+use walking::Place;
+use writing::Drawing;
 
 // Read.
 #[unsafe(no_mangle)]
 pub extern "C" fn ranthelo_read(sheet: &[u8], answer: &mut [usize; 9])
     ensures { answer.new ≡ read_numbers (read_answer (reading sheet.now)) }
 {
-    match reading::read(sheet) {
-        Reading::Accepted(z) => {
-            *answer = [
-                0,
-                0,
-                z.states as usize,
-                z.inputs as usize,
-                z.outputs as usize,
-                z.rules,
-                z.faults,
-                z.tests,
-                z.suspects,
-            ];
-        }
-        Reading::Refused(number, place) => {
-            *answer = [number as usize, place, 0, 0, 0, 0, 0, 0, 0];
-        }
-    }
+    *answer = read_numbers(reading::read(sheet));
 }
 
 // One test's part, as a place and a length.
@@ -70,28 +53,7 @@ pub extern "C" fn ranthelo_read(sheet: &[u8], answer: &mut [usize; 9])
 pub extern "C" fn ranthelo_test_span(sheet: &[u8], test: usize, answer: &mut [usize; 4])
     ensures { answer.new ≡ part_numbers (part_answer (parting sheet.now test)) }
 {
-    match reading::test_span(sheet, test) {
-        Parting::At(span) => {
-            *answer = [0, 0, span.start, span.length];
-        }
-        Parting::Refused(number, place) => {
-            *answer = [number as usize, place, 0, 0];
-        }
-    }
-}
-
-// The answer of an operation that writes a sheet, as numbers.
-fn tell_length(written: Written, answer: &mut [usize; 3])
-    ensures { answer.new ≡ written_numbers written }
-{
-    match written {
-        Written::Done(length) => {
-            *answer = [0, 0, length];
-        }
-        Written::Refused(number, place) => {
-            *answer = [number as usize, place, 0];
-        }
-    }
+    *answer = part_numbers(reading::test_span(sheet, test));
 }
 
 // Write a sheet from tables.
@@ -117,11 +79,16 @@ pub extern "C" fn ranthelo_write(
         inputs,
         outputs,
     };
-    let silent = quiet != 0;
-    let written = writing::write(
-        size, silent, rules, faults, starts, lengths, presses, buffer,
-    );
-    tell_length(written, answer);
+    let drawing = Drawing {
+        size,
+        quiet: quiet != 0,
+        rules,
+        faults,
+        starts,
+        lengths,
+        presses,
+    };
+    *answer = written_numbers(writing::write(&drawing, buffer));
 }
 
 // Write a sheet from a seed.
@@ -142,7 +109,7 @@ pub extern "C" fn ranthelo_generate(
         inputs,
         outputs,
     };
-    tell_length(generator::generate(seed, size, buffer), answer);
+    *answer = written_numbers(generator::generate(seed, size, buffer));
 }
 
 // Convert a sheet to first-reached form.
@@ -151,7 +118,7 @@ pub extern "C" fn ranthelo_renumber(sheet: &[u8], buffer: &mut [u8], answer: &mu
     ensures answer_after { answer.new ≡ written_numbers (written_answer (numbering sheet.now (length buffer.old))) }
     ensures buffer_after { buffer.new ≡ overlay (sheet_writes (numbering sheet.now (length buffer.old))) buffer.old }
 {
-    tell_length(numbering::renumber(sheet, buffer), answer);
+    *answer = written_numbers(numbering::renumber(sheet, buffer));
 }
 
 // Run.
@@ -166,14 +133,7 @@ pub extern "C" fn ranthelo_run(
     ensures answer_after { answer.new ≡ ran_numbers (ran_answer (running sheet.now board.now presses.now (length buffer.old))) }
     ensures buffer_after { buffer.new ≡ overlay (ran_writes (running sheet.now board.now presses.now (length buffer.old))) buffer.old }
 {
-    match mutation::run(sheet, board, presses, buffer) {
-        Ran::Done(used) => {
-            *answer = [0, 0, used.number as usize, used.set as usize];
-        }
-        Ran::Refused(number, place) => {
-            *answer = [number as usize, place, 0, 0];
-        }
-    }
+    *answer = ran_numbers(mutation::run(sheet, board, presses, buffer));
 }
 
 // First failed test.
@@ -181,25 +141,7 @@ pub extern "C" fn ranthelo_run(
 pub extern "C" fn ranthelo_first_failed(sheet: &[u8], board: &[u8], answer: &mut [usize; 7])
     ensures { answer.new ≡ failed_numbers (failed_answer (failing sheet.now board.now)) }
 {
-    match mutation::first_failed(sheet, board) {
-        Failed::Nothing(used) => {
-            *answer = [0, 0, 0, 0, 0, used.number as usize, used.set as usize];
-        }
-        Failed::At(test, position, used) => {
-            *answer = [
-                0,
-                0,
-                1,
-                test,
-                position,
-                used.number as usize,
-                used.set as usize,
-            ];
-        }
-        Failed::Refused(number, place) => {
-            *answer = [number as usize, place, 0, 0, 0, 0, 0];
-        }
-    }
+    *answer = failed_numbers(mutation::first_failed(sheet, board));
 }
 
 // Compare.
@@ -213,34 +155,7 @@ pub extern "C" fn ranthelo_compare(
     ensures answer_after { answer.new ≡ compared_numbers (compared_answer (comparing sheet.now board.now (length buffer.old))) }
     ensures buffer_after { buffer.new ≡ overlay (compared_writes (comparing sheet.now board.now (length buffer.old))) buffer.old }
 {
-    match mutation::compare(sheet, board, buffer) {
-        Compared::Conforms => {
-            *answer = [0, 0, 0, 0];
-        }
-        Compared::Differs(d) => {
-            *answer = [0, 0, 1, d];
-        }
-        Compared::Refused(number, place) => {
-            *answer = [number as usize, place, 0, 0];
-        }
-    }
-}
-
-// The answer of judge as numbers.
-fn tell(judged: Judged, answer: &mut [usize; 4])
-    ensures { answer.new ≡ judged_numbers judged }
-{
-    match judged {
-        Judged::Complete => {
-            *answer = [0, 0, 0, 0];
-        }
-        Judged::Survivor(d) => {
-            *answer = [0, 0, 1, d];
-        }
-        Judged::Refused(number, place) => {
-            *answer = [number as usize, place, 0, 0];
-        }
-    }
+    *answer = difference_numbers(mutation::compare(sheet, board, buffer));
 }
 
 // Judge.
@@ -255,7 +170,7 @@ pub extern "C" fn ranthelo_judge(
     ensures board_after { board.new ≡ overlay (board_writes (judging sheet.now (length board.old) (length sequence.old))) board.old }
     ensures sequence_after { sequence.new ≡ overlay (sequence_writes (judging sheet.now (length board.old) (length sequence.old))) sequence.old }
 {
-    tell(mutation::judge(sheet, board, sequence), answer);
+    *answer = difference_numbers(mutation::judge(sheet, board, sequence));
 }
 
 // Judge, with the number of nodes that the engine looked at: a measurement. It is as it was on a refusal; which number it is
@@ -273,41 +188,16 @@ pub extern "C" fn ranthelo_judge_counting(
     ensures sequence_after { sequence.new ≡ overlay (sequence_writes (judging sheet.now (length board.old) (length sequence.old))) sequence.old }
     ensures measured { Measured (judged_answer (judging sheet.now (length board.old) (length sequence.old))) nodes.old nodes.new }
 {
-    tell(
-        mutation::judge_counting(sheet, board, sequence, nodes),
-        answer,
-    );
+    *answer = difference_numbers(mutation::judge_counting(sheet, board, sequence, nodes));
 }
 
 fn place_of(place: u8) -> Place
     ensures { result ≡ place_of place }
 {
-    if place == 0 {
-        return Place::Start;
-    }
-    if place == 1 {
-        return Place::Last;
-    }
-    Place::End
-}
-
-// The answer of take as numbers.
-fn tell_taken(taken: Taken, answer: &mut [usize; 5])
-    ensures { answer.new ≡ taken_numbers taken }
-{
-    match taken {
-        Taken::Conforms => {
-            *answer = [0, 0, 1, 0, 0];
-        }
-        Taken::Departs(d) => {
-            *answer = [0, 0, 1, 1, d];
-        }
-        Taken::End => {
-            *answer = [0, 0, 0, 0, 0];
-        }
-        Taken::Refused(number, place) => {
-            *answer = [number as usize, place, 0, 0, 0];
-        }
+    match place {
+        0 => Place::Start,
+        1 => Place::Last,
+        _ => Place::End,
     }
 }
 
@@ -325,8 +215,7 @@ pub extern "C" fn ranthelo_take(
     ensures board_after { board.new ≡ overlay (taken_board (taking sheet.now (standing (place_of place) last.now) (length board.old) (length sequence.old))) board.old }
     ensures sequence_after { sequence.new ≡ overlay (taken_sequence (taking sheet.now (standing (place_of place) last.now) (length board.old) (length sequence.old))) sequence.old }
 {
-    let at = place_of(place);
-    tell_taken(walking::take(sheet, at, last, board, sequence), answer);
+    *answer = mutant_numbers(walking::take(sheet, place_of(place), last, board, sequence));
 }
 
 // A test added.
@@ -340,7 +229,7 @@ pub extern "C" fn ranthelo_add_test(
     ensures answer_after { answer.new ≡ written_numbers (written_answer (adding sheet.now presses.now (length buffer.old))) }
     ensures buffer_after { buffer.new ≡ overlay (sheet_writes (adding sheet.now presses.now (length buffer.old))) buffer.old }
 {
-    tell_length(adding::add_test(sheet, presses, buffer), answer);
+    *answer = written_numbers(adding::add_test(sheet, presses, buffer));
 }
 
 // A complete suite.
@@ -349,14 +238,7 @@ pub extern "C" fn ranthelo_make(sheet: &[u8], buffer: &mut [u8], answer: &mut [u
     ensures answer_after { answer.new ≡ made_numbers (made_answer (making sheet.now (length buffer.old))) }
     ensures buffer_after { buffer.new ≡ overlay (made_writes (making sheet.now (length buffer.old))) buffer.old }
 {
-    match making::complete_suite(sheet, buffer) {
-        Made::Done(length, appended) => {
-            *answer = [0, 0, length, appended];
-        }
-        Made::Refused(number, place) => {
-            *answer = [number as usize, place, 0, 0];
-        }
-    }
+    *answer = made_numbers(making::complete_suite(sheet, buffer));
 }
 
 // A tray of boards.
@@ -371,24 +253,7 @@ pub extern "C" fn ranthelo_tray(
     ensures answer_after { answer.new ≡ tried_numbers (tried_answer (trying sheet.now boards choices.now (length results.old))) }
     ensures results_after { results.new ≡ overlay (tried_writes (trying sheet.now boards choices.now (length results.old))) results.old }
 {
-    match tray::first_failures(sheet, boards, choices, results) {
-        Tried::Done => {
-            *answer = [0, 0];
-        }
-        Tried::Refused(number, place) => {
-            *answer = [number as usize, place];
-        }
-    }
-}
-
-// Yes or no as a number.
-fn bit_of(b: bool) -> usize
-    ensures { result ≡ bit b }
-{
-    if b {
-        return 1;
-    }
-    0
+    *answer = done_numbers(tray::first_failures(sheet, boards, choices, results));
 }
 
 // A lock's record.
@@ -396,37 +261,7 @@ fn bit_of(b: bool) -> usize
 pub extern "C" fn ranthelo_record(sheet: &[u8], log: &[u8], answer: &mut [usize; 5])
     ensures { answer.new ≡ recorded_numbers (recorded_answer (checking sheet.now log.now)) }
 {
-    match records::check_record(sheet, log) {
-        Recorded::AsSpecified(given) => {
-            *answer = [0, 0, 0, 0, bit_of(given)];
-        }
-        Recorded::Differs(place, given) => {
-            *answer = [0, 0, 1, place, bit_of(given)];
-        }
-        Recorded::Refused(number, place) => {
-            *answer = [number as usize, place, 0, 0, 0];
-        }
-    }
-}
-
-// The answer of explaining as numbers.
-fn tell_explained(explained: Explained, answer: &mut [usize; 5])
-    ensures { answer.new ≡ explained_numbers explained }
-{
-    match explained {
-        Explained::Conforms => {
-            *answer = [0, 0, 1, 0, 0];
-        }
-        Explained::Departs(d) => {
-            *answer = [0, 0, 1, 1, d];
-        }
-        Explained::Nothing => {
-            *answer = [0, 0, 0, 0, 0];
-        }
-        Explained::Refused(number, place) => {
-            *answer = [number as usize, place, 0, 0, 0];
-        }
-    }
+    *answer = recorded_numbers(records::check_record(sheet, log));
 }
 
 // The first board that gives a lock's record.
@@ -442,7 +277,7 @@ pub extern "C" fn ranthelo_record_board(
     ensures board_after { board.new ≡ overlay (explained_board (explaining sheet.now log.now (length board.old) (length sequence.old))) board.old }
     ensures sequence_after { sequence.new ≡ overlay (explained_sequence (explaining sheet.now log.now (length board.old) (length sequence.old))) sequence.old }
 {
-    tell_explained(records::explain_record(sheet, log, board, sequence), answer);
+    *answer = mutant_numbers(records::explain_record(sheet, log, board, sequence));
 }
 
 // Merge two sheets.
@@ -456,12 +291,5 @@ pub extern "C" fn ranthelo_merge(
     ensures answer_after { answer.new ≡ merged_numbers (merged_answer (merging first.now second.now (length buffer.old))) }
     ensures buffer_after { buffer.new ≡ overlay (merged_writes (merging first.now second.now (length buffer.old))) buffer.old }
 {
-    match merging::merge(first, second, buffer) {
-        Merged::Done(length) => {
-            *answer = [0, 0, 0, length];
-        }
-        Merged::Refused(sheet, number, place) => {
-            *answer = [number as usize, place, sheet as usize, 0];
-        }
-    }
+    *answer = merged_numbers(merging::merge(first, second, buffer));
 }

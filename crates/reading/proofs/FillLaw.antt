@@ -1,5 +1,5 @@
 -- The tables, as the passes fill them.
-use Prim.Native.Nat.{ℕ, zero, suc, ◌+◌, ◌*◌, ◌-◌, ◌/◌, ◌%◌, ◌<◌, ◌≤◌}
+use Prim.Native.Nat.{ℕ, suc, ◌+◌, ◌*◌, ◌-◌, ◌/◌, ◌%◌, ◌<◌, ◌≤◌}
 use mathlib.Core.Path.{◌≡◌, refl, ap, sym, ◌∙◌}
 use mathlib.Core.Bool.{Bool, true, false, cond}
 use mathlib.Core.Option.{Option, none, some}
@@ -8,24 +8,26 @@ use native.Mathlib.Numerals.{add-one}
 use native.Mathlib.Omega.{arith}
 use lib.Dec.{ltb, eqb}
 use lib.ListN.{length, get_or, set, take, drop, replicate, length-set, length-append, length-drop, length-replicate, get_or-replicate, get_or-append, get_or-eq_default}
-use lib.Seq.{get_or-set_same, get_or-set_other, get_or-append_seam, get_or-drop, drop-drop, drop-cons, take-suc, length-take-le, take-length, ext_get_or}
+use lib.Seq.{get_or-set_same, get_or-set_other, get_or-append_seam, get_or-drop, drop-cons, take-suc, length-take-le, ext_get_or}
 use borrow.Author.Tests.{lt-ltb, le-ltb, ltb-true, ltb-false, ne_eqb, eqb-true, eqb-false}
 use Rattle.sheet.specs.declared.Row.{Row}
 use Rattle.sheet.specs.declared.Span.{Span}
-use Rattle.commands.specs.declared.fetch.Item.{Item}
-use Rattle.commands.specs.declared.fetch.Fetched.{Fetched}
-use Rattle.commands.specs.declared.fetch.Taken.TheVariants.{Whole}
+use Rattle.sheet.specs.declared.Tables.{Tables}
 use Rattle.lists.specs.Lists.{maybe, is_none, first, up_to}
 use Rattle.sheet.specs.Sheet.{Sheet, is_at, rows_at, rule_at, unruled_choices, choices_at}
 use Rattle.sheet.specs.Encode.{row_bytes, operand_bytes, start_bytes, test_bytes}
 use Rattle.sheet.specs.Tables.{first_at, first_fault, no_row}
-use Rattle.commands.specs.words.Fetch.{item_at, fetch_at, item_in, row_from}
+use Rattle.std.specs.Prelude.{Some}
+use Rattle.sheet.specs.Reading.{row_at}
+use Rattle.commands.specs.declared.fetch.Command.TheVariants as code
+use Rattle.commands.specs.words.Fetch.{command_at}
 use Rattle.sheet.specs.words.Tabled.{Digits, place_of, pair_key, ByPair, rule_target}
 use Rattle.reading.specs.words.Places.{TestAt, span_from, FaultsFrom, StartsFrom, TestsFrom, Table, FaultTables, TestTables, Countable, Cleared}
 use Rattle.lists.specs.laws.ListLaw.{all-at-index}
 use Rattle.sheet.specs.laws.TablesLaw.{below_length, below_at, rows_few}
 use Rattle.sheet.specs.laws.RowTableLaw.{If, length-snoc, at_true, rows_new, rows-old, rule-digits, table-set}
-use Rattle.reading.proofs.PlaceLaw.{fetch-there, TestPlace, place-start, place_found, place-next}
+use Rattle.std.proofs.lemmas.List.{set-get_or}
+use Rattle.reading.proofs.PlaceLaw.{command-there, operands-at, rows-at, TestPlace, place-start, place_found, place-next}
 
 -- tables by index and by pair
 pub table_is : {n : ℕ} {t : List ℕ} {f : ℕ → ℕ} → Table n t f → t ≡ map f (up_to n)
@@ -126,7 +128,7 @@ row-there l r i j e n = go (ltb j (length l)) refl
         let m = ltb-false j (length l) k in
         get_or-eq_default (l ++ r ∷ []) no_row {n = j} (omega (arith, length-snoc l r)) ∙ sym (get_or-eq_default l no_row {n = j} m)
 
-pub faults-none : {cs fs ms ds ss ls : List ℕ} → Cleared cs fs ms ds ss ls → FaultTables cs fs ms ds []
+pub faults-none : {t : Tables} → Cleared t → FaultTables t []
 unfolding rows_at first_fault
 faults-none h = record {
   counts-are = pair-zeros (λ s x. length (rows_at [] s x)) h.counts-are (λ s x. refl);
@@ -135,115 +137,92 @@ faults-none h = record {
   diverted-are = zeros 256 (λ i. (get_or [] i no_row).target) h.diverted-are (λ i k. refl);
 }
 
-pub count-few : (cs fs ms ds : List ℕ) (l : List Row) (r : Row) → Digits r → FaultTables cs fs ms ds l → get_or cs (pair_key r) 0 ≤ length l
-count-few cs fs ms ds l r d h = omega (arith, h.counts-are.at r.source r.input d.source d.input, rows_few l r.source r.input)
+pub count-few : (t : Tables) (l : List Row) (r : Row) → Digits r → FaultTables t l → get_or t.choices (pair_key r) 0 ≤ length l
+count-few t l r d h = omega (arith, h.counts-are.at r.source r.input d.source d.input, rows_few l r.source r.input)
 
-pub fault-more : (cs fs ms ds : List ℕ) (l : List Row) (r : Row) (i v : ℕ) → Digits r → i < 256 → i ≡ length l
-    → v ≡ cond (eqb (get_or cs (pair_key r) 0) 0) i (get_or fs (pair_key r) 0) → FaultTables cs fs ms ds l
-    → FaultTables (set cs (pair_key r) (get_or cs (pair_key r) 0 + 1)) (set fs (pair_key r) v) (set ms i r.output) (set ds i r.target) (l ++ r ∷ [])
-fault-more cs fs ms ds l r i v d k e ev h =
-    let n : get_or cs (pair_key r) 0 ≡ length (rows_at l r.source r.input) = h.counts-are.at r.source r.input d.source d.input in
-    let o : get_or fs (pair_key r) 0 ≡ first_fault l r.source r.input = h.firsts-are.at r.source r.input d.source d.input in
+pub fault-more : (t : Tables) (l : List Row) (r : Row) (i : ℕ) (fs : List ℕ) → Digits r → i < 256 → i ≡ length l
+    → fs ≡ set t.first (pair_key r) (cond (eqb (get_or t.choices (pair_key r) 0) 0) i (get_or t.first (pair_key r) 0)) → FaultTables t l
+    → FaultTables (record t { choices = set t.choices (pair_key r) (get_or t.choices (pair_key r) 0 + 1); first = fs; mutated = set t.mutated i r.output; diverted = set t.diverted i r.target }) (l ++ r ∷ [])
+fault-more t l r i fs d k e ev h =
+    let n : get_or t.choices (pair_key r) 0 ≡ length (rows_at l r.source r.input) = h.counts-are.at r.source r.input d.source d.input in
+    let o : get_or t.first (pair_key r) 0 ≡ first_fault l r.source r.input = h.firsts-are.at r.source r.input d.source d.input in
     record {
       counts-are = table-set h.counts-are r d.source d.input
           (λ s x m. let (p, q) = at_true r s x m in rw (rows_new l r s x m, length-snoc (rows_at l s x) r, n, ← p, ← q))
           (λ s x m. ap length (rows-old l r s x m));
-      firsts-are = table-set h.firsts-are r d.source d.input
-          (λ s x m. let (p, q) = at_true r s x m in first-new r s x l m ∙ (rw (ev, n, o, e, ← p, ← q)))
-          (λ s x m. first-old r s x l m);
+      firsts-are = rw ev (table-set h.firsts-are r d.source d.input
+          (λ s x m. let (p, q) = at_true r s x m in first-new r s x l m ∙ (rw (n, o, e, ← p, ← q)))
+          (λ s x m. first-old r s x l m));
       mutated-are = index-set (λ j. (get_or (l ++ r ∷ []) j no_row).output) i r.output h.mutated-are k (ap (λ (x : Row). x.output) (row_here l r i e))
           (λ j m. ap (λ (x : Row). x.output) (row-there l r i j e m));
       diverted-are = index-set (λ j. (get_or (l ++ r ∷ []) j no_row).target) i r.target h.diverted-are k (ap (λ (x : Row). x.target) (row_here l r i e))
           (λ j m. ap (λ (x : Row). x.target) (row-there l r i j e m));
     }
 
+-- the first index is written where there is no fault before
+pub first-written : (fs : List ℕ) (p i n : ℕ) → n ≡ 0 → set fs p i ≡ set fs p (cond (eqb n 0) i (get_or fs p 0))
+first-written fs p i n e = rw e
+
+pub first-kept : (fs : List ℕ) (p i n : ℕ) → (n ≡ 0 → ⊥) → fs ≡ set fs p (cond (eqb n 0) i (get_or fs p 0))
+first-kept fs p i n h = rw (ne_eqb n 0 h) (sym (set-get_or fs p 0))
+
 -- the pass over the faults
-pub record Filling (s : List ℕ) (l : List Row) (cs fs ms ds : List ℕ) (at i : ℕ) : Type 0 where
-  pub rest : List ℕ
-  pub bytes : drop at s ≡ row_bytes 3 (drop i l) ++ rest
-  pub tables : FaultTables cs fs ms ds (take i l)
-
-pub filling-start : (s : List ℕ) (place : ℕ) (l : List Row) (cs fs ms ds : List ℕ) → FaultsFrom s place l → FaultTables cs fs ms ds [] → Filling s l cs fs ms ds place 0
-filling-start s place l cs fs ms ds h t = record { rest = h.rest; bytes = h.bytes; tables = t }
-
 bytes-at : (s : List ℕ) (at i : ℕ) (l : List ℕ) → drop at s ≡ l → get_or s (at + i) 0 ≡ get_or l i 0
 bytes-at s at i l e = sym (get_or-drop at s i 0) ∙ ap (λ (t : List ℕ). get_or t i 0) e
 
-module _ (s : List ℕ) (place : ℕ) (l : List Row) (from : FaultsFrom s place l) (at i : ℕ) (h : i < length l) where
-  module _ (cs fs ms ds : List ℕ) (g : Filling s l cs fs ms ds at i) where
-    row-bytes : drop at s ≡ 3 ∷ (get_or l i no_row).source ∷ (get_or l i no_row).input ∷ (get_or l i no_row).output ∷ (get_or l i no_row).target ∷ (row_bytes 3 (drop (suc i) l) ++ g.rest)
-    unfolding row_bytes
-    row-bytes = g.bytes ∙ ap (λ (t : List Row). row_bytes 3 t ++ g.rest) (drop-cons l i no_row h)
+module _ {s : List ℕ} {place : ℕ} {l : List Row} (from : FaultsFrom s place l) (i : ℕ) (h : i < length l) where
+  row-bytes : drop (place + 5 * i) s ≡ 3 ∷ (get_or l i no_row).source ∷ (get_or l i no_row).input ∷ (get_or l i no_row).output ∷ (get_or l i no_row).target ∷ (row_bytes 3 (drop (suc i) l) ++ from.rest)
+  unfolding row_bytes
+  row-bytes = rows-at s 3 place i l from.rest from.bytes (omega arith) ∙ ap (λ (t : List Row). row_bytes 3 t ++ from.rest) (drop-cons l i no_row h)
 
-    fetched : fetch_at s at ≡ record { taken = Whole (item_at s at 3); next = at + 5 }
-    fetched = fetch-there s at 3 _ row-bytes (omega arith)
+  row-here : row_at s (place + 5 * i) ≡ get_or l i no_row
+  row-here =
+      let at = place + 5 * i in
+      let a = bytes-at s at 1 _ row-bytes in
+      let b = bytes-at s at 2 _ row-bytes in
+      let c = bytes-at s at 3 _ row-bytes in
+      let d = bytes-at s at 4 _ row-bytes in
+      λ j. record { source = a j; input = b j; output = c j; target = d j }
 
-    row_is : row_from (item_at s at 3) ≡ get_or l i no_row
-    row_is =
-        let a = bytes-at s at 1 _ row-bytes in
-        let b = bytes-at s at 2 _ row-bytes in
-        let c = bytes-at s at 3 _ row-bytes in
-        let d = bytes-at s at 4 _ row-bytes in
-        λ j. record { source = a j; input = b j; output = c j; target = d j }
+  pub fault-there : command_at s (place + 5 * i) ≡ Some (code.Fault (get_or l i no_row))
+  fault-there = command-there s (place + 5 * i) 3 _ row-bytes (omega arith) ∙ ap (λ (r : Row). Some (code.Fault r)) row-here
 
-    pub row-fetched : (f : Fetched) (k : Item) (row : Row) → f ≡ fetch_at s at → k ≡ item_in f.taken → row ≡ row_from k → row ≡ get_or l i no_row
-    row-fetched f k row ef ek er = er ∙ ap row_from (ek ∙ ap (λ (f : Fetched). item_in f.taken) (ef ∙ fetched)) ∙ row_is
+  pub fault-room : place + 5 * i < length s
+  fault-room =
+      let k = ap length row-bytes in
+      omega (arith, length-drop (place + 5 * i) s)
 
-    pub row-digits : (row : Row) → row ≡ get_or l i no_row → Digits row
-    row-digits row e = rw e (all-at-index Digits l i no_row h from.digits)
+  pub row-digits : (row : Row) → row ≡ get_or l i no_row → Digits row
+  row-digits row e = rw e (all-at-index Digits l i no_row h from.digits)
 
-    pub taken-length : i ≡ length (take i l)
-    taken-length = sym (length-take-le i l (omega arith))
+  pub taken-length : i ≡ length (take i l)
+  taken-length = sym (length-take-le i l (omega arith))
 
-    pub filling-next : (f : Fetched) (row : Row) (cs' fs' ms' ds' : List ℕ) → f ≡ fetch_at s at → row ≡ get_or l i no_row → FaultTables cs' fs' ms' ds' (take i l ++ row ∷ [])
-        → Filling s l cs' fs' ms' ds' f.next (i + 1)
-    filling-next f row cs' fs' ms' ds' ef er t = record {
-      rest = g.rest;
-      bytes = rw (ap (λ (f : Fetched). f.next) (ef ∙ fetched), add-one i) (sym (drop-drop 5 at s) ∙ ap (λ (b : List ℕ). drop 5 b) row-bytes);
-      tables = rw (add-one i, take-suc l i no_row h, ← er) t;
-    }
-
-pub filling-end : (s : List ℕ) (l : List Row) (cs fs ms ds : List ℕ) (at i : ℕ) → i ≡ length l → Filling s l cs fs ms ds at i → FaultTables cs fs ms ds l
-filling-end s l cs fs ms ds at i e g = rw (ap (λ (n : ℕ). take n l) e ∙ take-length l) at g.tables
+  pub noted-next : (row : Row) (t : Tables) → row ≡ get_or l i no_row → FaultTables t (take i l ++ row ∷ []) → FaultTables t (take (i + 1) l)
+  noted-next row t e d = rw (add-one i, take-suc l i no_row h, ← e) d
 
 -- the pass over the STARTs
-abbrev waking_by : List ℕ → ℕ → ℕ
+abbrev pub waking_by : List ℕ → ℕ → ℕ
 waking_by l i = get_or (0 ∷ l) i 0
 
-pub record Waking (s l ws : List ℕ) (at i : ℕ) : Type 0 where
-  pub rest : List ℕ
-  pub bytes : drop at s ≡ start_bytes (drop i l) ++ rest
-  pub table : Table 16 ws (partly (waking_by l) (λ j. 0) (i + 1))
+abbrev pub Waking : List ℕ → List ℕ → ℕ → Type 0
+Waking l ws i = Table 16 ws (partly (waking_by l) (λ j. 0) (i + 1))
 
-pub waking-start : (s : List ℕ) (place : ℕ) (l : List ℕ) → StartsFrom s place l → Waking s l (replicate 16 0) place 0
-waking-start s place l h = record { rest = h.rest; bytes = h.bytes; table = zeros 16 (partly (waking_by l) (λ j. 0) 1) refl (λ i k. go i) }
-  where
-    go : (i : ℕ) → partly (waking_by l) (λ j. 0) 1 i ≡ 0
-    go zero = refl
-    go (suc i) = rw (le-ltb (suc i) 1 (omega arith))
-
-module _ (s l : List ℕ) (at i : ℕ) (h : i < length l) (ws : List ℕ) (g : Waking s l ws at i) where
-  start-bytes : drop at s ≡ 7 ∷ get_or l i 0 ∷ (start_bytes (drop (suc i) l) ++ g.rest)
+module _ {s : List ℕ} {place : ℕ} {l : List ℕ} (from : StartsFrom s place l) (i : ℕ) (h : i < length l) where
+  start-bytes : drop (place + 2 * i) s ≡ 7 ∷ get_or l i 0 ∷ (start_bytes (drop (suc i) l) ++ from.rest)
   unfolding operand_bytes
-  start-bytes = g.bytes ∙ ap (λ (t : List ℕ). start_bytes t ++ g.rest) (drop-cons l i 0 h)
+  start-bytes = operands-at s 7 place i l from.rest from.bytes (omega arith) ∙ ap (λ (t : List ℕ). start_bytes t ++ from.rest) (drop-cons l i 0 h)
 
-  start-there : fetch_at s at ≡ record { taken = Whole (item_at s at 7); next = at + 2 }
-  start-there = fetch-there s at 7 _ start-bytes (omega arith)
+  pub start-there : command_at s (place + 2 * i) ≡ Some (code.Start (get_or l i 0))
+  start-there = command-there s (place + 2 * i) 7 _ start-bytes (omega arith) ∙ ap (λ (t : ℕ). Some (code.Start t)) (bytes-at s (place + 2 * i) 1 _ start-bytes)
 
-  pub waking-next : length l ≤ 15 → (f : Fetched) (k : Item) → f ≡ fetch_at s at → k ≡ item_in f.taken → Waking s l (set ws (i + 1) k.first) f.next (i + 1)
-  waking-next few f k ef ek = record {
-    rest = g.rest;
-    bytes = rw (ap (λ (f : Fetched). f.next) (ef ∙ start-there), add-one i) (sym (drop-drop 2 at s) ∙ ap (λ (b : List ℕ). drop 2 b) start-bytes);
-    table = partly-next (waking_by l) (λ j. 0) (i + 1) k.first (omega arith) g.table
-        (ap (λ (x : Item). x.first) (ek ∙ ap (λ (f : Fetched). item_in f.taken) (ef ∙ start-there)) ∙ bytes-at s at 1 _ start-bytes ∙ ap (waking_by l) (sym (add-one i)));
-  }
+  pub start-room : place + 2 * i < length s
+  start-room =
+      let k = ap length start-bytes in
+      omega (arith, length-drop (place + 2 * i) s)
 
-pub waking-end : (s l ws : List ℕ) (at i : ℕ) → i ≡ length l → Waking s l ws at i → Table 16 ws (λ j. get_or (0 ∷ l) j 0)
-waking-end s l ws at i e g = table_same (waking_by l) g.table (λ j k. go j (ltb j (i + 1)) refl)
-  where
-    go : (j : ℕ) (b : Bool) → ltb j (i + 1) ≡ b → cond b (waking_by l j) 0 ≡ waking_by l j
-    go j true q = refl
-    go j false q = sym (get_or-eq_default (0 ∷ l) 0 {n = j} (omega (arith, ltb-false j (i + 1) q)))
+  pub waking-next : (ws : List ℕ) (state : ℕ) → state ≡ get_or l i 0 → Waking l ws i → Waking l (set ws (i + 1) state) (i + 1)
+  waking-next ws state e g = partly-next (waking_by l) (λ j. 0) (i + 1) state (omega (arith, from.few)) g (e ∙ ap (waking_by l) (sym (add-one i)))
 
 -- the pass over the pairs
 abbrev pub choices_by : Sheet → ℕ → ℕ
@@ -251,9 +230,6 @@ choices_by sh i = choices_at sh (i / 16) (i % 16)
 
 abbrev pub faults_by : Sheet → ℕ → ℕ
 faults_by sh i = length (rows_at sh.faults (i / 16) (i % 16))
-
-pub counting-start : (u : ℕ) (ts cs : List ℕ) (sh : Sheet) → Countable u ts cs sh → Table 256 cs (partly (choices_by sh) (faults_by sh) 0)
-counting-start u ts cs sh h = table_same (partly (choices_by sh) (faults_by sh) 0) (pair-table h.counts-are) (λ i k. sym (rw (le-ltb i 0 (omega arith))))
 
 choices-by : (o : Option Row) (n u v : ℕ) → If Digits o → v ≡ rule_target o → cond (ltb v 16) (n + 1) u ≡ maybe o u (λ r. suc n)
 choices-by none n u v d e = rw e
@@ -273,28 +249,25 @@ module _ (u : ℕ) (ts cs₀ : List ℕ) (sh : Sheet) (h : Countable u ts cs₀ 
       (rule-digits sh.rules (p / 16) (p % 16) h.leads.digits) ((pair-table h.leads.table).at p k))) in
       partly-next (choices_by sh) (faults_by sh) p v k t e
 
-pub counting-end : {cs : List ℕ} (sh : Sheet) (p : ℕ) → p ≡ 256 → Table 256 cs (partly (choices_by sh) (faults_by sh) p) → Table 256 cs (choices_by sh)
-counting-end sh p e t = table_same (choices_by sh) t (λ i k. rw (lt-ltb i p (omega arith)))
-
 -- the pass over the tests
-pub record Testing (s : List ℕ) (place : ℕ) (l : List (List ℕ)) (ss ls : List ℕ) (at i : ℕ) : Type 0 where
+pub record Testing (s : List ℕ) (place : ℕ) (l : List (List ℕ)) (t : Tables) (at i : ℕ) : Type 0 where
   pub here : TestPlace s place l i at
-  pub tables : TestTables ss ls place l i
+  pub tables : TestTables t place l i
 
 pub tests-room : (s : List ℕ) (place : ℕ) (l : List (List ℕ)) → TestsFrom s place l → place ≤ length s
 tests-room s place l h =
     let k : length s - place ≡ length (test_bytes l) + 1 = sym (length-drop place s) ∙ (ap length h.bytes ∙ length-append (test_bytes l) (6 ∷ [])) in
     omega arith
 
-pub testing-start : (s : List ℕ) (place : ℕ) (l : List (List ℕ)) (ss ls : List ℕ) → TestsFrom s place l → TestTables ss ls place l 0 → Testing s place l ss ls place 0
-testing-start s place l ss ls h t = record { here = place-start s place l h.bytes; tables = t }
+pub testing-start : (s : List ℕ) (place : ℕ) (l : List (List ℕ)) (t : Tables) → TestsFrom s place l → TestTables t place l 0 → Testing s place l t place 0
+testing-start s place l t h d = record { here = place-start s place l h.bytes; tables = d }
 
-pub testing-next : (s : List ℕ) (place : ℕ) (l : List (List ℕ)) (ss ls : List ℕ) (at i : ℕ) → TestsFrom s place l → i < length l → (r : Span) → TestAt s at r
-    → Testing s place l ss ls at i → Testing s place l (set ss i r.start) (set ls i (r.length / 2)) (r.start + r.length) (i + 1)
-testing-next s place l ss ls at i h k r t g =
-    let e = place_found s place l i at k g.here r t in
+pub testing-next : (s : List ℕ) (place : ℕ) (l : List (List ℕ)) (t : Tables) (at i : ℕ) → TestsFrom s place l → i < length l → (r : Span) → TestAt s at r
+    → Testing s place l t at i → Testing s place l (record t { starts = set t.starts i r.start; lengths = set t.lengths i (r.length / 2) }) (r.start + r.length) (i + 1)
+testing-next s place l t at i h k r d g =
+    let e = place_found s place l i at k g.here r d in
     record {
-      here = place-next s place l i at k g.here r t;
+      here = place-next s place l i at k g.here r d;
       tables = record {
         starts-are = partly-next (λ j. (span_from place l j).start) (λ j. 0) i r.start (omega (arith, h.few)) g.tables.starts-are (ap (λ (x : Span). x.start) e);
         lengths-are = partly-next (λ j. length (get_or l j [])) (λ j. 0) i (r.length / 2) (omega (arith, h.few)) g.tables.lengths-are
@@ -302,8 +275,8 @@ testing-next s place l ss ls at i h k r t g =
       };
     }
 
-pub tests-none : {cs fs ms ds ss ls : List ℕ} → Cleared cs fs ms ds ss ls → (place : ℕ) (l : List (List ℕ)) → TestTables ss ls place l 0
-tests-none h place l = record {
-  starts-are = zeros 256 (partly (λ j. (span_from place l j).start) (λ j. 0) 0) h.starts-are (λ i k. rw (le-ltb i 0 (omega arith)));
-  lengths-are = zeros 256 (partly (λ j. length (get_or l j [])) (λ j. 0) 0) h.lengths-are (λ i k. rw (le-ltb i 0 (omega arith)));
+pub tests-none : {t : Tables} → t.starts ≡ replicate 256 0 → t.lengths ≡ replicate 256 0 → (place : ℕ) (l : List (List ℕ)) → TestTables t place l 0
+tests-none hs hl place l = record {
+  starts-are = zeros 256 (partly (λ j. (span_from place l j).start) (λ j. 0) 0) hs (λ i k. rw (le-ltb i 0 (omega arith)));
+  lengths-are = zeros 256 (partly (λ j. length (get_or l j [])) (λ j. 0) 0) hl (λ i k. rw (le-ltb i 0 (omega arith)));
 }

@@ -5,38 +5,37 @@ use mathlib.Core.Bool.{Bool, true, false, cond}
 use mathlib.Core.List.{List, [], ◌∷◌}
 use native.Mathlib.Omega.{arith}
 use lib.Dec.{ltb}
-use lib.ListN.{length, get_or, replicate, get_or-eq_default}
+use lib.ListN.{length, get_or, get_or-eq_default}
 use borrow.Author.Tests.{ltb-false}
-use Rattle.lists.specs.laws.TestLaw.{never}
 use Rattle.sheet.specs.declared.Span.{Span}
 use Rattle.sheet.specs.declared.Summary.{Summary}
-use Rattle.sheet.specs.declared.Reading.{Reading as ReadAnswer}
-use Rattle.sheet.specs.declared.Reading.TheVariants as read
-use Rattle.reading.specs.declared.part.Layout.{Layout}
+use Rattle.std.specs.Prelude.{Ok}
+use Rattle.reading.specs.Layout.{layout_of}
 use Rattle.sheet.specs.Sheet.{Sheet, wakings, waking_choices}
-use Rattle.sheet.specs.Reading.{Reading, accepted, refused, reading}
+use Rattle.sheet.specs.Reading.{reading}
 use Rattle.sheet.specs.Part.{span_of}
-use Rattle.sheet.specs.Tables.{Tables, read_answer, tables_of, blank_tables, loaded_of}
+use Rattle.sheet.specs.declared.Tables.{Tables}
+use Rattle.sheet.specs.Tables.{read_answer, tables_of, blank_tables}
 use Rattle.sheet.specs.words.Tabled.{Within16}
 use Rattle.commands.specs.words.Held.{RulesIn}
-use Rattle.reading.specs.words.Places.{span_from, LaidOut, Table, FaultTables, TestTables, size_in, Countable, Fillable, Cleared}
+use Rattle.reading.specs.words.Places.{span_from, Table, FaultTables, TestTables, Countable, Fillable, Cleared}
 use Rattle.sheet.specs.laws.TablesLaw.{unruled-by}
-use Rattle.reading.proofs.SpanLaw.{told, tests-are, size_is, formed, same_span}
+use Rattle.reading.proofs.SpanLaw.{told, tests-are, size_is, formed, same_span, laid_out}
 use Rattle.reading.proofs.FillLaw.{table_is, pair-table, table_same, choices_by}
 
-module _ (s : List ℕ) (m : Summary) (os ts : List ℕ) (sh : Sheet) (h : Fillable s m os ts sh) where
-  pub size_fits : Within16 (size_in m)
+module _ (s : List ℕ) (m : Summary) (t₀ : Tables) (sh : Sheet) (h : Fillable s m t₀ sh) where
+  pub size_fits : Within16 (record { states = m.states; inputs = m.inputs; outputs = m.outputs })
   size_fits =
       let k = (formed h.told).size in
       rw (size_is h.told) (record { states = k.states.few; inputs = k.inputs.few; outputs = k.outputs.few })
 
-  pub countable : (l : Layout) → LaidOut s sh l → (u : ℕ) → u ≡ cond l.quiet 1 (m.outputs * m.states)
-      → (cs fs ms ds : List ℕ) → FaultTables cs fs ms ds sh.faults → Countable u ts cs sh
-  countable l p u e cs fs ms ds t = record { unruled-is = e ∙ unruled-by sh (size_in m) l.quiet (size_is h.told) p.quiet; leads = h.rules.leads; counts-are = t.counts-are; few = (formed h.told).few-faults }
+  pub countable : (t : Tables) → t.target ≡ t₀.target → (q : Bool) → q ≡ sh.quiet → (u : ℕ) → u ≡ cond q 1 (m.outputs * m.states) → FaultTables t sh.faults → Countable u t.target t.choices sh
+  countable t e q eq u eu d =
+      record { unruled-is = eu ∙ unruled-by sh (record { states = m.states; inputs = m.inputs; outputs = m.outputs }) q (size_is h.told) eq; leads = rw (sym e) at h.rules.leads; counts-are = d.counts-are; few = (formed h.told).few-faults }
 
-  starts_by : (l : Layout) → LaidOut s sh l → (i : ℕ) → i < 256 → cond (ltb i m.tests) (span_from l.tests sh.tests i).start 0
+  starts_by : (i : ℕ) → i < 256 → cond (ltb i m.tests) (span_from (layout_of sh).tests sh.tests i).start 0
       ≡ cond (ltb i (length sh.tests)) (span_of sh i).start 0
-  starts_by l p i k = rw (tests-are h.told, ap (λ (x : Span). x.start) (same_span s i sh l p))
+  starts_by i k = rw (tests-are h.told, ap (λ (x : Span). x.start) (same_span s i sh (layout_of sh) (laid_out h.told)))
 
   lengths-by : (i : ℕ) → i < 256 → cond (ltb i m.tests) (length (get_or sh.tests i [])) 0 ≡ length (get_or sh.tests i [])
   lengths-by i k = go (ltb i m.tests) refl
@@ -45,94 +44,57 @@ module _ (s : List ℕ) (m : Summary) (os ts : List ℕ) (sh : Sheet) (h : Filla
       go true e = refl
       go false e = sym (ap length (get_or-eq_default sh.tests [] {n = i} (omega (arith, ltb-false i m.tests e, tests-are h.told))))
 
-  pub filled : (l : Layout) → LaidOut s sh l → (counts cs fs ms ds ws ss ls : List ℕ) → FaultTables counts fs ms ds sh.faults → Table 256 cs (choices_by sh)
-      → Table 16 ws (λ i. get_or (0 ∷ sh.starts) i 0) → TestTables ss ls l.tests sh.tests m.tests
+  pub filled : (f : Tables) → f ≡ record t₀ { choices = f.choices; first = f.first; mutated = f.mutated; diverted = f.diverted } → FaultTables f sh.faults → (cs : List ℕ) → Table 256 cs (choices_by sh) → (ws : List ℕ) → Table 16 ws (λ i. get_or (0 ∷ sh.starts) i 0)
+      → (n : ℕ) → n ≡ length sh.starts + 1 → (q : Bool) → q ≡ sh.quiet → (e : Tables) → TestTables e (layout_of sh).tests sh.tests m.tests
       → ◌≡◌ {A = Tables} (record {
-        output = os;
-        target = ts;
+        output = f.output;
+        target = f.target;
         choices = cs;
-        first = fs;
-        mutated = ms;
-        diverted = ds;
+        first = f.first;
+        mutated = f.mutated;
+        diverted = f.diverted;
         wakings = ws;
-        waking = l.waking + 1;
-        quiet = l.quiet;
-        starts = ss;
-        lengths = ls;
+        waking = n;
+        quiet = q;
+        starts = e.starts;
+        lengths = e.lengths;
       }) (tables_of sh)
   unfolding tables_of wakings waking_choices
-  filled l p counts cs fs ms ds ws ss ls f c y t =
-      let a = table_is (pair-table h.rules.outputs-are) in
-      let b = table_is (pair-table h.rules.leads.table) in
-      let d = table_is c in
-      let e = table_is (pair-table f.firsts-are) in
-      let u = table_is f.mutated-are in
-      let v = table_is f.diverted-are in
+  filled f o d cs c ws y n en q eq e t =
+      let a = ap (λ (x : Tables). x.output) o ∙ table_is (pair-table h.rules.outputs-are) in
+      let b = ap (λ (x : Tables). x.target) o ∙ table_is (pair-table h.rules.leads.table) in
+      let g = table_is c in
+      let j = table_is (pair-table d.firsts-are) in
+      let u = table_is d.mutated-are in
+      let v = table_is d.diverted-are in
       let z = table_is y in
-      let n : l.waking + 1 ≡ length (0 ∷ sh.starts) = omega (arith, p.waking) in
-      let w = table_is (table_same (λ i. cond (ltb i (length sh.tests)) (span_of sh i).start 0) t.starts-are (starts_by l p)) in
+      let w = table_is (table_same (λ i. cond (ltb i (length sh.tests)) (span_of sh i).start 0) t.starts-are starts_by) in
       let x = table_is (table_same (λ i. length (get_or sh.tests i [])) t.lengths-are lengths-by) in
+      let many : n ≡ length (0 ∷ sh.starts) = omega arith in
       λ i. record {
         output = a i;
         target = b i;
-        choices = d i;
-        first = e i;
+        choices = g i;
+        first = j i;
         mutated = u i;
         diverted = v i;
         wakings = z i;
-        waking = n i;
-        quiet = p.quiet i;
+        waking = many i;
+        quiet = eq i;
         starts = w i;
         lengths = x i;
       }
 
--- what is handed over with a refusal
-pub blank : {cs fs ms ds ss ls : List ℕ} → Cleared cs fs ms ds ss ls
-    → ◌≡◌ {A = Tables} (record {
-      output = replicate 256 255;
-      target = replicate 256 255;
-      choices = cs;
-      first = fs;
-      mutated = ms;
-      diverted = ds;
-      wakings = replicate 16 0;
-      waking = 0;
-      quiet = false;
-      starts = ss;
-      lengths = ls;
-    }) blank_tables
+-- blank tables are noughts where the passes begin
+pub cleared : (b : Tables) → b ≡ blank_tables → (os ts : List ℕ) → Cleared (record b { output = os; target = ts })
 unfolding blank_tables
-blank h = λ i. record {
-  output = replicate 256 255;
-  target = replicate 256 255;
-  choices = h.counts-are i;
-  first = h.firsts-are i;
-  mutated = h.mutated-are i;
-  diverted = h.diverted-are i;
-  wakings = replicate 16 0;
-  waking = 0;
-  quiet = false;
-  starts = h.starts-are i;
-  lengths = h.lengths-are i;
-}
+cleared b e os ts = rw e (record { counts-are = refl; firsts-are = refl; mutated-are = refl; diverted-are = refl; starts-are = refl; lengths-are = refl })
 
-module _ (s : List ℕ) (r : ReadAnswer) (er : r ≡ read_answer (reading s)) where
-  pub load-refused : (t : Tables) (number place : ℕ) → r ≡ read.Refused number place → t ≡ blank_tables → t ≡ loaded_of (reading s)
-  load-refused t number place e et = go (reading s) er
-    where
-      go : (d : Reading) → r ≡ read_answer d → t ≡ loaded_of d
-      go (accepted sh) k = never (cc)
-      go (refused n p) k = et
+module _ (s : List ℕ) (m : Summary) (e : Ok m ≡ read_answer (reading s)) where
+  pub sheet-of : Sheet
+  sheet-of = (told s m e).0
 
-  module _ (m : Summary) (em : r ≡ read.Accepted m) where
-    pub sheet-of : Sheet
-    sheet-of = (told s r m er em).0
-
-    -- what reading leaves is what filling starts from
-    pub fillable : (os ts : List ℕ) → RulesIn (reading s) os ts → Fillable s m os ts sheet-of
-    unfolding sheet-of
-    fillable os ts h = let p = (told s r m er em).1 in record { told = p; rules = rw p.is at h }
-
-    pub load_is : (t : Tables) → t ≡ tables_of sheet-of → t ≡ loaded_of (reading s)
-    unfolding sheet-of
-    load_is t et = rw (told s r m er em).1.is et
+  -- what reading leaves is what filling starts from
+  pub fillable : (t : Tables) → RulesIn (reading s) t.output t.target → Fillable s m t sheet-of
+  unfolding sheet-of
+  fillable t h = let p = (told s m e).1 in record { told = p; rules = rw p.is at h }

@@ -1,120 +1,136 @@
 -- Places: where the parts of an accepted sheet stand.
-use Prim.Native.Nat.{ℕ, suc, ◌+◌, ◌*◌, ◌-◌, ◌<◌, ◌≤◌}
+use Prim.Native.Nat.{ℕ, zero, suc, ◌+◌, ◌*◌, ◌-◌, ◌<◌, ◌≤◌}
 use mathlib.Core.Path.{◌≡◌, refl, ap, sym, ◌∙◌}
-use mathlib.Core.Bool.{Bool, true, false}
+use mathlib.Core.Bool.{Bool, true, false, cond}
 use mathlib.Core.List.{List, [], ◌∷◌, ◌++◌, append_assoc}
 use native.Mathlib.Nat.{add-zero}
 use native.Mathlib.Numerals.{add-one}
 use native.Mathlib.Omega.{arith}
-use lib.Dec.{leb, ltb, eqb}
+use lib.Dec.{leb, eqb}
 use lib.ListN.{length, get_or, take, drop, length-append, length-drop}
 use lib.Seq.{get_or-drop, drop-drop, drop_at, drop-cons, take-suc}
-use borrow.Author.Tests.{lt-ltb, le-leb, leb-true, eq-eqb, ne_eqb}
+use borrow.Author.Tests.{le-leb, leb-true, eqb-true}
 use Rattle.sheet.specs.declared.Row.{Row}
 use Rattle.sheet.specs.declared.Size.{Size}
 use Rattle.sheet.specs.declared.Span.{Span}
-use Rattle.commands.specs.declared.fetch.Item.{Item}
-use Rattle.commands.specs.declared.fetch.Taken.{Taken}
-use Rattle.commands.specs.declared.fetch.Taken.TheVariants.{Whole, Short, Nothing}
-use Rattle.commands.specs.declared.fetch.Fetched.{Fetched}
+use Rattle.std.specs.Prelude.{Option as Maybe, Some, None, ◌⊎◌}
+use Rattle.std.proofs.Common.{inl, inr}
+use Rattle.commands.specs.declared.fetch.Command.{Command as Code}
+use Rattle.commands.specs.declared.fetch.Command.TheVariants as code
 use Rattle.sheet.specs.Sheet.{Sheet}
 use Rattle.sheet.specs.Reading.{width}
 use Rattle.sheet.specs.Encode.{size_bytes, quiet_bytes, row_bytes, operand_bytes, start_bytes, press_bytes, test_bytes, machine_bytes, encode}
+use Rattle.lists.specs.laws.TestLaw.{never}
 use Rattle.sheet.specs.laws.InjectiveLaw.{Else, tests-else, tests_on, starts_on, faults_on, rules_on, encode-parts, rules-else}
 use Rattle.sheet.specs.laws.PartLaw.{operands-length, presses-length}
-use Rattle.commands.specs.words.Fetch.{item_at, fetch_by, fetch_at, item_in}
-use Rattle.reading.specs.words.Places.{OperandsFrom, TestAt, span_from}
-use Rattle.commands.specs.laws.FetchLaw.{WholeAt, fetched-whole}
+use Rattle.commands.specs.words.Fetch.{byte_of, command_by, command_at}
+use Rattle.reading.specs.words.Places.{one_operand, OperandsTo, TestAt, span_from}
 
--- what is fetched where a command stands
+-- the command that stands at a place
 byte_at : (s : List ℕ) (at : ℕ) (l : List ℕ) → drop at s ≡ l → get_or s at 0 ≡ get_or l 0 0
 byte_at s at l e = sym (get_or-drop at s 0 0 ∙ ap (λ (n : ℕ). get_or s n 0) (add-zero at)) ∙ ap (λ (t : List ℕ). get_or t 0 0) e
 
 room_at : (s : List ℕ) (at : ℕ) (l : List ℕ) → drop at s ≡ l → length s - at ≡ length l
 room_at s at l e = sym (length-drop at s) ∙ ap length e
 
-pub fetch-there : (s : List ℕ) (at b : ℕ) (l : List ℕ) → drop at s ≡ b ∷ l → width b ≤ suc (length l)
-    → fetch_at s at ≡ record { taken = Whole (item_at s at b); next = at + width b }
-fetch-there s at b l e w =
+pub command-there : (s : List ℕ) (at b : ℕ) (l : List ℕ) → drop at s ≡ b ∷ l → width b ≤ suc (length l) → command_at s at ≡ command_by s at b
+command-there s at b l e w =
     let k = room_at s at (b ∷ l) e in
     let q : get_or s at 0 ≡ b = byte_at s at (b ∷ l) e in
-    rw (q, lt-ltb at (length s) (omega arith), le-leb (at + width b) (length s) (omega arith))
+    rw (q, le-leb (at + width b) (length s) (omega arith))
 
--- a command byte that is not 0 was fetched whole
-whole_of : (t : Taken) → 1 ≤ (item_in t).byte → t ≡ Whole (item_in t)
-whole_of (Whole k) h = refl
-whole_of (Short b) h = absurd (omega arith)
-whole_of Nothing h = absurd (omega arith)
+abbrev bytes : Maybe Code → ℕ
+bytes (Some c) = byte_of c
+bytes None = 0
 
-pub taken-whole : (s : List ℕ) (at : ℕ) (f : Fetched) (i : Item) → f ≡ fetch_at s at → i ≡ item_in f.taken → 1 ≤ i.byte → WholeAt s at i f.next
-taken-whole s at f i e k h =
-    fetched-whole s at f e i (whole_of f.taken (omega (arith, ap (λ (x : Item). x.byte) k)) ∙ ap (λ (x : Item). Whole x) (sym k))
+byte-by : (s : List ℕ) (at b : ℕ) (c : Code) → command_by s at b ≡ Some c → byte_of c ≡ b
+byte-by s at b c = one 1 _ _ refl (one 2 _ _ refl (one 3 _ _ refl (one 4 _ _ refl (one 5 _ _ refl (one 6 _ _ refl (one 7 _ _ refl (one 8 _ _ refl (λ h. cc))))))))
+  where
+    one : (n : ℕ) (o rest : Maybe Code) → bytes o ≡ n → (rest ≡ Some c → byte_of c ≡ b) → cond (eqb b n) o rest ≡ Some c → byte_of c ≡ b
+    one n o rest same later = go (eqb b n) refl
+      where
+        go : (p : Bool) → eqb b n ≡ p → cond p o rest ≡ Some c → byte_of c ≡ b
+        go true q h = sym (ap bytes h) ∙ same ∙ sym (eqb-true b n q)
+        go false q h = later h
 
--- the place of the next command lies in the sheet
-next-by : (s : List ℕ) (at : ℕ) → at ≤ length s → (p q : Bool) → leb (at + width (get_or s at 0)) (length s) ≡ q → (fetch_by s at p q).next ≤ length s
-next-by s at h true true e = leb-true (at + width (get_or s at 0)) (length s) e
-next-by s at h true false e = h
-next-by s at h false q e = h
+-- its byte, and that all of it is there
+pub command-is : (s : List ℕ) (at : ℕ) (c : Code) → Some c ≡ command_at s at → (get_or s at 0 ≡ byte_of c) × (at + width (byte_of c) ≤ length s)
+command-is s at c e = go (leb (at + width (get_or s at 0)) (length s)) refl e
+  where
+    go : (p : Bool) → leb (at + width (get_or s at 0)) (length s) ≡ p → Some c ≡ cond p (command_by s at (get_or s at 0)) None
+        → (get_or s at 0 ≡ byte_of c) × (at + width (byte_of c) ≤ length s)
+    go true q h =
+        let k = byte-by s at (get_or s at 0) c (sym h) in
+        (sym k, rw k (leb-true (at + width (get_or s at 0)) (length s) q))
+    go false q h = never (cc)
 
--- a command with one operand
-pub record OperandAt (s : List ℕ) (at : ℕ) (i : Item) (e : ℕ) : Type 0 where
-  pub whole : WholeAt s at i e
-  pub next : e ≡ at + 2
+-- a command with one operand is a PRESS or a START
+operand-byte : (c : Code) → width (byte_of c) ≡ 2 → (byte_of c ≡ 5) ⊎ (byte_of c ≡ 7)
+operand-byte (code.Size z) e = absurd (omega arith)
+operand-byte (code.Rule r) e = absurd (omega arith)
+operand-byte (code.Fault r) e = absurd (omega arith)
+operand-byte code.Test e = absurd (omega arith)
+operand-byte (code.Press x) e = inl refl
+operand-byte code.End e = absurd (omega arith)
+operand-byte (code.Start t) e = inr refl
+operand-byte code.Quiet e = absurd (omega arith)
+
+pub record OperandHere (s : List ℕ) (at : ℕ) : Type 0 where
+  pub byte : (get_or s at 0 ≡ 5) ⊎ (get_or s at 0 ≡ 7)
   pub all : at + 2 ≤ length s
 
-pub operand-taken : (s : List ℕ) (at : ℕ) {f : Fetched} {i : Item} {b : ℕ} → f ≡ fetch_at s at → i ≡ item_in f.taken → i.byte ≡ b → 1 ≤ b → width b ≡ 2 → OperandAt s at i f.next
-operand-taken s at {f} {i} ef ei e some two =
-    let w = taken-whole s at f i ef ei (omega arith) in
-    let wide : width (get_or s at 0) ≡ 2 = ap width (sym w.byte ∙ e) ∙ two in
-    record { whole = w; next = w.next ∙ ap (λ (n : ℕ). at + n) wide; all = rw wide at w.all }
+pub operand-found : (s : List ℕ) (at : ℕ) → one_operand (command_at s at) ≡ true → OperandHere s at
+operand-found s at e = go (command_at s at) refl e
+  where
+    by : (c : Code) → (get_or s at 0 ≡ byte_of c) × (at + width (byte_of c) ≤ length s) → (width (byte_of c) ≡ 2) → (byte_of c ≡ 5) ⊎ (byte_of c ≡ 7) → OperandHere s at
+    by c is two (inl n) = record { byte = inl (is.0 ∙ n); all = rw two at is.1 }
+    by c is two (inr n) = record { byte = inr (is.0 ∙ n); all = rw two at is.1 }
 
-pub next-in : (s : List ℕ) (at : ℕ) (f : Fetched) → f ≡ fetch_at s at → at ≤ length s → f.next ≤ length s
-next-in s at f e h = rw e (next-by s at h (ltb at (length s)) (leb (at + width (get_or s at 0)) (length s)) refl)
+    go : (o : Maybe Code) → command_at s at ≡ o → one_operand o ≡ true → OperandHere s at
+    go (Some c) i k = let two = eqb-true (width (byte_of c)) 2 k in by c (command-is s at c (sym i)) two (operand-byte c two)
+    go None i k = never (cc)
 
--- what is left to count of the commands with the byte b and one operand
-pub record Left (s : List ℕ) (b : ℕ) (xs rest : List ℕ) (n at : ℕ) : Type 0 where
+-- what is left of the STARTs or PRESSes that stand from a place on
+pub record Left (s : List ℕ) (b : ℕ) (xs rest : List ℕ) (place at : ℕ) : Type 0 where
   pub more : List ℕ
-  pub sum : n + length more ≡ length xs
+  pub sum : at + 2 * length more ≡ place + 2 * length xs
   pub bytes : drop at s ≡ operand_bytes b more ++ rest
 
-pub left-start : {s xs rest : List ℕ} {b : ℕ} (at : ℕ) → drop at s ≡ operand_bytes b xs ++ rest → Left s b xs rest 0 at
-left-start {s} {xs} at e = record { more = xs; sum = omega arith; bytes = e }
-
-module _ (s : List ℕ) (b : ℕ) (xs rest : List ℕ) (calm : Else b rest) (n at : ℕ) where
-  onward : (ys : List ℕ) → n + length ys ≡ length xs → drop at s ≡ operand_bytes b ys ++ rest → get_or s at 0 ≡ b → Left s b xs rest (n + 1) (at + 2)
+module _ (s : List ℕ) (b : ℕ) (xs rest : List ℕ) (place at : ℕ) where
+  onward : (ys : List ℕ) → at + 2 * length ys ≡ place + 2 * length xs → drop at s ≡ operand_bytes b ys ++ rest → (drop at s ≡ rest → ⊥) → Left s b xs rest place (at + 2)
   unfolding operand_bytes
-  onward [] p d e = absurd (calm (sym (byte_at s at rest d) ∙ e))
-  onward (y ∷ ys) p d e = record { more = ys; sum = omega arith; bytes = sym (drop-drop 2 at s) ∙ ap (λ (l : List ℕ). drop 2 l) d }
+  onward [] p d some = absurd (some d)
+  onward (y ∷ ys) p d some = record { more = ys; sum = omega arith; bytes = sym (drop-drop 2 at s) ∙ ap (λ (l : List ℕ). drop 2 l) d }
 
-  pub left-more : (i : Item) (next : ℕ) → WholeAt s at i next → i.byte ≡ b → width b ≡ 2 → Left s b xs rest n at → Left s b xs rest (n + 1) next
-  left-more i next w e two h =
-      let d : get_or s at 0 ≡ b = sym w.byte ∙ e in
-      rw (w.next ∙ ap (λ (c : ℕ). at + c) (ap width d ∙ two)) (onward h.more h.sum h.bytes d)
+  pub left-more : one_operand (command_at s at) ≡ true → Else 5 rest → Else 7 rest → Left s b xs rest place at → Left s b xs rest place (at + 2)
+  left-more one calm quiet h =
+      let c = operand-found s at one in
+      onward h.more h.sum h.bytes (λ d. let k = sym (byte_at s at rest d) in go c.byte k)
+    where
+      go : (get_or s at 0 ≡ 5) ⊎ (get_or s at 0 ≡ 7) → get_or rest 0 0 ≡ get_or s at 0 → ⊥
+      go (inl n) k = calm (k ∙ n)
+      go (inr n) k = quiet (k ∙ n)
 
-  stopped : (ys : List ℕ) → n + length ys ≡ length xs → drop at s ≡ operand_bytes b ys ++ rest → width b ≡ 2 → ((item_in (fetch_at s at).taken).byte ≡ b → ⊥) → n ≡ length xs
+  stopped : (b ≡ 5) ⊎ (b ≡ 7) → (ys : List ℕ) → at + 2 * length ys ≡ place + 2 * length xs → drop at s ≡ operand_bytes b ys ++ rest
+      → one_operand (command_at s at) ≡ false → at ≡ place + 2 * length xs
   unfolding operand_bytes
-  stopped [] p d two other = omega arith
-  stopped (y ∷ ys) p d two other =
-      absurd (other (ap (λ (f : Fetched). (item_in f.taken).byte) (fetch-there s at b (y ∷ (operand_bytes b ys ++ rest)) d (omega arith))))
+  stopped k [] p d none = omega arith
+  stopped (inl k) (y ∷ ys) p d none = let e = ap one_operand (command-there s at 5 (y ∷ (operand_bytes b ys ++ rest)) (rw k at d) (omega arith)) in never (cc)
+  stopped (inr k) (y ∷ ys) p d none = let e = ap one_operand (command-there s at 7 (y ∷ (operand_bytes b ys ++ rest)) (rw k at d) (omega arith)) in never (cc)
 
-  pub left-stop : (f : Fetched) (i : Item) → f ≡ fetch_at s at → i ≡ item_in f.taken → width b ≡ 2 → (i.byte ≡ b → ⊥) → Left s b xs rest n at → n ≡ length xs
-  left-stop f i e k two other h =
-      stopped h.more h.sum h.bytes two (λ q. other (ap (λ (x : Item). x.byte) (k ∙ ap (λ (f : Fetched). item_in f.taken) e) ∙ q))
+  pub left-stop : (b ≡ 5) ⊎ (b ≡ 7) → one_operand (command_at s at) ≡ false → Left s b xs rest place at → at ≡ place + 2 * length xs
+  left-stop k none h = stopped k h.more h.sum h.bytes none
 
 -- a test: its TEST, then its PRESS commands
 after_test : (s : List ℕ) (at : ℕ) (l : List ℕ) → drop at s ≡ 4 ∷ l → drop (at + 1) s ≡ l
 after_test s at l e = sym (drop-drop 1 at s) ∙ ap (λ (t : List ℕ). drop 1 t) e
 
-test-next : (s : List ℕ) (at : ℕ) (l : List ℕ) (f : Fetched) → f ≡ fetch_at s at → drop at s ≡ 4 ∷ l → f.next ≡ at + 1
-test-next s at l f e d = ap (λ (f : Fetched). f.next) (e ∙ fetch-there s at 4 l d (omega arith))
-
-pub test-is : (s : List ℕ) (at n : ℕ) (f : Fetched) → f ≡ fetch_at s at → OperandsFrom s 5 f.next n → TestAt s at (record { start = f.next; length = 2 * n })
-test-is s at n f e p = record {
-  within = p.within;
-  found = λ xs rest d calm.
-      let a = test-next s at (press_bytes xs ++ rest) f e d in
-      let b : drop f.next s ≡ press_bytes xs ++ rest = rw a (after_test s at (press_bytes xs ++ rest) d) in
-      rw (p.counted xs rest b calm, a);
+pub test-is : (s : List ℕ) (at end : ℕ) → OperandsTo s (at + 1) end → TestAt s at (record { start = at + 1; length = end - (at + 1) })
+test-is s at end p = record {
+  within = omega (arith, p.after, p.within);
+  found = λ xs rest d calm quiet.
+      let c : end - (at + 1) ≡ 2 * length xs = omega (arith, p.counted 5 xs rest (inl refl) (after_test s at (press_bytes xs ++ rest) d) calm quiet) in
+      rw c;
 }
 
 -- the tests from the jth on
@@ -140,18 +156,24 @@ pub place-start : (s : List ℕ) (place : ℕ) (l : List (List ℕ)) → drop pl
 unfolding test_bytes
 place-start s place l e = record { is = omega arith; bytes = e }
 
+-- a byte stands there, as END comes last
+pub place-room : (s : List ℕ) (place : ℕ) (l : List (List ℕ)) (j at : ℕ) → TestPlace s place l j at → at < length s
+place-room s place l j at p =
+    let k : length s - at ≡ length (test_bytes (drop j l)) + 1 = sym (length-drop at s) ∙ (ap length p.bytes ∙ length-append (test_bytes (drop j l)) (6 ∷ [])) in
+    omega arith
+
 module _ (s : List ℕ) (place : ℕ) (l : List (List ℕ)) (j at : ℕ) (h : j < length l) (p : TestPlace s place l j at) where
   pub here : drop at s ≡ 4 ∷ (press_bytes (get_or l j []) ++ (test_bytes (drop (j + 1) l) ++ 6 ∷ []))
   here = p.bytes ∙ split-test l j h
 
   pub place_found : (r : Span) → TestAt s at r → r ≡ span_from place l j
   place_found r t =
-      t.found (get_or l j []) (test_bytes (drop (j + 1) l) ++ 6 ∷ []) here (tests-else 5 (drop (j + 1) l) refl refl)
+      t.found (get_or l j []) (test_bytes (drop (j + 1) l) ++ 6 ∷ []) here (tests-else 5 (drop (j + 1) l) refl refl) (tests-else 7 (drop (j + 1) l) refl refl)
       ∙ ap (λ (n : ℕ). record { start = n + 1; length = 2 * length (get_or l j []) }) p.is
 
   pub place-next : (r : Span) → TestAt s at r → TestPlace s place l (j + 1) (r.start + r.length)
   place-next r t =
-      let e = t.found (get_or l j []) (test_bytes (drop (j + 1) l) ++ 6 ∷ []) here (tests-else 5 (drop (j + 1) l) refl refl) in
+      let e = t.found (get_or l j []) (test_bytes (drop (j + 1) l) ++ 6 ∷ []) here (tests-else 5 (drop (j + 1) l) refl refl) (tests-else 7 (drop (j + 1) l) refl refl) in
       let a : r.start + r.length ≡ at + (1 + 2 * length (get_or l j [])) = ap (λ (r : Span). r.start + r.length) e ∙ omega arith in
       record {
         is = omega (arith, a, p.is, tests-suc l j h);
@@ -204,12 +226,29 @@ module _ (sh : Sheet) where
   after-size : drop 4 (encode sh) ≡ quiet_bytes sh.quiet ++ rules_on sh
   after-size = ap (drop 4) (encode-parts sh) ∙ drop_at (size_bytes sh.size) (quiet_bytes sh.quiet ++ rules_on sh) 4 (size-length sh.size)
 
-pub quiet-fetched : (sh : Sheet) (s : List ℕ) → encode sh ≡ s → (f : Fetched) (i : Item) → f ≡ fetch_at s 4 → i ≡ item_in f.taken → eqb i.byte 8 ≡ sh.quiet
+pub quiet-found : (sh : Sheet) (s : List ℕ) → encode sh ≡ s → (found : Maybe Code) → found ≡ command_at s 4 → (q : Bool) → (q ≡ true → found ≡ Some code.Quiet) → (q ≡ false → found ≡ Some code.Quiet → ⊥) → q ≡ sh.quiet
 unfolding quiet_bytes
-quiet-fetched sh s e f i ef ei = one sh.quiet (rw e at (after-size sh))
+quiet-found sh s e found f q there not_there = one sh.quiet (rw e at (after-size sh)) q there not_there
   where
-    one : (q : Bool) → drop 4 s ≡ quiet_bytes q ++ rules_on sh → eqb i.byte 8 ≡ q
-    one true d = eq-eqb i.byte 8 (ap (λ (x : Item). x.byte) (ei ∙ ap (λ (x : Fetched). item_in x.taken) (ef ∙ fetch-there s 4 8 (rules_on sh) d (omega arith))))
-    one false d = ne_eqb i.byte 8 (λ q.
-        let w = taken-whole s 4 f i ef ei (omega arith) in
-        rules-else sh (sym (byte_at s 4 (rules_on sh) d) ∙ sym w.byte ∙ q))
+    one : (r : Bool) → drop 4 s ≡ quiet_bytes r ++ rules_on sh → (q : Bool) → (q ≡ true → found ≡ Some code.Quiet) → (q ≡ false → found ≡ Some code.Quiet → ⊥) → q ≡ r
+    one true d true u v = refl
+    one true d false u v = absurd (v refl (f ∙ command-there s 4 8 (rules_on sh) d (omega arith)))
+    one false d true u v = absurd (rules-else sh (sym (byte_at s 4 (rules_on sh) d) ∙ (command-is s 4 code.Quiet (sym (u refl) ∙ f)).0))
+    one false d false u v = refl
+
+-- the commands with one operand, and the rows, by their index
+pub operands-at : (s : List ℕ) (b place i : ℕ) (l rest : List ℕ) → drop place s ≡ operand_bytes b l ++ rest → i ≤ length l → drop (place + 2 * i) s ≡ operand_bytes b (drop i l) ++ rest
+unfolding operand_bytes
+operands-at s b place zero l rest e h = rw (add-zero place) e
+operands-at s b place (suc i) [] rest e h = absurd (omega arith)
+operands-at s b place (suc i) (x ∷ l) rest e h =
+    let k : place + 2 * suc i ≡ place + 2 + 2 * i = omega arith in
+    rw k (operands-at s b (place + 2) i l rest (sym (drop-drop 2 place s) ∙ ap (λ (t : List ℕ). drop 2 t) e) (omega arith))
+
+pub rows-at : (s : List ℕ) (b place i : ℕ) (l : List Row) (rest : List ℕ) → drop place s ≡ row_bytes b l ++ rest → i ≤ length l → drop (place + 5 * i) s ≡ row_bytes b (drop i l) ++ rest
+unfolding row_bytes
+rows-at s b place zero l rest e h = rw (add-zero place) e
+rows-at s b place (suc i) [] rest e h = absurd (omega arith)
+rows-at s b place (suc i) (r ∷ l) rest e h =
+    let k : place + 5 * suc i ≡ place + 5 + 5 * i = omega arith in
+    rw k (rows-at s b (place + 5) i l rest (sym (drop-drop 5 place s) ∙ ap (λ (t : List ℕ). drop 5 t) e) (omega arith))

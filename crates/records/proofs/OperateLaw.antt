@@ -1,15 +1,16 @@
 -- The operations on a record: what the scan, the specification and the search found is the answer.
-use Rattle.std.specs.Prelude.{◌*◌, ◌<◌, ◌≤◌, ◌≡◌}
-use Rattle.lists.specs.Proving.{arith, ℕ, refl, sym, ◌∙◌, ap, subst, Bool, true, false, Option, some, none, List, length, take, drop, lt-ltb, le-ltb, never}
+use Rattle.std.specs.Prelude.{Result as Answer, Ok, Err, Option as Maybe, Some, None}
+use Rattle.std.specs.Prelude.{◌*◌, ◌≤◌, ◌≡◌}
+use Rattle.lists.specs.Proving.{arith, ℕ, refl, sym, ◌∙◌, ap, ap₂, subst, Bool, true, false, Option, some, none, List, length, take, drop, never}
 use mathlib.Core.Bool.{not}
 use lib.Seq.{take_at}
 use Rattle.lists.specs.Lists.{is_none, overlay}
-use Rattle.sheet.specs.declared.Reading.{Reading as ReadAnswer}
-use Rattle.sheet.specs.declared.Reading.TheVariants as read
+use Rattle.lists.specs.Options.{coded, meant}
+use Rattle.sheet.specs.declared.Refusal.{Refusal}
 use Rattle.sheet.specs.declared.Summary.{Summary}
 use Rattle.sheet.specs.Sheet.{Sheet}
-use Rattle.sheet.specs.Reading.{accepted, refused, Reading, reading, summary_of}
-use Rattle.sheet.specs.Tables.{read_answer}
+use Rattle.sheet.specs.Reading.{Result, accepted, refused, Reading, reading, summary_of}
+use Rattle.sheet.specs.Tables.{refusal_of}
 use Rattle.sheet.specs.WellFormed.{WellFormed}
 use Rattle.sheet.specs.laws.AcceptedLaw.{well-formed}
 use Rattle.model.specs.Mutant.{slots, rule}
@@ -18,34 +19,29 @@ use Rattle.model.specs.Suite.{compare_of}
 use Rattle.model.specs.Verdict.{ComparedMeans}
 use Rattle.model.specs.Walk.{Taken as Next}
 use Rattle.model.proofs.laws.OperationLaw.{mutant-length}
-use Rattle.block.specs.Layout.{slots_of}
 use Rattle.block.specs.Logged.{observations}
 use Rattle.block.specs.Tabulated.{rule_of}
-use Rattle.block.specs.Tabled.{Tabled}
+use Rattle.block.specs.Tabled.{Tabled, Opened}
+use Rattle.block.specs.declared.packing.Loaded.{Loaded}
 use Rattle.block.specs.laws.TabledLaw.{rule-same}
-use Rattle.block.specs.laws.OpenedLaw.{closed-by, Opened}
 use Rattle.cubes.specs.declared.goal.Goal.TheVariants.{Any}
-use Rattle.machine.specs.declared.product.Difference.{Difference}
-use Rattle.machine.specs.Differences.{difference_of}
+use Rattle.machine.specs.Differences.{Difference, difference_of}
 use Rattle.search.specs.Search.{In, every, NoneOf, Decides, Given, Leaving}
 use Rattle.search.specs.declared.settle.Beginning.TheVariants.{Front}
-use Rattle.search.specs.Shown.{Room, Untouched, Shown}
-use Rattle.records.specs.declared.Explained.{Explained}
-use Rattle.records.specs.declared.Explained.TheVariants as explained
+use Rattle.search.specs.Shown.{Untouched, Shown, Leaves}
+use Rattle.search.specs.Rooms.{with_room, room_of}
+use Rattle.search.specs.laws.RoomLaw.{room-refused, room-goes-on, room-there}
 use Rattle.records.specs.declared.Recorded.{Recorded}
-use Rattle.records.specs.declared.Recorded.TheVariants as recorded
-use Rattle.records.specs.declared.scan.Place.{Place}
-use Rattle.records.specs.declared.scan.Place.TheVariants as place
 use Rattle.records.specs.Record.{broken_from, broken_in, differs_from, differs_in, outcome_of, with_record, checking, first_giving, explain_on, explaining}
 use Rattle.records.specs.Means.{FirstDifference, ExplainedMeans}
-use Rattle.records.specs.Steps.{place_of}
-use Rattle.records.specs.Answers.{recorded_by, recorded_answer, RecordedSays, ToldRecorded, compared_explained, explained_by, Explains, ExplainedSays, ToldExplained, Sized}
+use Rattle.records.specs.Steps.{whole_answer}
+use Rattle.records.specs.Answers.{recorded_of, recorded_answer, RecordedSays, ToldRecorded, Explained, Explains, ExplainedSays, ToldExplained, Sized}
 use Rattle.records.proofs.laws.ScanLaw.{whole, broken-at}
 use Rattle.records.proofs.laws.DifferLaw.{first-difference}
 use Rattle.records.proofs.laws.GivenLaw.{giving-none, giving-first, explained-means, given-means}
 
 -- from the first mutant on
-pub from_front : {sh : Sheet} {m last : List ℕ} → Tabled sh m → Leaving sh m Front last
+pub from_front : {sh : Sheet} {m : List ℕ} → Tabled sh m → Leaving sh m Front
 from_front tb = record { tabled = tb; is = tt }
 
 -- ---- beside the specification and the mutants
@@ -66,130 +62,116 @@ module _ {sh : Sheet} {m : List ℕ} (tb : Tabled sh m) (log : List ℕ) where
   unfolding differs_in
   differs-is = rw (rule-same tb) refl
 
-  pub compares : (p : Place) → p ≡ place_of (differs_from (rule_of m) none 0 log) → {r : Bool} → Decides (Given sh (observations log)) r →
-      (p ≡ place.Nothing → recorded.AsSpecified r ≡ recorded_answer (accepted (outcome_of sh log)))
-      × ((at : ℕ) → p ≡ place.At at → recorded.Differs at r ≡ recorded_answer (accepted (outcome_of sh log)))
+  pub compares : {o : Maybe ℕ} {r : Bool} → o ≡ coded (differs_from (rule_of m) none 0 log) → Decides (Given sh (observations log)) r →
+      ◌≡◌ {A = Recorded} (record { differs = o; given = r }) (recorded_of (outcome_of sh log))
   unfolding outcome_of
-  compares p e {r} d = go (differs_in sh log) (e ∙ ap place_of differs-is)
-    where
-      go : (o : Option ℕ) → p ≡ place_of o → (p ≡ place.Nothing → recorded.AsSpecified r ≡ recorded_by o (outcome_of sh log).given) × ((at : ℕ) → p ≡ place.At at → recorded.Differs at r ≡ recorded_by o (outcome_of sh log).given)
-      go none eo = (λ z. ap recorded.AsSpecified (given_is d), λ at z. let y = sym eo ∙ z in never (cc))
-      go (some i) eo = (λ z. let y = sym eo ∙ z in never (cc), λ at z. let y = sym eo ∙ z in rw (given_is d) (cc))
+  compares {o} {r} e d = ap₂ (λ (f : Maybe ℕ) (b : Bool). record { differs = f; given = b }) (e ∙ ap coded differs-is) (given_is d)
 
   -- ---- the first mutant that gives it
   every_one : (b : List ℕ) → In every b
   every_one b = (record { at = λ j l. absurd (omega arith) }, omega arith)
 
-  differs-explained : (o : Option (List ℕ)) → explained_by (difference_of o) ≡ compared_explained o
-  differs-explained none = refl
-  differs-explained (some xs) = refl
-
   module _ {board board' sequence sequence' : List ℕ} where
-    pub explains-nothing : NoneOf Any sh (observations log) every × Untouched board board' sequence sequence' →
-        Explains (accepted (first_giving sh log)) explained.Nothing board board' sequence sequence'
+    explains-nothing : NoneOf Any sh (observations log) every × Untouched board board' sequence sequence' →
+        Explains (accepted (first_giving sh log)) (Ok None) board board' sequence sequence'
     explains-nothing f =
         let h = giving-none sh log (λ b g. f.0.at b g.is (every_one b) (record { gives = g.gives; meets = tt })) in
         record { answer = rw h refl; board = rw h f.1.board; sequence = rw h f.1.sequence }
 
-    pub explains-first : {d : Difference} {r : Explained} → Shown Any sh (observations log) every d board board' sequence sequence' → r ≡ explained_by d →
-        Explains (accepted (first_giving sh log)) r board board' sequence sequence'
-    explains-first {d} {r} shown er =
+    explains-first : {d : Difference} → Shown Any sh (observations log) every d board board' sequence sequence' →
+        Explains (accepted (first_giving sh log)) (Ok (Some d)) board board' sequence sequence'
+    explains-first {d} shown =
         let b = shown.mutant in
         let f = shown.first in
         let h = giving-first sh log b (record { is = f.is; gives = f.wanted.gives }) (λ c g l. f.first c g.is (every_one c) l (record { gives = g.gives; meets = tt })) in
         record {
-          answer = rw h (er ∙ ap explained_by shown.written.difference ∙ differs-explained (compare_of sh b));
+          answer = rw h (ap (λ (d : Difference). Ok (Some d)) shown.written.difference);
           board = rw h shown.written.board;
           sequence = rw h shown.written.sequence;
         }
 
+    -- by what the search answers
+    pub explains-found : (o : Maybe Difference) → Leaves Any sh (observations log) every o board board' sequence sequence' →
+        Explains (accepted (first_giving sh log)) (Ok o) board board' sequence sequence'
+    explains-found None f = explains-nothing f
+    explains-found (Some d) f = explains-first f
+
 -- ---- the first broken command
-place-nothing : (o : Option ℕ) → place_of o ≡ place.Nothing → o ≡ none
-place-nothing none e = refl
-place-nothing (some i) e = never (cc)
+broken_by : (o : Option ℕ) {why : Refusal} → whole_answer o ≡ Err why → {A : Type 0} (r : Result A) → with_record o r ≡ refused why.number why.place
+broken_by none e r = never (cc)
+broken_by (some at) {why} e {A} r =
+    let g : refusal_of 20 at ≡ why = cc in
+    let by : Refusal → Result A = λ w. refused w.number w.place in
+    ap by g
 
-place_at : (o : Option ℕ) (at : ℕ) → place_of o ≡ place.At at → o ≡ some at
-place_at none at e = never (cc)
-place_at (some i) at e = cc
+whole_by : (o : Option ℕ) → whole_answer o ≡ Ok tt → o ≡ none
+whole_by none e = refl
+whole_by (some at) e = never (cc)
 
-module _ {sh : Sheet} {m : List ℕ} {inputs outputs : ℕ} (sz : Sized sh m inputs outputs) (log : List ℕ) {p : Place} (e : p ≡ place_of (broken_from inputs outputs false 0 0 log)) where
-  scanned : p ≡ place_of (broken_in sh log)
+module _ {sh : Sheet} {loaded : Loaded} (sz : Sized sh loaded) (log : List ℕ) where
+  scanned : broken_from loaded.size.inputs loaded.size.outputs false 0 0 log ≡ broken_in sh log
   unfolding broken_in
-  scanned = rw (sym sz.inputs_are, sym sz.outputs-are) e
+  scanned = rw (sz.inputs_are, sz.outputs-are) refl
 
-  pub whole-record : p ≡ place.Nothing → broken_in sh log ≡ none
-  whole-record z = place-nothing (broken_in sh log) (sym scanned ∙ z)
+  module _ {why : Refusal} (e : whole_answer (broken_from loaded.size.inputs loaded.size.outputs false 0 0 log) ≡ Err why) where
+    broken : {A : Type 0} (r : Result A) → with_record (broken_in sh log) r ≡ refused why.number why.place
+    broken r = broken_by (broken_in sh log) (ap whole_answer (sym scanned) ∙ e) r
 
-  pub broken-record : (at : ℕ) → p ≡ place.At at → broken_in sh log ≡ some at
-  broken-record at z = place_at (broken_in sh log) at (sym scanned ∙ z)
+    pub checks-broken : {r : Answer Recorded Refusal} → r ≡ Err why → r ≡ recorded_answer (with_record (broken_in sh log) (accepted (outcome_of sh log)))
+    checks-broken er = er ∙ sym (ap recorded_answer (broken (accepted (outcome_of sh log))))
 
-  pub checks-broken : (at : ℕ) → p ≡ place.At at → recorded.Refused 20 at ≡ recorded_answer (with_record (broken_in sh log) (accepted (outcome_of sh log)))
-  checks-broken at z = rw (broken-record at z) refl
-
-  pub checks-whole : p ≡ place.Nothing → {r : Recorded} → r ≡ recorded_answer (accepted (outcome_of sh log)) → r ≡ recorded_answer (with_record (broken_in sh log) (accepted (outcome_of sh log)))
-  checks-whole z c = rw (whole-record z) c
-
-  -- ---- and the buffers
-  module _ (board sequence : List ℕ) where
-    pub explains-broken : (at : ℕ) → p ≡ place.At at → Explains (explain_on sh log (length board) (length sequence)) (explained.Refused 20 at) board board sequence sequence
+    pub explains-broken : (board sequence : List ℕ) {r : Explained} → r ≡ Err why → Explains (explain_on sh log (length board) (length sequence)) r board board sequence sequence
     unfolding explain_on
-    explains-broken at z = let h = broken-record at z in record { answer = rw h refl; board = rw h refl; sequence = rw h refl }
+    explains-broken board sequence er =
+        let h = broken (with_room sh (length board) (length sequence) (accepted (first_giving sh log))) in
+        record { answer = rw h er; board = rw h refl; sequence = rw h refl }
 
-    module _ (z : p ≡ place.Nothing) where
-      pub explains-no-board : length board < slots_of m → Explains (explain_on sh log (length board) (length sequence)) (explained.Refused 16 0) board board sequence sequence
+  module _ (e : whole_answer (broken_from loaded.size.inputs loaded.size.outputs false 0 0 log) ≡ Ok tt) where
+    whole-record : broken_in sh log ≡ none
+    whole-record = whole_by (broken_in sh log) (ap whole_answer (sym scanned) ∙ e)
+
+    pub checks-whole : {r : Recorded} → r ≡ recorded_of (outcome_of sh log) → Ok r ≡ recorded_answer (with_record (broken_in sh log) (accepted (outcome_of sh log)))
+    checks-whole er = rw whole-record (ap (λ (r : Recorded). Ok r) er)
+
+    -- ---- and the buffers
+    module _ (board sequence : List ℕ) where
+      pub explains-no-room : {why : Refusal} → room_of sh (length board) (length sequence) ≡ Err why → {r : Explained} → r ≡ Err why →
+          Explains (explain_on sh log (length board) (length sequence)) r board board sequence sequence
       unfolding explain_on
-      explains-no-board l =
-          let w = whole-record z in
-          let h = lt-ltb (length board) (length (slots sh)) (omega (arith, sz.tabled.count)) in
-          record { answer = rw (w, h) refl; board = rw (w, h) refl; sequence = rw (w, h) refl }
+      explains-no-room f er =
+          let w = whole-record in
+          let h = room-refused sh (length board) (length sequence) f (accepted (first_giving sh log)) in
+          record { answer = rw (w, h) er; board = rw (w, h) refl; sequence = rw (w, h) refl }
 
-      module _ (lb : slots_of m ≤ length board) where
-        pub explains-no-sequence : length sequence < sh.size.states * sh.size.states → Explains (explain_on sh log (length board) (length sequence)) (explained.Refused 16 1) board board sequence sequence
-        unfolding explain_on
-        explains-no-sequence l =
-            let w = whole-record z in
-            let h = le-ltb (length board) (length (slots sh)) (omega (arith, sz.tabled.count)) in
-            let g = lt-ltb (length sequence) (sh.size.states * sh.size.states) l in
-            record { answer = rw (w, h, g) refl; board = rw (w, h, g) refl; sequence = rw (w, h, g) refl }
-
-        module _ (ls : sh.size.states * sh.size.states ≤ length sequence) where
-          pub room : Room m board sequence
-          room = record { choices = lb; inputs = rw sz.tabled.states ls }
-
-          pub explains-room : {r : Explained} {board' sequence' : List ℕ} → Explains (accepted (first_giving sh log)) r board board' sequence sequence' →
-              Explains (explain_on sh log (length board) (length sequence)) r board board' sequence sequence'
-          unfolding explain_on
-          explains-room x =
-              let h = le-ltb (length board) (length (slots sh)) (omega (arith, sz.tabled.count)) in
-              let g = le-ltb (length sequence) (sh.size.states * sh.size.states) ls in
-              rw (whole-record z, h, g) x
+      pub explains-room : room_of sh (length board) (length sequence) ≡ Ok tt → {r : Explained} {board' sequence' : List ℕ} →
+          Explains (accepted (first_giving sh log)) r board board' sequence sequence' → Explains (explain_on sh log (length board) (length sequence)) r board board' sequence sequence'
+      unfolding explain_on
+      explains-room f x = rw (whole-record, room-goes-on sh (length board) (length sequence) f (accepted (first_giving sh log))) x
 
 -- ---- what is told
 -- a sheet that was read: the summary has its numbers of inputs and outputs
-pub sized : {s m starts lengths : List ℕ} {z : Summary} {a : ReadAnswer} → a ≡ read_answer (reading s) → a ≡ read.Accepted z → (x : Opened s z m starts lengths) →
-    Sized x.sheet m z.inputs z.outputs
+pub sized : {s : List ℕ} {loaded : Loaded} → (o : Opened s loaded) → Sized o.sheet loaded
 unfolding summary_of
-sized {s} {m} {starts} {lengths} {z} {a} e ea x =
-    let same : z ≡ summary_of x.sheet = (let h : read.Accepted z ≡ read_answer (accepted x.sheet) = sym ea ∙ e ∙ ap read_answer x.is in cc) in
-    record { tabled = x.holds.loads.tabled; inputs_are = ap (λ (y : Summary). y.inputs) same; outputs-are = ap (λ (y : Summary). y.outputs) same }
+sized o = record { tabled = o.holds.loads.tabled; inputs_are = ap (λ (y : Summary). y.inputs) o.size; outputs-are = ap (λ (y : Summary). y.outputs) o.size }
 
 module _ (s log : List ℕ) where
-  pub check-refused : (a : ReadAnswer) (number place : ℕ) (r : Recorded) → a ≡ read_answer (reading s) → a ≡ read.Refused number place → r ≡ recorded.Refused number place →
-      (r ≡ recorded_answer (checking s log)) × ToldRecorded s log r
+  pub check-refused : {why : Refusal} → reading s ≡ refused why.number why.place → {r : Answer Recorded Refusal} → r ≡ Err why → (r ≡ recorded_answer (checking s log)) × ToldRecorded s log r
   unfolding checking ToldRecorded
-  check-refused a number place r e er ea =
-      let h = closed-by s e number place er in (rw h ea, λ sh es. let same : ◌≡◌ {A = Reading} (accepted sh) (refused number place) = sym es ∙ h in never (cc))
+  check-refused {why} h er = (rw h er, λ sh es. let same : ◌≡◌ {A = Reading} (accepted sh) (refused why.number why.place) = sym es ∙ h in never (cc))
 
-  record-says : (sh : Sheet) → WellFormed sh → (o : Option ℕ) → broken_in sh log ≡ o → (r : Recorded) → r ≡ recorded_answer (with_record o (accepted (outcome_of sh log))) → RecordedSays sh log r
+  record-says : (sh : Sheet) → WellFormed sh → (o : Option ℕ) → broken_in sh log ≡ o → (r : Answer Recorded Refusal) → r ≡ recorded_answer (with_record o (accepted (outcome_of sh log))) → RecordedSays sh log r
   unfolding outcome_of
   record-says sh wf (some at) eo r er = rw er (refl, broken-at sh log at eo)
-  record-says sh wf none eo r er = go (differs_in sh log) (first-difference sh log) er
+  record-says sh wf none eo r er = rw er (whole sh log wf eo, rw meant-coded (first-difference sh log), given-means sh log wf)
     where
-      go : (d : Option ℕ) → FirstDifference (rule sh) log d → r ≡ recorded_by d (outcome_of sh log).given → RecordedSays sh log r
-      go none f e = rw e (whole sh log wf eo, f, given-means sh log wf)
-      go (some at) f e = rw e (whole sh log wf eo, f, given-means sh log wf)
+      meant-coded : meant (coded (differs_in sh log)) ≡ differs_in sh log
+      meant-coded = go (differs_in sh log)
+        where
+          go : (o : Option ℕ) → meant (coded o) ≡ o
+          go none = refl
+          go (some i) = refl
 
-  pub check-accepted : (sh : Sheet) → reading s ≡ accepted sh → (r : Recorded) → r ≡ recorded_answer (with_record (broken_in sh log) (accepted (outcome_of sh log))) →
+  pub check-accepted : (sh : Sheet) → reading s ≡ accepted sh → (r : Answer Recorded Refusal) → r ≡ recorded_answer (with_record (broken_in sh log) (accepted (outcome_of sh log))) →
       (r ≡ recorded_answer (checking s log)) × ToldRecorded s log r
   unfolding checking ToldRecorded
   check-accepted sh e r er = (rw e er, told)
@@ -201,14 +183,13 @@ module _ (s log : List ℕ) where
           record-says sh' (well-formed s sh' e') (broken_in sh' log) refl r er'
 
   module _ (board sequence : List ℕ) where
-    pub explain-refused : (a : ReadAnswer) (number place : ℕ) (r : Explained) → a ≡ read_answer (reading s) → a ≡ read.Refused number place → r ≡ explained.Refused number place →
+    pub explain-refused : {why : Refusal} → reading s ≡ refused why.number why.place → {r : Explained} → r ≡ Err why →
         Explains (explaining s log (length board) (length sequence)) r board board sequence sequence × ToldExplained s log (length board) (length sequence) r board sequence
     unfolding explaining ToldExplained
-    explain-refused a number place r e er ea =
-        let h = closed-by s e number place er in (
-          record { answer = rw h ea; board = rw h refl; sequence = rw h refl },
-          λ sh es. let same : ◌≡◌ {A = Reading} (accepted sh) (refused number place) = sym es ∙ h in never (cc),
-        )
+    explain-refused {why} h er = (
+      record { answer = rw h er; board = rw h refl; sequence = rw h refl },
+      λ sh es. let same : ◌≡◌ {A = Reading} (accepted sh) (refused why.number why.place) = sym es ∙ h in never (cc),
+    )
 
     says : (sh : Sheet) (o : Option Next) → ExplainedMeans sh log o → (r : Explained) (board' sequence' : List ℕ) → Explains (accepted o) r board board' sequence sequence' → ExplainedSays sh log r board' sequence'
     says sh none means r board' sequence' x = rw x.answer means
@@ -220,7 +201,7 @@ module _ (s log : List ℕ) where
         eb : take (length (slots sh)) board' ≡ t.mutant
         eb = rw x.board (take_at t.mutant (drop (length t.mutant) board) (length (slots sh)) long)
 
-        go : (o : Option (List ℕ)) → ComparedMeans sh t.mutant o → r ≡ compared_explained o → sequence' ≡ overlay (found o) sequence → ExplainedSays sh log r board' sequence'
+        go : (o : Option (List ℕ)) → ComparedMeans sh t.mutant o → r ≡ Ok (Some (difference_of o)) → sequence' ≡ overlay (found o) sequence → ExplainedSays sh log r board' sequence'
         go none c er es = rw er (rw eb (means.0, c))
         go (some xs) c er es =
             let ex : take (length xs) sequence' ≡ xs = rw es (take_at xs (drop (length xs) sequence) (length xs) refl) in
@@ -231,9 +212,8 @@ module _ (s log : List ℕ) where
     unfolding explain_on
     explain-says sh wf lb ls (some at) eo r board' sequence' x = rw (rw eo at x).answer (refl, broken-at sh log at eo)
     explain-says sh wf lb ls none eo r board' sequence' x =
-        let h = le-ltb (length board) (length (slots sh)) lb in
-        let g = le-ltb (length sequence) (sh.size.states * sh.size.states) ls in
-        says sh (first_giving sh log) (explained-means sh log wf) r board' sequence' (rw (eo, h, g) at x)
+        let h = room-goes-on sh (length board) (length sequence) (room-there sh (length board) (length sequence) lb ls) (accepted (first_giving sh log)) in
+        says sh (first_giving sh log) (explained-means sh log wf) r board' sequence' (rw (eo, h) at x)
 
     pub explain-accepted : (sh : Sheet) → reading s ≡ accepted sh → (r : Explained) (board' sequence' : List ℕ) →
         Explains (explain_on sh log (length board) (length sequence)) r board board' sequence sequence' →

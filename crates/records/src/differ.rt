@@ -1,107 +1,91 @@
 // The first SEEN of a record whose output differs from the specification's.
-ghost use Rattle.std.specs.Prelude.{◌≡◌, ◌+◌, ◌<◌, length, get_or, drop};
+ghost use Rattle.std.specs.Prelude.{◌≡◌, get_or};
 ghost use Rattle.std.proofs.Math.Option.{none};
+ghost use Rattle.lists.specs.Options.{coded, meant};
 ghost use Rattle.block.specs.Tabulated.{rule_of, Wf};
 ghost use Rattle.records.specs.Record.{specified_at, differs_from};
-ghost use Rattle.records.specs.Steps.{place_of, state_of, RuleIs, Steps};
+ghost use Rattle.records.specs.Steps.{move_by, Steps};
 
-use crate::scan::Place;
-use block::*;
+use block::{Block, PULSE, SEEN, Step, inputs, rule_output, rule_target, some_place, states};
 
-// The specification has no state: before any PULSE, and after an undefined input.
-pub const NO_STATE: u8 = 255;
-
-// A specified transition; its target is NO_STATE where there is none.
+// The specification's state after a byte, none before any PULSE and after an undefined input; and whether the byte is a SEEN with a wrong
+// output.
 #[derive(Clone, Copy)]
-pub struct Rule {
-    pub output: u8,
-    pub target: u8,
-}
-
-// The specification's state after a byte, and whether the byte is a SEEN with a wrong output.
-#[derive(Clone, Copy)]
-pub struct Stepped {
+pub(crate) struct Stepped {
     pub wrong: bool,
-    pub state: u8,
+    pub state: Option<u8>,
 }
 
 // The specified transition at a state, if there is one, and an input.
-fn specified(block: &Block, s: u8, x: u8) -> Rule
+fn specified(block: &Block, state: Option<u8>, x: u8) -> Option<Step>
     requires { Wf block.now }
-    ensures { RuleIs (specified_at (rule_of block.now) (state_of s) x) result }
+    ensures { move_by result ≡ specified_at (rule_of block.now) (meant state) x }
 {
-    if s < states(block) {
-        if x < inputs(block) {
-            let k = some_place(s, x);
-            return Rule {
-                output: rule_output(block, k),
-                target: rule_target(block, k),
-            };
-        }
+    let s = state?;
+    if s >= states(block) {
+        return None;
     }
-    Rule {
-        output: 0,
-        target: NO_STATE,
+    if x >= inputs(block) {
+        return None;
     }
+    let k = some_place(s, x);
+    let target = rule_target(block, k);
+    if target == 255 {
+        return None;
+    }
+    let output = rule_output(block, k);
+    Some(Step { output, target })
 }
 
-// The byte that many places after an offset, 0 past the end.
-fn operand(log: &[u8], at: usize, i: usize) -> u8
-    requires { at < length log.now }
-    ensures { result ≡ get_or (drop (at + 1) log.now) i 0 }
+// The byte at a place, 0 past the end.
+fn operand(rest: &[u8], i: usize) -> u8
+    ensures { result ≡ get_or rest.now i 0 }
 {
-    if i < log.len() - at - 1 {
-        return log[at + 1 + i];
-    }
-    0
+    rest.get(i).copied().unwrap_or(0)
 }
 
-// The specification along one byte of a record.
-fn step(block: &Block, log: &[u8], at: usize, s: u8) -> Stepped
-    requires { Wf block.now × (at < length log.now) }
-    ensures { Steps (rule_of block.now) (state_of s) (get_or log.now at 0) (drop (at + 1) log.now) result }
+// The specification along the byte v of a record, before the bytes `rest`.
+fn step(block: &Block, state: Option<u8>, v: u8, rest: &[u8]) -> Stepped
+    requires { Wf block.now }
+    ensures { Steps (rule_of block.now) (meant state) v rest.now result }
 {
-    let v = log[at];
     if v == PULSE {
         return Stepped {
             wrong: false,
-            state: 0,
+            state: Some(0),
         };
     }
     if v != SEEN {
         return Stepped {
             wrong: false,
-            state: s,
+            state,
         };
     }
-    let rule = specified(block, s, operand(log, at, 0));
-    let o = operand(log, at, 1);
-    if rule.target == NO_STATE {
-        return Stepped {
+    let o = operand(rest, 1);
+    match specified(block, state, operand(rest, 0)) {
+        None => Stepped {
             wrong: false,
-            state: NO_STATE,
-        };
-    }
-    Stepped {
-        wrong: rule.output != o,
-        state: rule.target,
+            state: None,
+        },
+        Some(rule) => Stepped {
+            wrong: rule.output != o,
+            state: Some(rule.target),
+        },
     }
 }
 
-// The offset of the first SEEN whose output differs from the specification's.
-pub fn first_difference(block: &Block, log: &[u8]) -> Place
+// The offset of the first SEEN whose output differs from the specification's, if there is one.
+pub(crate) fn first_difference(block: &Block, log: &[u8]) -> Option<usize>
     requires { Wf block.now }
-    ensures { result ≡ place_of (differs_from (rule_of block.now) none 0 log.now) }
+    ensures { result ≡ coded (differs_from (rule_of block.now) none 0 log.now) }
 {
-    let mut s = NO_STATE;
-    let mut at: usize = 0;
-    while at < log.len() {
-        let next = step(block, log, at, s);
+    let mut state = None;
+    for (at, v) in log.iter().enumerate() {
+        let next = step(block, state, *v, &log[at + 1..]);
         if next.wrong {
-            return Place::At(at);
+            return Some(at);
         }
-        s = next.state;
-        at += 1;
+        state = next.state;
     }
-    Place::Nothing
+    None
 }

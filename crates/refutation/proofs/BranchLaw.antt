@@ -1,6 +1,6 @@
 -- The choices of a suspect in turn, each refuted by a cube.
-use Rattle.std.specs.Prelude.{◌+◌, ◌-◌, ◌<◌, ◌≤◌, ◌≡◌}
-use Rattle.lists.specs.Proving.{arith, ℕ, sym, ◌∙◌, ap, subst, true, List, length, get_or, set, replicate, length-replicate, get_or-replicate, List·getD-eq-default, dec_lt}
+use Rattle.std.specs.Prelude.{◌+◌, ◌-◌, ◌<◌, ◌≤◌, ◌≡◌, None}
+use Rattle.lists.specs.Proving.{arith, ℕ, sym, ◌∙◌, ap, subst, List, length, get_or, set, replicate, length-replicate, get_or-replicate, List·getD-eq-default, dec_lt}
 use Rattle.model.specs.Machine.{Move}
 use Rattle.block.specs.Layout.{site_at}
 use Rattle.block.specs.Tabulated.{Wf, choices_at, choice_of, StepIs}
@@ -12,9 +12,6 @@ use Rattle.cubes.specs.declared.goal.Goal.{Goal}
 use Rattle.cubes.specs.laws.JoinLaw.{DoneTo, join-none, join_more, join-all, done-skip, done_all}
 use Rattle.mirror.specs.Reflect.{ReflectedOk}
 use Rattle.mirror.specs.laws.MirrorLaw.{under-meets}
-use Rattle.store.specs.Store.{ToldOk}
-use Rattle.store.specs.declared.entries.Told.{Told}
-use Rattle.nodes.specs.Refuting.{Ready}
 use Rattle.refutation.specs.Branching.{SplitOk, TurnOk, JoinedOk}
 use Rattle.refutation.specs.declared.branch.Split.{Split}
 use Rattle.refutation.specs.declared.branch.Turn.{Turn}
@@ -29,13 +26,6 @@ joined {m} {cube} {all} {done} {mid} {more} {wider} {k} {s} i l wf lk ls ei el n
   keeps = λ v h. re.keeps v (ad.keeps v h);
   here = re.keeps (record { output = s.output; target = s.target }) (ad.here (record { output = s.output; target = s.target }) lo nl ms);
 }
-
--- what holds throughout: the tables, what was seen first, the split
-pub record Splitting (goal : Goal) (block facts log : List ℕ) (left : ℕ) (seen : Told) (split : Split) : Type 0 where
-  pub ready : Ready block facts
-  pub told : ToldOk goal block log seen
-  pub ok : SplitOk block left split
-  pub few : split.n ≤ 256
 
 -- ---- the turns: n in each of two rounds; in the second each choice before is done
 pub record Trying (goal : Goal) (m log all done : List ℕ) (k n r : ℕ) : Type 0 where
@@ -72,7 +62,7 @@ module _ {m : List ℕ} {left : ℕ} {sp : Split} (wf : Wf m) (ok : SplitOk m le
             let has : Has (get_or wider (choice_of m sp.k c).output 0) (choice_of m sp.k c).target = subst (λ (y : ℕ). Has (get_or wider (choice_of m sp.k c).output 0) y) (step.target wf low) (subst (λ (y : ℕ). Has (get_or wider y 0) t.step.target) (step.output wf low) (h le)) in
             subst (λ (y : ℕ). DoneTo m wider sp.k y) (omega arith) (done-skip (record { at = λ d ld. keeps (choice_of m sp.k d) (tr.done-to.at d ld) }) has)
 
-    pub trying-skip : t.skip ≡ true → Trying goal m log all done sp.k sp.n (r + 1)
+    pub trying-skip : t.hint ≡ None → Trying goal m log all done sp.k sp.n (r + 1)
     trying-skip e = record { all-long = tr.all-long; done-long = tr.done-long; joining = tr.joining; done-to = done-turn (λ v h. h) (λ le. (tu le).has e) }
 
     pub trying-more : {cube more wider : List ℕ} → NoneIn goal m log cube → JoinedOk m cube all done more wider sp.k t.step → Trying goal m log more wider sp.k sp.n (r + 1)

@@ -1,5 +1,5 @@
 -- What the steps of the search for refutations promise each other.
-use Rattle.std.specs.Prelude.{◌≡◌, true, List, ℕ, ◌<◌, length, get_or}
+use Rattle.std.specs.Prelude.{◌≡◌, List, ℕ, ◌<◌, length, get_or, None}
 use Rattle.model.specs.Machine.{Move}
 use Rattle.block.specs.Layout.{site_at, choices_of}
 use Rattle.block.specs.Tabulated.{StepIs}
@@ -21,7 +21,7 @@ pub record SplitOk (m : List ℕ) (left : ℕ) (r : Split) : Type 0 where
 -- the transition is that of choice c at the pair k, and it is done if it is passed over
 pub record TurnOk (m done : List ℕ) (k c : ℕ) (r : Turn) : Type 0 where
   pub is : StepIs m k c r.step
-  pub has : r.skip ≡ true → Has (get_or done r.step.output 0) r.step.target
+  pub has : r.hint ≡ None → Has (get_or done r.step.output 0) r.step.target
 
 -- a cube in which no mutant is sought is joined to the others: nothing that is done is lost, and the transition is done
 pub record JoinedOk (m cube all done more wider : List ℕ) (k : ℕ) (s : Step) : Type 0 where

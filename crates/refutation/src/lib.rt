@@ -6,7 +6,7 @@
 
 mod branch;
 
-ghost use Rattle.std.specs.Prelude.{◌≡◌, true, List, ℕ, length};
+ghost use Rattle.std.specs.Prelude.{◌≡◌, true, List, ℕ, length, IfSome};
 ghost use Rattle.block.specs.Tabulated.{Wf};
 ghost use Rattle.cubes.specs.Cube.{NoneIf};
 ghost use Rattle.refutation.specs.Lent.{StoreOk};
@@ -14,11 +14,12 @@ ghost use Rattle.nodes.specs.Refuting.{Ready, Found};
 ghost use Rattle.nodes.specs.Prefix.{PrefixIn};
 
 use block::*;
-use cubes::goal::Goal;
+use cubes::literals::Cube;
 use cubes::tables::Facts;
 use leaves::*;
-use store::unknown;
-pub use store::{Told, fresh_store, no_store, short_store};
+use nodes::Node;
+pub use nodes::Question;
+pub use store::{Entry, FEW, MANY, fresh_store};
 
 // Fills the facts of a block and a log; false where it has none.
 pub fn prepare(block: &Block, log: &[u8], facts: &mut Facts) -> bool
@@ -43,47 +44,33 @@ pub fn note_test(facts: &mut Facts, at: usize)
 
 // A cube in which no mutant is sought and that has every mutant with all the choices of the prefix; or nothing.
 pub fn told_from(
-    block: &Block,
-    facts: &Facts,
-    log: &[u8],
-    goal: Goal,
-    store: &mut [u32],
+    question: &Question,
+    store: &mut [Entry],
     notes: &mut [u16],
     prefix: &[u16; 32],
-) -> Told
-    requires { Ready block.now facts.now × StoreOk goal block.now log.now store.old }
-    ensures { Found goal block.now log.now store.new result × (result.ok ≡ true → PrefixIn block.now result.cube prefix.now) }
+) -> Option<Cube>
+    requires { Ready question.now.block.now question.now.facts.now × StoreOk question.now.goal question.now.block.now question.now.log.now store.old }
+    ensures { Found question.now.goal question.now.block.now question.now.log.now store.new result × IfSome result (λ cube. PrefixIn question.now.block.now cube prefix.now) }
 {
-    let node = nodes::root(block, prefix);
+    let node = Node::root(question.block, prefix);
     store::admit_all(notes, node.settled);
-    let mut cursors = [0u64; 256];
-    cursors::start_cursors(facts, &mut cursors);
-    let told = branch::explore(block, facts, log, goal, store, notes, node, &cursors);
-    if !told.ok {
-        return unknown();
+    let cursors = cursors::start_cursors(question.facts);
+    let cube = branch::explore(question, store, notes, &node, &cursors)?;
+    if !nodes::has_prefix(question.block, &cube, prefix) {
+        return None;
     }
-    if !nodes::has_prefix(block, &told.cube, prefix) {
-        return unknown();
-    }
-    told
+    Some(cube)
 }
 
 // Whether no mutant with all the choices of the prefix is sought; false promises nothing.
 pub fn none_from(
-    block: &Block,
-    facts: &Facts,
-    log: &[u8],
-    goal: Goal,
-    store: &mut [u32],
+    question: &Question,
+    store: &mut [Entry],
     notes: &mut [u16],
     prefix: &[u16; 32],
 ) -> bool
-    requires { Ready block.now facts.now × StoreOk goal block.now log.now store.old }
-    ensures { NoneIf goal block.now log.now prefix.now result × StoreOk goal block.now log.now store.new }
+    requires { Ready question.now.block.now question.now.facts.now × StoreOk question.now.goal question.now.block.now question.now.log.now store.old }
+    ensures { NoneIf question.now.goal question.now.block.now question.now.log.now prefix.now result × StoreOk question.now.goal question.now.block.now question.now.log.now store.new }
 {
-    if witnessed(notes, prefix) {
-        return false;
-    }
-    let told = told_from(block, facts, log, goal, store, notes, prefix);
-    told.ok
+    !witnessed(notes, prefix) && told_from(question, store, notes, prefix).is_some()
 }

@@ -10,7 +10,7 @@ use lib.ListN.{length, take, drop, length-append}
 use lib.Seq.{take_at, length-take-le}
 use Rattle.sheet.specs.Sheet.{Sheet, open_slots}
 use Rattle.sheet.specs.Reading.{Result, accepted, refused, Reading, reading, summary_of}
-use Rattle.sheet.specs.Tables.{read_answer}
+use Rattle.sheet.specs.Tables.{refusal_of, read_answer}
 use Rattle.lists.specs.laws.TestLaw.{never}
 use Rattle.sheet.specs.laws.AcceptedLaw.{well-formed}
 use Rattle.model.specs.Mutant.{slots}
@@ -19,7 +19,8 @@ use Rattle.model.specs.Operations.{reads, refuse_if, judging, judge_on}
 use Rattle.model.proofs.laws.JudgeLaw.{judged-survivor}
 use Rattle.model.proofs.laws.OperationLaw.{mutant-length}
 use Rattle.model.proofs.laws.SuspectLaw.{slot-count}
-use Rattle.mutation.specs.declared.verdict.Judged.TheVariants as judged
+use Rattle.std.specs.Prelude.{Ok, Err, Some, None}
+use Rattle.sheet.specs.declared.Refusal.{Refusal}
 use Rattle.lists.specs.Lists.{overlay}
 use Rattle.mutation.specs.Judging.{judged_answer, board_writes, sequence_writes}
 use Rattle.writing.specs.words.Spelled.{Spelled}
@@ -37,20 +38,19 @@ pub printed : {old new text : List ℕ} {r : ℕ} (room : ℕ) (result : Result 
 unfolding text_in
 printed room result h e a = rw (le-ltb room 2048 h, e) (record { answer = omega (arith, a.many); bytes = spelled-front a })
 
-pub complete-text : (result : Result Judgement) → judged.Complete ≡ judged_answer result → text_of result ≡ complete_text
+pub complete-text : (result : Result Judgement) → Ok None ≡ judged_answer result → text_of result ≡ complete_text
 unfolding text_of
 complete-text (accepted complete) e = refl
 complete-text (accepted (survivor b xs)) e = never (cc)
 complete-text (refused number place) e = never (cc)
 
-pub refused-text : (result : Result Judgement) (n p : ℕ) → judged.Refused n p ≡ judged_answer result → text_of result ≡ refused_line n p
+pub refused-text : (result : Result Judgement) (why : Refusal) → Err why ≡ judged_answer result → text_of result ≡ refused_line why.number why.place
 unfolding text_of
-refused-text (accepted complete) n p e = never (cc)
-refused-text (accepted (survivor b xs)) n p e = never (cc)
-refused-text (refused number place) n p e =
-    let en : number ≡ n = cc in
-    let ep : place ≡ p = cc in
-    rw (en, ep) refl
+refused-text (accepted complete) why e = never (cc)
+refused-text (accepted (survivor b xs)) why e = never (cc)
+refused-text (refused number place) why e =
+    let same : why ≡ refusal_of number place = cc in
+    rw same refl
 
 -- a survivor has as many choices as Read counts suspects
 survivor-choices : (s b xs : List ℕ) (room room' : ℕ) → judging s room room' ≡ accepted (survivor b xs) →
@@ -88,14 +88,14 @@ front xs old new n en e = rw e (rw (length-append xs (drop (length xs) old)) (om
 
 pub shown : (s old_mutant mutant old_sequence sequence : List ℕ) (room room' n d : ℕ) →
     n ≡ suspects_in (read_answer (reading s)) →
-    judged.Survivor d ≡ judged_answer (judging s room room') →
+    Ok (Some d) ≡ judged_answer (judging s room room') →
     mutant ≡ overlay (board_writes (judging s room room')) old_mutant →
     sequence ≡ overlay (sequence_writes (judging s room room')) old_sequence →
     Shown (judging s room room') mutant sequence n d
 unfolding text_of
 shown s old_mutant mutant old_sequence sequence room room' n d en = of-result (judging s room room') refl
   where
-    of-result : (result : Result Judgement) → judging s room room' ≡ result → judged.Survivor d ≡ judged_answer result →
+    of-result : (result : Result Judgement) → judging s room room' ≡ result → Ok (Some d) ≡ judged_answer result →
         mutant ≡ overlay (board_writes result) old_mutant → sequence ≡ overlay (sequence_writes result) old_sequence →
         Shown result mutant sequence n d
     of-result (accepted complete) e a m q = never (cc)

@@ -1,8 +1,9 @@
 -- What the program prints.
+use Rattle.std.specs.Prelude.{Result as Answer, Ok, Err}
 use Rattle.std.specs.Prelude.{ℕ, zero, suc, ◌+◌, ◌/◌, ◌%◌, ◌≡◌, cond, List, [], ◌∷◌, ◌++◌, ltb, length}
 use Rattle.lists.specs.Lists.{overlay}
-use Rattle.sheet.specs.declared.Reading.{Reading as ReadAnswer}
-use Rattle.sheet.specs.declared.Reading.TheVariants as read
+use Rattle.sheet.specs.declared.Refusal.{Refusal}
+use Rattle.sheet.specs.declared.Summary.{Summary}
 use Rattle.sheet.specs.Reading.{Result, accepted, refused}
 use Rattle.model.specs.Suite.{Judgement, complete, survivor}
 
@@ -69,9 +70,9 @@ unfoldable pub text_in : ℕ → Result Judgement → List ℕ
 text_in room result = cond (ltb room 2048) [] (text_of result)
 
 -- how many choices a mutant has, by what Read answers; 0 on a refusal
-abbrev pub suspects_in : ReadAnswer → ℕ
-suspects_in (read.Accepted summary) = summary.suspects
-suspects_in (read.Refused number place) = 0
+abbrev pub suspects_in : Answer Summary Refusal → ℕ
+suspects_in (Ok summary) = summary.suspects
+suspects_in (Err why) = 0
 
 -- the text stands at the buffer's front, r is its length, and the bytes after it are as they were
 pub record Prints (old new : List ℕ) (r : ℕ) (text : List ℕ) : Type 0 where

@@ -12,8 +12,6 @@ ghost use Rattle.report.specs.Text.{Prints, text_in, suspects_in};
 
 mod text;
 
-use mutation::Judged;
-use sheet::Reading;
 use text::{put_refused, put_survivor};
 use writing::spell::bytes;
 
@@ -22,8 +20,8 @@ fn suspects(sheet: &[u8]) -> usize
     ensures { result ≡ suspects_in (read_answer (reading sheet.now)) }
 {
     match reading::read(sheet) {
-        Reading::Accepted(summary) => summary.suspects,
-        Reading::Refused(_, _) => 0,
+        Ok(summary) => summary.suspects,
+        Err(_) => 0,
     }
 }
 
@@ -38,11 +36,11 @@ pub fn report(sheet: &[u8], out: &mut [u8]) -> usize
     let mut mutant = [0u8; 32];
     let mut sequence = [0u8; 256];
     match mutation::judge(sheet, &mut mutant, &mut sequence) {
-        Judged::Complete => bytes(b"complete\n", out, 0),
-        Judged::Survivor(length) => {
+        Ok(None) => bytes(b"complete\n", out, 0),
+        Ok(Some(length)) => {
             let choices = suspects(sheet);
             put_survivor(out, &mutant[..choices], &sequence[..length])
         }
-        Judged::Refused(number, place) => put_refused(out, number, place),
+        Err(why) => put_refused(out, why.number, why.place),
     }
 }

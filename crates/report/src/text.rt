@@ -1,5 +1,5 @@
 // Text in a buffer, a piece at a time: each function writes at a place and answers the place after it.
-ghost use Rattle.std.specs.Prelude.{◌+◌, ◌*◌, ◌<◌, ◌≤◌, length};
+ghost use Rattle.std.specs.Prelude.{◌∷◌, ◌+◌, ◌*◌, ◌<◌, ◌≤◌, length};
 ghost use Rattle.writing.specs.words.Spelled.{Spelled};
 ghost use Rattle.report.specs.Text.{decimal, fields, line, survivor_lines, refused_line};
 
@@ -10,12 +10,22 @@ pub(crate) fn put_number(out: &mut [u8], at: usize, n: usize) -> usize
     requires { at + length (decimal n) ≤ length out.old }
     ensures { Spelled out.old out.new at result (decimal n) }
 {
-    let digit = 48 + (n % 10) as u8;
+    let digit = b'0' + (n % 10) as u8;
     if n < 10 {
         return byte(digit, out, at);
     }
     let end = put_number(out, at, n / 10);
     byte(digit, out, end)
+}
+
+// A byte's number after a blank.
+fn put_field(out: &mut [u8], at: usize, number: u8) -> usize
+    requires { at + 4 ≤ length out.old }
+    ensures text { Spelled out.old out.new at result (32 ∷ decimal number) }
+    ensures short { result ≤ at + 4 }
+{
+    let blank = byte(b' ', out, at);
+    put_number(out, blank, number as usize)
 }
 
 // Numbers, each after a blank: a byte takes at most four.
@@ -24,12 +34,9 @@ pub(crate) fn put_fields(out: &mut [u8], at: usize, numbers: &[u8]) -> usize
     ensures text { Spelled out.old out.new at result (fields numbers.now) }
     ensures short { result ≤ at + 4 * length numbers.now }
 {
-    let mut i: usize = 0;
     let mut end = at;
-    while i < numbers.len() {
-        let blank = byte(32, out, end);
-        end = put_number(out, blank, numbers[i] as usize);
-        i += 1;
+    for number in numbers {
+        end = put_field(out, end, *number);
     }
     end
 }
@@ -42,7 +49,7 @@ pub(crate) fn put_line(out: &mut [u8], at: usize, name: &[u8], numbers: &[u8]) -
 {
     let middle = bytes(name, out, at);
     let end = put_fields(out, middle, numbers);
-    byte(10, out, end)
+    byte(b'\n', out, end)
 }
 
 // The three lines of a survivor.
@@ -64,5 +71,5 @@ pub(crate) fn put_refused(out: &mut [u8], number: u8, place: usize) -> usize
     let at = put_number(out, head, number as usize);
     let middle = bytes(b" at ", out, at);
     let end = put_number(out, middle, place);
-    byte(10, out, end)
+    byte(b'\n', out, end)
 }

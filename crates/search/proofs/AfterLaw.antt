@@ -1,6 +1,7 @@
 -- The first wanted mutant after a given one: of those that have its first i choices, for smaller and smaller i.
+use Rattle.std.specs.Prelude.{Option as Maybe, Some, None, IsSome}
 use Rattle.std.specs.Prelude.{◌+◌, ◌-◌, ◌<◌, ◌≤◌, ◌≡◌, ◌∷◌}
-use Rattle.lists.specs.Proving.{arith, ℕ, zero, suc, refl, sym, ◌∙◌, subst, inl, inr, by_cases, List, [], length, get_or, set, length-set, length-replicate, get_or-replicate, get_or-set_same, get_or-set_other, ℕ_discrete, below_more}
+use Rattle.lists.specs.Proving.{arith, ℕ, zero, suc, refl, sym, ◌∙◌, subst, inl, inr, by_cases, List, [], length, get_or, set, length-set, length-replicate, get_or-replicate, get_or-set_same, get_or-set_other, ℕ_discrete, below_more, never}
 use Rattle.std.proofs.Common.{ext_get_or}
 use Rattle.lists.specs.Lists.{Before}
 use Rattle.sheet.specs.Sheet.{Sheet}
@@ -13,12 +14,11 @@ use Rattle.block.specs.Layout.{slots_of}
 use Rattle.block.specs.Logged.{observations}
 use Rattle.block.specs.laws.TabledLaw.{get_d_default, slot-few}
 use Rattle.cubes.specs.declared.goal.Goal.{Goal}
-use Rattle.refutation.specs.Lent.{StoreOk}
-use Rattle.search.specs.declared.settle.Found.{Found}
-use Rattle.search.specs.declared.settle.Found.TheVariants.{Nothing, First, GaveUp}
+use Rattle.refutation.specs.Lent.{StoreOk, Entry}
+use denote.Bor.{Bor}
 use Rattle.search.specs.declared.settle.Beginning.{Beginning}
 use Rattle.search.specs.declared.settle.Beginning.TheVariants.{After}
-use Rattle.search.specs.Search.{Wanted, Begins, next, after, In, NoneOf, FirstOf, Answers, Searching, Settled, Leaving, unsettled}
+use Rattle.search.specs.Search.{Wanted, Begins, next, after, In, NoneOf, FirstOf, Finds, Searching, Settled, Leaving, LeavingAfter, unsettled}
 use Rattle.search.proofs.SearchLaw.{before_at}
 
 -- the same up to a place, and a larger number there: it stands after
@@ -75,14 +75,14 @@ pub down : {goal : Goal} {sh : Sheet} {l : List Observation} {m last p : List �
 down {goal} {sh} {l} {m} {last} {p} {i} h k = subst (λ (k : ℕ). Left goal sh l m last p k) (omega arith) h
 
 -- a search begins after a mutant
-pub leaving-after : {from : Beginning} {sh : Sheet} {m last : List ℕ} → from ≡ After → Leaving sh m from last → Leaving sh m After last
-leaving-after {from} {sh} {m} {last} e le = subst (λ (f : Beginning). Leaving sh m f last) e le
+pub leaving-after : {from : Beginning} {sh : Sheet} {m : List ℕ} {last : Bor (List ℕ)} → from ≡ After last → Leaving sh m from → LeavingAfter sh m last.now
+leaving-after e le = record { tabled = le.tabled; is = rw e at le.is }
 
 -- none of them is left
 pub left-all : {goal : Goal} {sh : Sheet} {l : List Observation} {m last p : List ℕ} {i : ℕ} → Left goal sh l m last p i → i ≤ 0 → NoneOf goal sh l (after last 0)
 left-all {goal} {sh} {l} {m} {last} {p} {i} h z = subst (λ (k : ℕ). NoneOf goal sh l (after last k)) (omega arith) h.none
 
-module _ {sh : Sheet} {m last : List ℕ} (le : Leaving sh m After last) where
+module _ {sh : Sheet} {m last : List ℕ} (le : LeavingAfter sh m last) where
   long : length last ≡ length (slots sh)
   long = mutant-length sh last le.is
 
@@ -154,10 +154,10 @@ module _ {sh : Sheet} {m last : List ℕ} (le : Leaving sh m After last) where
       pub left-more : NoneOf goal sh l (next (set p i 256) i (c + 1)) → Left goal sh l m last (set p i 256) i
       left-more nf = record { searching = left-unset; same = same-unset; none = record { at = λ b is be w. nf.at b is (split b is be w) w } }
 
-      -- what was found with a larger choice, if it was not nothing, is the answer
-      pub left-found : (r : Found) (q : List ℕ) → (r ≡ Nothing → ⊥) → Answers goal sh l (next (set p i 256) i (c + 1)) r q → Answers goal sh l (after last 0) r q
-      left-found Nothing q n a = absurd (n refl)
-      left-found First q n a = record { long = a.long; first = first a.first }
+      -- what was found with a larger choice is the answer
+      pub left-found : (r : Maybe (List ℕ)) → IsSome r → Finds goal sh l (next (set p i 256) i (c + 1)) r → Finds goal sh l (after last 0) r
+      left-found None n a = never (cc)
+      left-found (Some q) n a = record { long = a.long; first = first a.first }
         where
           first : {d : List ℕ} → FirstOf goal sh l (next (set p i 256) i (c + 1)) d → FirstOf goal sh l (after last 0) d
           first {d} f =
@@ -173,11 +173,10 @@ module _ {sh : Sheet} {m last : List ℕ} (le : Leaving sh m After last) where
 
               inside : i < length last
               inside = omega (arith, h.searching.prefix.within, long)
-      left-found GaveUp q n a = tt
 
 -- ---- what `search_after` has at each turn: of the mutants that have the first i choices none that stands after is wanted
-pub record Going (goal : Goal) (block log last store₀ store notes₀ notes p : List ℕ) (i : ℕ) : Type 0 where
-  pub left : (sh : Sheet) → Leaving sh block After last → Left goal sh (observations log) block last p i
+pub record Going (goal : Goal) (block log last : List ℕ) (store₀ store : List Entry) (notes₀ notes p : List ℕ) (i : ℕ) : Type 0 where
+  pub left : (sh : Sheet) → LeavingAfter sh block last → Left goal sh (observations log) block last p i
   pub low : i ≤ 32
   pub ok : StoreOk goal block log store
   pub same_store : length store ≡ length store₀

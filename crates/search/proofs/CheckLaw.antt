@@ -1,4 +1,5 @@
 -- A mutant with all its choices, by tables: whether it is wanted, and what is shown of it.
+use Rattle.std.specs.Prelude.{Option as Maybe, Some, None, Result as Answer, Ok, Err, IsOk}
 use Rattle.std.specs.Prelude.{◌+◌, ◌*◌, ◌<◌, ◌≤◌, ◌≡◌, ◌∷◌, ◌++◌}
 use Rattle.lists.specs.Proving.{arith, ℕ, suc, refl, sym, ◌∙◌, ap, subst, Bool, true, false, Option, some, none, List, length, get_or, set, take, drop, length-append, drop-cons, append_snoc, never}
 use Rattle.std.proofs.Common.{mul-le-mul, length-drop, length-take-le, get_or-take, take-suc, take_at}
@@ -19,16 +20,15 @@ use Rattle.block.specs.Logged.{observations}
 use Rattle.block.specs.Tabled.{Tabled}
 use Rattle.block.specs.laws.TabledLaw.{get_d_default, slot-few, well-formed}
 use Rattle.logs.specs.declared.walk.Wrong.{Wrong}
-use Rattle.logs.specs.declared.walk.Wrong.TheVariants as wrong
 use Rattle.logs.specs.Walked.{moves_in, wrong_of}
 use Rattle.logs.specs.laws.WalkedLaw.{gives_none, walked}
-use Rattle.machine.specs.declared.product.Difference.{Difference}
-use Rattle.machine.specs.declared.product.Difference.TheVariants as difference
 use Rattle.machine.specs.declared.laying.Machine.{Machine}
-use Rattle.machine.specs.Differences.{difference_of}
+use Rattle.machine.specs.Differences.{Difference, difference_of}
 use Rattle.machine.specs.Laid.{Chosen, Settles, Moves}
 use Rattle.machine.specs.Product.{tables, Valid}
-use Rattle.machine.specs.Fits.{Machined}
+use Rattle.sheet.specs.declared.Refusal.{Refusal}
+use Rattle.machine.specs.Fits.{Machined, MachinedBy}
+use Rattle.machine.specs.laws.FitsLaw.{mutant-fits}
 use Rattle.machine.specs.laws.LaidLaw.{settled-chosen, settled-start, settled-moves, tables-against, tables-valid}
 use Rattle.cubes.specs.declared.goal.Goal.{Goal}
 use Rattle.cubes.specs.declared.goal.Goal.TheVariants.{Any, Nonconforming}
@@ -73,15 +73,15 @@ pub any-meets : {goal : Goal} (o : Option (List ℕ)) → goal ≡ Any → Decid
 any-meets o e = record { yes = λ t. rw e tt; no = λ f. never (cc) }
 
 module _ {goal : Goal} {d : Difference} (eg : goal ≡ Nonconforming) where
-  pub none-meets : (o : Option (List ℕ)) → d ≡ difference_of o → d ≡ difference.Nothing → Decides (Meets goal o) false
+  pub none-meets : (o : Option (List ℕ)) → d ≡ difference_of o → d ≡ None → Decides (Meets goal o) false
   none-meets none e z = record { yes = λ t. never (cc); no = λ f h. (rw eg at h) refl }
   none-meets (some xs) e z = never (cc)
 
-  pub some-meets : (o : Option (List ℕ)) {k : ℕ} → d ≡ difference_of o → d ≡ difference.Shown k → Decides (Meets goal o) true
+  pub some-meets : (o : Option (List ℕ)) {k : ℕ} → d ≡ difference_of o → d ≡ Some k → Decides (Meets goal o) true
   some-meets none e z = never (cc)
   some-meets (some xs) e z = record { yes = λ t. rw eg (λ n. never (cc)); no = λ f. never (cc) }
 
-right : (o : Option Place) → wrong_of o ≡ wrong.Nothing → o ≡ none
+right : (o : Option Place) → wrong_of o ≡ None → o ≡ none
 right none e = refl
 right (some f) e = never (cc)
 
@@ -113,17 +113,17 @@ module _ {sh : Sheet} {m p : List ℕ} (w : Searching sh m p (length (slots sh))
     unfolding compare_of
     compared = ap compare_pair (tables-against tb (mutant_in sh p) moved start starts)
 
-    along : (log : List ℕ) {r : Wrong} → r ≡ wrong_of (failed_in (moves_in outputs targets) start start 0 0 (observations log)) →
+    along : (log : List ℕ) {r : Maybe Wrong} → r ≡ wrong_of (failed_in (moves_in outputs targets) start start 0 0 (observations log)) →
         r ≡ wrong_of (failed_in (step sh (mutant_in sh p)) (initial sh (mutant_in sh p)) (initial sh (mutant_in sh p)) 0 0 (observations log))
     along log er = er ∙ ap wrong_of (walked sh tb.formed (mutant_in sh p) (tabulates tb.formed (mutant_in sh p) moved) start starts log)
 
-    module _ {goal : Goal} (log : List ℕ) {r : Wrong} (er : r ≡ wrong_of (failed_in (moves_in outputs targets) start start 0 0 (observations log))) where
+    module _ {goal : Goal} (log : List ℕ) {r : Maybe Wrong} (er : r ≡ wrong_of (failed_in (moves_in outputs targets) start start 0 0 (observations log))) where
       -- a wrong output: it is not
-      pub fails : {t i : ℕ} → r ≡ wrong.At t i → Decides (Wanted goal sh (observations log) (mutant_in sh p)) false
+      pub fails : {w : Wrong} → r ≡ Some w → Decides (Wanted goal sh (observations log) (mutant_in sh p)) false
       fails e = record { yes = λ t. never (cc); no = λ f h. let z = along log er ∙ ap wrong_of (gives_none _ _ (observations log) _ 0 0 h.gives) in never (cc) }
 
       -- none: as the goal asks
-      pub passes : r ≡ wrong.Nothing → {s : Bool} → Decides (Meets goal (compare_pair (tables m start outputs targets))) s → Decides (Wanted goal sh (observations log) (mutant_in sh p)) s
+      pub passes : r ≡ None → {s : Bool} → Decides (Meets goal (compare_pair (tables m start outputs targets))) s → Decides (Wanted goal sh (observations log) (mutant_in sh p)) s
       passes e d =
           record {
             yes = λ t. record { gives = none-gives _ _ (observations log) _ 0 0 (right _ (sym (along log er) ∙ e)); meets = subst (Meets goal) compared (d.yes t) };
@@ -159,19 +159,23 @@ module _ {sh : Sheet} {m p : List ℕ} (h : Showing sh m p) {n : ℕ} (en : n �
     pub front_length : n ≡ length (take n board')
     front_length = count ∙ sym (ap length front ∙ mutant-length sh (mutant_in sh p) h.is)
 
+    pub machine-ok : (r : Answer Machine Refusal) → MachinedBy sh (take n board') r → IsOk r
+    machine-ok (Ok mc) made = refl
+    machine-ok (Err why) made = let fits = mutant-fits sh (mutant_in sh p) h.is in let misfit = rw front at made in never (cc)
+
     module _ {mc : Machine} (made : Machined sh (take n board') mc) where
       machined : Machined sh (mutant_in sh p) mc
       machined = subst (λ (b : List ℕ). Machined sh b mc) front made
 
       pub distinguish-asks : Valid m mc.target × (mc.start < states_of m)
       distinguish-asks = (
-        tables-valid h.tabled (mutant_in sh p) (machined.moves h.is),
-        rw (machined.start h.is, h.tabled.states) (start-below sh (mutant_in sh p) h.tabled.formed),
+        tables-valid h.tabled (mutant_in sh p) (machined.moves),
+        rw (machined.start, h.tabled.states) (start-below sh (mutant_in sh p) h.tabled.formed),
       )
 
       pub written : {d : Difference} (sequence : List ℕ) {sequence' : List ℕ} → d ≡ difference_of (compare_pair (tables m mc.start mc.output mc.target)) →
           sequence' ≡ overlay (found (compare_pair (tables m mc.start mc.output mc.target))) sequence → Written sh (mutant_in sh p) d board board' sequence sequence'
       unfolding compare_of
       written sequence ed es =
-          let same = ap compare_pair (tables-against h.tabled (mutant_in sh p) (machined.moves h.is) mc.start (machined.start h.is)) in
+          let same = ap compare_pair (tables-against h.tabled (mutant_in sh p) (machined.moves) mc.start (machined.start)) in
           record { difference = rw same at ed; board = rw count at eb; sequence = rw same at es }

@@ -1,4 +1,6 @@
 -- The first wanted mutant, choice by choice in dictionary order.
+use Rattle.std.specs.Prelude.{Option as Maybe, Some, None, is_some, IsSome, Result as Answer, Ok, Err, IsOk, IsErr}
+use Rattle.std.specs.Bool.{then_some}
 use Rattle.std.specs.Prelude.{◌+◌, ◌<◌, ◌≤◌, ◌≡◌, ◌⊎◌, ◌∷◌}
 use Rattle.lists.specs.Proving.{arith, ℕ, zero, suc, refl, sym, ◌∙◌, subst, Bool, true, false, cond, inl, inr, by_cases, Option, some, none, List, [], length, get_or, set, take, length-set, length-replicate, get_or-replicate, List·getD-eq-default, get_or-set_same, get_or-set_other, ℕ_discrete, dec_lt, below_more, never}
 use Rattle.std.proofs.Common.{length-take-le, get_or-take, ext_get_or}
@@ -19,10 +21,8 @@ use Rattle.cubes.specs.Cube.{Sought, Meets as Asked, Extends, NoneIf}
 use Rattle.cubes.specs.declared.goal.Goal.{Goal}
 use Rattle.cubes.specs.declared.goal.Goal.TheVariants.{Any, Nonconforming}
 use Rattle.refutation.specs.Refuting.{Ready}
-use Rattle.refutation.specs.Lent.{StoreOk}
-use Rattle.search.specs.declared.settle.Found.{Found}
-use Rattle.search.specs.declared.settle.Found.TheVariants.{Nothing, First, GaveUp}
-use Rattle.search.specs.Search.{FactsOk, Meets, Wanted, Begins, Part, next, NoneOf, FirstOf, Tried, Prefix, mutant_in, FirstIn, Answers, found_if, Searching, Decides, unsettled, every, Given}
+use Rattle.refutation.specs.Lent.{StoreOk, Entry}
+use Rattle.search.specs.Search.{FactsOk, Meets, Wanted, Begins, Part, next, NoneOf, FirstOf, Tried, Prefix, mutant_in, FirstIn, Finds, Searching, Decides, unsettled, every, Given}
 use Rattle.search.specs.Shown.{Showing}
 
 -- one table of facts is lent if it is ready, else none
@@ -152,20 +152,15 @@ module _ {sh : Sheet} {p : List ℕ} where
 pub tried-none : {goal : Goal} {sh : Sheet} {l : List Observation} {p : List ℕ} {i from : ℕ} → Tried goal sh l p i from from
 tried-none = record { at = λ b is be g h. absurd (omega arith) }
 
--- an answer is not one that another arm has
-pub other : (r s : Found) {x y : Found} → (r ≡ x) ⊎ (r ≡ y) → (s ≡ x → ⊥) → (s ≡ y → ⊥) → r ≡ s → ⊥
-other r s (inl e) n m h = n (sym h ∙ e)
-other r s (inr e) n m h = m (sym h ∙ e)
+-- nothing was found
+pub none-found : {goal : Goal} {sh : Sheet} {l : List Observation} {part : Part} (r : Maybe (List ℕ)) → is_some r ≡ false → Finds goal sh l part r → NoneOf goal sh l part
+none-found None e f = f
+none-found (Some q) e f = never (cc)
 
-pub nothing : {goal : Goal} {sh : Sheet} {l : List Observation} {part : Part} (r : Found) (q : List ℕ) → (r ≡ First → ⊥) → (r ≡ GaveUp → ⊥) → Answers goal sh l part r q → NoneOf goal sh l part
-nothing Nothing q n m a = a
-nothing First q n m a = absurd (n refl)
-nothing GaveUp q n m a = absurd (m refl)
-
--- at the end nothing is given up
-pub ended : (r : Bool) {A : Type 0} → found_if r ≡ GaveUp → A
-ended true e = never (cc)
-ended false e = never (cc)
+-- what is not given up is found out
+pub found_out : {A E : Type 0} (r : Answer A E) → (IsErr r → ⊥) → IsOk r
+found_out (Ok a) h = refl
+found_out (Err e) h = absurd (h refl)
 
 -- ---- the whole search
 
@@ -231,10 +226,10 @@ module _ {sh : Sheet} {m p : List ℕ} {i : ℕ} (w : Searching sh m p i) where
       pub full : Searching sh m p (length (slots sh))
       full = subst (λ (k : ℕ). Searching sh m p k) (ei ∙ count) w
 
-      pub full-answer : {goal : Goal} {l : List Observation} (r : Bool) → Decides (Wanted goal sh l (mutant_in sh p)) r → (f : Found) (q : List ℕ) → f ≡ found_if r → q ≡ p → Answers goal sh l (next p i 0) f q
-      full-answer {goal} {l} r h f q ef eq = rw (ef, eq, ei ∙ count) (go r h)
+      pub full-answer : {goal : Goal} {l : List Observation} (r : Bool) → Decides (Wanted goal sh l (mutant_in sh p)) r → Finds goal sh l (next p i 0) (then_some r p)
+      full-answer {goal} {l} r h = rw (ei ∙ count) (go r h)
         where
-          go : (r : Bool) → Decides (Wanted goal sh l (mutant_in sh p)) r → Answers goal sh l (next p (length (slots sh)) 0) (found_if r) p
+          go : (r : Bool) → Decides (Wanted goal sh l (mutant_in sh p)) r → Finds goal sh l (next p (length (slots sh)) 0) (then_some r p)
           go true h = full-first full.prefix (h.yes refl)
           go false h = full-none full.prefix (h.no refl)
 
@@ -263,11 +258,10 @@ module _ {sh : Sheet} {m p : List ℕ} {i : ℕ} (w : Searching sh m p i) where
         pub one-tried : NoneOf goal sh l (next (set p i c) (i + 1) 0) → Tried goal sh l p i from (c + 1)
         one-tried nf = tried-more w.prefix next_low.1 c tr nf
 
-        -- what was found with the choice c, if it was not nothing, is the answer
-        pub one_found : from ≤ c → (r : Found) (q : List ℕ) → (r ≡ Nothing → ⊥) → Answers goal sh l (next (set p i c) (i + 1) 0) r q → Answers goal sh l (next p i from) r q
-        one_found lf Nothing q n a = absurd (n refl)
-        one_found lf First q n a = record { long = a.long; first = found w.prefix next_low.1 c tr _ lf a.first }
-        one_found lf GaveUp q n a = tt
+        -- what was found with the choice c is the answer
+        pub one_found : from ≤ c → (r : Maybe (List ℕ)) → IsSome r → Finds goal sh l (next (set p i c) (i + 1) 0) r → Finds goal sh l (next p i from) r
+        one_found lf None n a = never (cc)
+        one_found lf (Some q) n a = record { long = a.long; first = found w.prefix next_low.1 c tr _ lf a.first }
 
 -- ---- whether some mutant gives a log
 
@@ -281,8 +275,12 @@ given-none n =
       no = λ e h. n.at h.mutant h.is (record { at = λ j k. absurd (omega arith) }, omega arith) (record { gives = h.gives; meets = tt });
     }
 
+pub given-by : {sh : Sheet} {l : List Observation} (r : Maybe (List ℕ)) {b : Bool} → b ≡ is_some r → Finds Any sh l every r → Decides (Given sh l) b
+given-by None e f = rw e (given-none f)
+given-by (Some q) e f = rw e (given-some f)
+
 -- ---- what `search_from` has before each choice c: those from `from` on and below c lead to no wanted mutant
-pub record Trying (goal : Goal) (block log p : List ℕ) (i from k : ℕ) (store₀ store notes₀ notes : List ℕ) (c : ℕ) : Type 0 where
+pub record Trying (goal : Goal) (block log p : List ℕ) (i from k : ℕ) (store₀ store : List Entry) (notes₀ notes : List ℕ) (c : ℕ) : Type 0 where
   pub tried : (sh : Sheet) → Searching sh block p i → Tried goal sh (observations log) p i from c
   pub low : from ≤ c
   pub ok : StoreOk goal block log store

@@ -1,3 +1,4 @@
 pub mod Search
 pub mod Shown
+pub mod Rooms
 pub mod laws

@@ -1,4 +1,5 @@
 -- The search for the first mutant that gives a log and meets a goal, choice by choice in dictionary order.
+use Rattle.std.specs.Prelude.{Option as Maybe, Some, None, Result as Answer, Ok, Err}
 use Rattle.std.specs.Prelude.{◌≡◌, ℕ, ◌<◌, ◌≤◌, Bool, true, false, List, [], length, take, replicate, slice_index, slice_index_or}
 use Rattle.std.proofs.Math.Option.{Option, none}
 use Rattle.lists.specs.Lists.{Before}
@@ -11,8 +12,7 @@ use Rattle.block.specs.Tabled.{Tabled}
 use Rattle.cubes.specs.declared.goal.Goal.{Goal}
 use Rattle.cubes.specs.declared.goal.Goal.TheVariants.{Any, Nonconforming}
 use Rattle.refutation.specs.Refuting.{Ready}
-use Rattle.search.specs.declared.settle.Found.{Found}
-use Rattle.search.specs.declared.settle.Found.TheVariants.{Nothing, First, GaveUp}
+use Rattle.search.specs.declared.settle.GaveUp.{GaveUp}
 use Rattle.search.specs.declared.settle.Beginning.{Beginning}
 use Rattle.search.specs.declared.settle.Beginning.TheVariants.{Front, After}
 
@@ -72,15 +72,15 @@ pub record FirstIn (goal : Goal) (sh : Sheet) (l : List Observation) (part : Par
   pub long : length q ≡ 32
   pub first : FirstOf goal sh l part (mutant_in sh q)
 
-abbrev pub found_if : Bool → Found
-found_if true = First
-found_if false = Nothing
+-- what the search of a part finds
+abbrev pub Finds : Goal → Sheet → List Observation → Part → Maybe (List ℕ) → Type 0
+Finds goal sh l part None = NoneOf goal sh l part
+Finds goal sh l part (Some q) = FirstIn goal sh l part q
 
--- what the search of a part answers
-abbrev pub Answers : Goal → Sheet → List Observation → Part → Found → List ℕ → Type 0
-Answers goal sh l part Nothing q = NoneOf goal sh l part
-Answers goal sh l part First q = FirstIn goal sh l part q
-Answers goal sh l part GaveUp q = Unit {0}
+-- what it answers: this, or, where it gave up, nothing
+abbrev pub Answers : Goal → Sheet → List Observation → Part → Answer (Maybe (List ℕ)) GaveUp → Type 0
+Answers goal sh l part (Ok found) = Finds goal sh l part found
+Answers goal sh l part (Err e) = Unit {0}
 
 -- the block holds the sheet's tables, and the log is its suite's
 pub record ForSheet (sh : Sheet) (m log : List ℕ) : Type 0 where
@@ -117,18 +117,23 @@ abbrev pub every : Part
 every = next unsettled 0 0
 
 -- which mutants are meant where a search begins: every one, or those after the one given
-abbrev pub part_from : Beginning → List ℕ → Part
-part_from Front last = every
-part_from After last = after last 0
+abbrev pub part_from : Beginning → Part
+part_from Front = every
+part_from (After last) = after last.now 0
 
-abbrev pub LastOk : Beginning → Sheet → List ℕ → Type 0
-LastOk Front sh last = Unit {0}
-LastOk After sh last = IsMutant sh last
+abbrev pub LastOk : Beginning → Sheet → Type 0
+LastOk Front sh = Unit {0}
+LastOk (After last) sh = IsMutant sh last.now
 
 -- what a search begins with: the sheet's tables, and a mutant, if it begins after one
-pub record Leaving (sh : Sheet) (m : List ℕ) (from : Beginning) (last : List ℕ) : Type 0 where
+pub record Leaving (sh : Sheet) (m : List ℕ) (from : Beginning) : Type 0 where
   pub tabled : Tabled sh m
-  pub is : LastOk from sh last
+  pub is : LastOk from sh
+
+-- the same, of a search after the mutant given
+pub record LeavingAfter (sh : Sheet) (m last : List ℕ) : Type 0 where
+  pub tabled : Tabled sh m
+  pub is : IsMutant sh last
 
 -- each table of facts that a search is lent is the block's; a quick search is lent none
 pub record FactsOk (m : List ℕ) (facts : List (List ℕ)) : Type 0 where

@@ -1,4 +1,5 @@
 -- What the search answers, and what it leaves in both buffers.
+use Rattle.std.specs.Prelude.{Option as Maybe, Some, None}
 use Rattle.std.specs.Prelude.{◌≡◌, ℕ, ◌*◌, ◌≤◌, List, length}
 use Rattle.lists.specs.Lists.{overlay}
 use Rattle.sheet.specs.Sheet.{Sheet}
@@ -8,11 +9,8 @@ use Rattle.model.specs.Log.{Observation}
 use Rattle.block.specs.Layout.{states_of, slots_of}
 use Rattle.block.specs.Tabled.{Tabled}
 use Rattle.cubes.specs.declared.goal.Goal.{Goal}
-use Rattle.machine.specs.declared.product.Difference.{Difference}
 use Rattle.model.specs.Compare.{found}
-use Rattle.machine.specs.Differences.{difference_of}
-use Rattle.search.specs.declared.attempts.Searched.{Searched}
-use Rattle.search.specs.declared.attempts.Searched.TheVariants.{Nothing, First}
+use Rattle.machine.specs.Differences.{Difference, difference_of}
 use Rattle.search.specs.Search.{Part, NoneOf, FirstOf, mutant_in}
 
 -- there is room for the choices, and for any shortest distinguishing sequence
@@ -43,6 +41,6 @@ pub record Shown (goal : Goal) (sh : Sheet) (l : List Observation) (part : Part)
   pub first : FirstOf goal sh l part mutant
   pub written : Written sh mutant d old_board new_board old_sequence new_sequence
 
-abbrev pub Leaves : Goal → Sheet → List Observation → Part → Searched → List ℕ → List ℕ → List ℕ → List ℕ → Type 0
-Leaves goal sh l part Nothing old_board new_board old_sequence new_sequence = NoneOf goal sh l part × Untouched old_board new_board old_sequence new_sequence
-Leaves goal sh l part (First d) old_board new_board old_sequence new_sequence = Shown goal sh l part d old_board new_board old_sequence new_sequence
+abbrev pub Leaves : Goal → Sheet → List Observation → Part → Maybe Difference → List ℕ → List ℕ → List ℕ → List ℕ → Type 0
+Leaves goal sh l part None old_board new_board old_sequence new_sequence = NoneOf goal sh l part × Untouched old_board new_board old_sequence new_sequence
+Leaves goal sh l part (Some d) old_board new_board old_sequence new_sequence = Shown goal sh l part d old_board new_board old_sequence new_sequence

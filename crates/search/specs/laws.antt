@@ -1,2 +1,3 @@
+pub mod RoomLaw
 pub mod JudgementLaw
 pub mod TabulatesLaw

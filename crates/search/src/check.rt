@@ -12,17 +12,10 @@ ghost use Rattle.search.specs.Shown.{Room, Showing, Written};
 
 use block::*;
 use cubes::goal::Goal;
-use logs::Wrong;
 use machine::{Difference, blank, distinguish};
 
 // Whether the machine in the tables meets the goal.
-fn meets<'a>(
-    block: &Block,
-    goal: Goal,
-    outputs: &'a [u8; 256],
-    targets: &'a [u8; 256],
-    start: u8,
-) -> bool
+fn meets(block: &Block, goal: Goal, outputs: &[u8; 256], targets: &[u8; 256], start: u8) -> bool
     requires { Valid block.now targets.now × (start < states_of block.now) }
     ensures { Decides (Meets goal (compare_pair (tables block.now start outputs.now targets.now))) result }
 {
@@ -30,10 +23,7 @@ fn meets<'a>(
         Goal::Any => true,
         Goal::Nonconforming => {
             let mut sequence = blank();
-            match distinguish(block, outputs, targets, start, &mut sequence) {
-                Difference::Nothing => false,
-                Difference::Shown(_) => true,
-            }
+            distinguish(block, outputs, targets, start, &mut sequence).is_some()
         }
     }
 }
@@ -48,8 +38,8 @@ pub(crate) fn wanted(block: &Block, log: &[u8], goal: Goal, p: &[u16; 32]) -> bo
     machine::lay(block, p, &mut outputs, &mut targets);
     let start = initial(block, p);
     match logs::first_wrong(log, &outputs, &targets, start) {
-        Wrong::Nothing => meets(block, goal, &outputs, &targets, start),
-        Wrong::At(_, _) => false,
+        None => meets(block, goal, &outputs, &targets, start),
+        Some(_) => false,
     }
 }
 
@@ -58,10 +48,8 @@ fn write_choices(p: &[u16; 32], n: usize, board: &mut [u8])
     requires { (n ≤ 32) × (length p.now ≡ 32) × (n ≤ length board.old) × ((j : ℕ) → j < n → slice_index p.now j < 256) }
     ensures { board.new ≡ overlay (take n p.now) board.old }
 {
-    let mut j: usize = 0;
-    while j < n {
-        board[j] = p[j] as u8;
-        j += 1;
+    for (j, choice) in p[..n].iter().enumerate() {
+        board[j] = *choice as u8;
     }
 }
 
@@ -75,9 +63,9 @@ pub(crate) fn show(
     requires { ((sh : Sheet) × Showing sh block.now p.now) × Room block.now board.old sequence.old }
     ensures { (sh : Sheet) → Showing sh block.now p.now → Written sh (mutant_in sh p.now) result board.old board.new sequence.old sequence.new }
 {
-    let n = wide(slots(block));
+    let n = usize::from(slots(block));
     write_choices(p, n, board);
-    let machine = machine::machine_of(block, &board[..n]);
+    let machine = machine::machine_of(block, &board[..n]).unwrap();
     let start = machine.start;
     distinguish(block, &machine.output, &machine.target, start, sequence)
 }

@@ -6,7 +6,9 @@
 
 mod attempts;
 mod check;
+mod rooms;
 mod settle;
 
-pub use attempts::{Searched, exists, first};
-pub use settle::Beginning;
+pub use attempts::{exists, first};
+pub use rooms::room;
+pub use settle::{Beginning, GaveUp};

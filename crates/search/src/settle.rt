@@ -1,41 +1,32 @@
 // The first wanted mutant in dictionary order: the slots are settled one after another.
-ghost use Rattle.std.specs.Prelude.{◌≡◌, ◌<◌, ◌≤◌, length};
+ghost use Rattle.std.specs.Prelude.{◌≡◌, ◌<◌, ◌≤◌, length, IsErr};
 ghost use Rattle.sheet.specs.Sheet.{Sheet};
 ghost use Rattle.refutation.specs.Lent.{StoreOk};
 ghost use Rattle.cubes.specs.Cube.{NoneIf};
 ghost use Rattle.block.specs.Tabulated.{Wf};
 ghost use Rattle.block.specs.Logged.{observations};
-ghost use Rattle.search.specs.declared.settle.Found.TheVariants.{GaveUp};
 ghost use Rattle.block.specs.Layout.{slots_of};
-ghost use Rattle.search.specs.declared.settle.Beginning.TheVariants.{After};
-ghost use Rattle.search.specs.Search.{FactsOk, next, after, Searching, Settled, Leaving, part_from, Answers, found_if, unsettled as nothing_settled};
+ghost use Rattle.search.specs.Search.{FactsOk, next, after, Searching, Settled, Leaving, LeavingAfter, part_from, Answers};
 
 use crate::check::wanted;
 use block::*;
 use cubes::goal::Goal;
 use cubes::tables::Facts;
+use refutation::{Entry, Question, none_from};
 
 // Where a search begins: at the first mutant, or after one that is given.
 #[derive(Clone, Copy)]
-pub enum Beginning {
+pub enum Beginning<'a> {
     Front,
-    After,
+    After(&'a [u8]),
 }
 
-// What a search finds: no wanted mutant; the first one; or neither, where a quick search gave up.
-#[derive(Clone, Copy)]
-pub(crate) enum Found {
-    Nothing,
-    First,
-    GaveUp,
-}
+// A quick search gave up: it is not known whether there is a wanted mutant.
+#[derive(Clone, Copy, Debug)]
+pub struct GaveUp;
 
-// What was found, and the choices of the first mutant, where there is one.
-#[derive(Clone, Copy)]
-pub(crate) struct Attempt {
-    pub found: Found,
-    pub choices: [u16; 32],
-}
+// The choices of the first wanted mutant, if there is one.
+type Attempt = Result<Option<[u16; 32]>, GaveUp>;
 
 // Whether the prefix is refuted: without a store by walks along the log, with one by the facts, where there are any.
 fn refuted(
@@ -43,7 +34,7 @@ fn refuted(
     facts: &[Facts],
     log: &[u8],
     goal: Goal,
-    store: &mut [u32],
+    store: &mut [Entry],
     notes: &mut [u16],
     p: &[u16; 32],
 ) -> bool
@@ -56,23 +47,13 @@ fn refuted(
     if facts.len() == 0 {
         return false;
     }
-    refutation::none_from(block, &facts[0], log, goal, store, notes, p)
-}
-
-// What is found where every slot is settled.
-fn settled(wanted: bool, p: [u16; 32]) -> Attempt
-    ensures { (result.found ≡ found_if wanted) × (result.choices ≡ p) }
-{
-    if wanted {
-        return Attempt {
-            found: Found::First,
-            choices: p,
-        };
-    }
-    Attempt {
-        found: Found::Nothing,
-        choices: p,
-    }
+    let question = Question {
+        block,
+        facts: &facts[0],
+        log,
+        goal,
+    };
+    none_from(&question, store, notes, p)
 }
 
 // The first wanted mutant of those that begin as p's first i choices. Without a store it gives up where its notes are spent.
@@ -82,31 +63,25 @@ pub(crate) fn search(
     facts: &[Facts],
     log: &[u8],
     goal: Goal,
-    store: &mut [u32],
+    store: &mut [Entry],
     notes: &mut [u16],
     p: [u16; 32],
     i: usize,
 ) -> Attempt
     requires searching { (sh : Sheet) × Searching sh block.now p i }
     requires facts_ok { FactsOk block.now facts.now × StoreOk goal block.now log.now store.old }
-    ensures answers { (sh : Sheet) → Searching sh block.now p i → Answers goal sh (observations log.now) (next p i 0) result.found result.choices }
+    ensures answers { (sh : Sheet) → Searching sh block.now p i → Answers goal sh (observations log.now) (next p i 0) result }
     ensures store_ok { StoreOk goal block.now log.now store.new }
-    ensures store_len { result.found ≡ GaveUp → length store.old ≡ 0 }
+    ensures store_len { IsErr result → length store.old ≡ 0 }
 {
     if refuted(block, facts, log, goal, store, notes, &p) {
-        return Attempt {
-            found: Found::Nothing,
-            choices: p,
-        };
+        return Ok(None);
     }
-    if i == wide(slots(block)) {
-        return settled(wanted(block, log, goal, &p), p);
+    if i == usize::from(slots(block)) {
+        return Ok(wanted(block, log, goal, &p).then_some(p));
     }
     if store.len() == 0 && walks::spent(notes) {
-        return Attempt {
-            found: Found::GaveUp,
-            choices: p,
-        };
+        return Err(GaveUp);
     }
     search_from(block, facts, log, goal, store, notes, p, i, 0)
 }
@@ -118,7 +93,7 @@ fn search_from(
     facts: &[Facts],
     log: &[u8],
     goal: Goal,
-    store: &mut [u32],
+    store: &mut [Entry],
     notes: &mut [u16],
     p: [u16; 32],
     i: usize,
@@ -126,32 +101,19 @@ fn search_from(
 ) -> Attempt
     requires i_bound { ((sh : Sheet) × Searching sh block.now p i) × (i < slots_of block.now) }
     requires facts_ok { FactsOk block.now facts.now × StoreOk goal block.now log.now store.old }
-    ensures answers { (sh : Sheet) → Searching sh block.now p i → Answers goal sh (observations log.now) (next p i from) result.found result.choices }
+    ensures answers { (sh : Sheet) → Searching sh block.now p i → Answers goal sh (observations log.now) (next p i from) result }
     ensures store_ok { StoreOk goal block.now log.now store.new }
-    ensures store_len { result.found ≡ GaveUp → length store.old ≡ 0 }
+    ensures store_len { IsErr result → length store.old ≡ 0 }
 {
-    let k = choices(block, i as u8);
-    let mut c = from;
-    while c < k {
+    for c in from..choices(block, i as u8) {
         let mut q = p;
         q[i] = c;
-        let tried = search(block, facts, log, goal, store, notes, q, i + 1);
-        let found = tried.found;
-        let Found::Nothing = found else {
-            return tried;
-        };
-        c += 1;
+        let tried = search(block, facts, log, goal, store, notes, q, i + 1)?;
+        if tried.is_some() {
+            return Ok(tried);
+        }
     }
-    Attempt {
-        found: Found::Nothing,
-        choices: p,
-    }
-}
-
-fn unsettled() -> [u16; 32]
-    ensures { result ≡ nothing_settled }
-{
-    [256u16; 32]
+    Ok(None)
 }
 
 // The choices of a mutant, settled.
@@ -159,10 +121,9 @@ fn settled_as(last: &[u8]) -> [u16; 32]
     requires { length last.now ≤ 32 }
     ensures { Settled last.now result }
 {
-    let mut p = unsettled();
-    let end = last.len();
-    for j in 0..end {
-        p[j] = last[j] as u16;
+    let mut p = [256u16; 32];
+    for (j, choice) in last.iter().enumerate() {
+        p[j] = u16::from(*choice);
     }
     p
 }
@@ -173,32 +134,26 @@ fn search_after(
     facts: &[Facts],
     log: &[u8],
     goal: Goal,
-    store: &mut [u32],
+    store: &mut [Entry],
     notes: &mut [u16],
     last: &[u8],
 ) -> Attempt
-    requires leaving { (sh : Sheet) × Leaving sh block.now After last.now }
+    requires leaving { (sh : Sheet) × LeavingAfter sh block.now last.now }
     requires facts_ok { FactsOk block.now facts.now × StoreOk goal block.now log.now store.old }
-    ensures answers { (sh : Sheet) → Leaving sh block.now After last.now → Answers goal sh (observations log.now) (after last.now 0) result.found result.choices }
+    ensures answers { (sh : Sheet) → LeavingAfter sh block.now last.now → Answers goal sh (observations log.now) (after last.now 0) result }
     ensures store_ok { StoreOk goal block.now log.now store.new }
-    ensures store_len { result.found ≡ GaveUp → length store.old ≡ 0 }
+    ensures store_len { IsErr result → length store.old ≡ 0 }
 {
     let mut p = settled_as(last);
-    let mut i = last.len();
-    while i > 0 {
-        i -= 1;
+    for i in (0..last.len()).rev() {
         let c = p[i];
         p[i] = 256;
-        let tried = search_from(block, facts, log, goal, store, notes, p, i, c + 1);
-        let found = tried.found;
-        let Found::Nothing = found else {
-            return tried;
-        };
+        let tried = search_from(block, facts, log, goal, store, notes, p, i, c + 1)?;
+        if tried.is_some() {
+            return Ok(tried);
+        }
     }
-    Attempt {
-        found: Found::Nothing,
-        choices: p,
-    }
+    Ok(None)
 }
 
 // The first wanted mutant from a beginning on.
@@ -207,18 +162,17 @@ pub(crate) fn begin(
     facts: &[Facts],
     log: &[u8],
     goal: Goal,
-    store: &mut [u32],
+    store: &mut [Entry],
     notes: &mut [u16],
     from: Beginning,
-    last: &[u8],
 ) -> Attempt
-    requires leaving { (sh : Sheet) × Leaving sh block.now from last.now }
+    requires leaving { (sh : Sheet) × Leaving sh block.now from }
     requires facts_ok { FactsOk block.now facts.now × StoreOk goal block.now log.now store.old }
-    ensures answers { (sh : Sheet) → Leaving sh block.now from last.now → Answers goal sh (observations log.now) (part_from from last.now) result.found result.choices }
-    ensures store_len { result.found ≡ GaveUp → length store.old ≡ 0 }
+    ensures answers { (sh : Sheet) → Leaving sh block.now from.entry → Answers goal sh (observations log.now) (part_from from.entry) result }
+    ensures store_len { IsErr result → length store.old ≡ 0 }
 {
     match from {
-        Beginning::Front => search(block, facts, log, goal, store, notes, unsettled(), 0),
-        Beginning::After => search_after(block, facts, log, goal, store, notes, last),
+        Beginning::Front => search(block, facts, log, goal, store, notes, [256; 32], 0),
+        Beginning::After(last) => search_after(block, facts, log, goal, store, notes, last),
     }
 }

@@ -1,30 +1,30 @@
 -- What the code answers: 01's numbers and values for each case, and the tables of a sheet.
-use Rattle.std.specs.Prelude.{ℕ, suc, ◌/◌, ◌%◌, Bool, false, cond, List, [], ◌∷◌, map, ltb, length, get_or, replicate}
+use Rattle.std.specs.Prelude.{ℕ, suc, ◌/◌, ◌%◌, Bool, false, cond, List, [], ◌∷◌, map, ltb, length, get_or, replicate, Ok, Err}
+use Rattle.std.specs.Prelude.{Result as Answer}
 use Rattle.sheet.specs.declared.Row.{Row}
-use Rattle.sheet.specs.declared.Reading.{Reading as ReadAnswer}
-use Rattle.sheet.specs.declared.Reading.TheVariants as read
 use Rattle.sheet.specs.declared.Refusal.{Refusal}
-use Rattle.sheet.specs.declared.Parting.{Parting as PartAnswer}
-use Rattle.sheet.specs.declared.Parting.TheVariants as part
+use Rattle.sheet.specs.declared.Summary.{Summary}
 use Rattle.sheet.specs.declared.Span.{Span}
-use Rattle.sheet.specs.declared.Loaded.{Loaded}
+pub use Rattle.sheet.specs.declared.Tables.{Tables}
 use Rattle.lists.specs.Lists.{maybe, is_none, first, up_to}
 use Rattle.sheet.specs.Sheet.{Sheet, is_at, rows_at, rule_at, choices_at, wakings, waking_choices}
 use Rattle.sheet.specs.Reading.{Result, accepted, refused, Reading, summary_of}
 use Rattle.sheet.specs.Part.{span_of}
 
-abbrev pub read_answer : Reading → ReadAnswer
-read_answer (accepted sh) = read.Accepted (summary_of sh)
-read_answer (refused number place) = read.Refused number place
+-- a refusal with its number and place
+abbrev pub refusal_of : ℕ → ℕ → Refusal
+refusal_of number place = record { number = number; place = place }
 
--- the number and place of a refusal; noughts where there is none
-abbrev pub refusal_of : ReadAnswer → Refusal
-refusal_of (read.Accepted summary) = record { number = 0; place = 0 }
-refusal_of (read.Refused number place) = record { number = number; place = place }
+-- what an operation answers: a value, or why it refuses
+abbrev pub answer_by : {A B : Type 0} → (A → B) → Result A → Answer B Refusal
+answer_by f (accepted a) = Ok (f a)
+answer_by f (refused number place) = Err (refusal_of number place)
 
-abbrev pub part_answer : Result Span → PartAnswer
-part_answer (accepted span) = part.At span
-part_answer (refused number place) = part.Refused number place
+abbrev pub read_answer : Reading → Answer Summary Refusal
+read_answer r = answer_by summary_of r
+
+abbrev pub part_answer : Result Span → Answer Span Refusal
+part_answer r = answer_by (λ span. span) r
 
 -- f 0, f 1, .., f 255
 abbrev pub table : (ℕ → ℕ) → List ℕ
@@ -45,20 +45,6 @@ first_fault faults s x = cond (is_none (first (rows_at faults s x))) 0 (first_at
 
 abbrev pub no_row : Row
 no_row = record { source = 0; input = 0; output = 0; target = 0 }
-
--- what the layer above gets of a sheet
-pub record Tables : Type 0 where
-  pub output : List ℕ
-  pub target : List ℕ
-  pub choices : List ℕ
-  pub first : List ℕ
-  pub mutated : List ℕ
-  pub diverted : List ℕ
-  pub wakings : List ℕ
-  pub waking : ℕ
-  pub quiet : Bool
-  pub starts : List ℕ
-  pub lengths : List ℕ
 
 -- by pair for every state and input below 16, also beyond the sheet's own; by fault, by choice of a waking state and by test, with 0
 -- past the last; how many waking states there are, and whether the sheet is quiet
@@ -98,20 +84,3 @@ blank_tables =
 abbrev pub loaded_of : Reading → Tables
 loaded_of (accepted sh) = tables_of sh
 loaded_of (refused number place) = blank_tables
-
--- the tables that were lent, and what is handed over beside them
-abbrev pub tables_in : Loaded → List ℕ → List ℕ → List ℕ → List ℕ → List ℕ → List ℕ → List ℕ → List ℕ → Tables
-tables_in l output target choices first mutated diverted starts lengths =
-    record {
-      output = output;
-      target = target;
-      choices = choices;
-      first = first;
-      mutated = mutated;
-      diverted = diverted;
-      wakings = l.wakings;
-      waking = l.waking;
-      quiet = l.quiet;
-      starts = starts;
-      lengths = lengths;
-    }

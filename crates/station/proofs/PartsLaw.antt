@@ -1,18 +1,19 @@
 -- The bytes of SIZE, QUIET and the RULEs, and of the first tests, in an accepted sheet.
-use Prim.Native.Nat.{ℕ, suc, ◌+◌, ◌-◌, ◌*◌, ◌<◌, ◌≤◌}
+use Prim.Native.Nat.{ℕ, min, suc, ◌+◌, ◌-◌, ◌*◌, ◌<◌, ◌≤◌}
 use native.Mathlib.Omega.{arith}
 use mathlib.Core.Path.{◌≡◌, refl, sym, ◌∙◌, ap, ap₂}
-use mathlib.Core.Bool.{Bool, true, false, cond}
+use mathlib.Core.Bool.{Bool, true, false, cond, ◌&&◌}
 use mathlib.Core.List.{List, [], ◌∷◌, ◌++◌, append_assoc}
 use borrow.Author.Tests.{lt-leb, ltb-true, ltb-false}
-use lib.Dec.{ltb}
+use lib.Dec.{eqb, ltb}
 use lib.ListN.{length, get_or, take, drop, length-append, take-append-drop}
 use lib.Seq.{take_at, drop_at, take_all, take-suc, ext_get_or}
 use Rattle.lists.specs.laws.TestLaw.{not-true-false}
 use Rattle.sheet.specs.declared.Row.{Row}
 use Rattle.sheet.specs.declared.Span.{Span}
-use Rattle.sheet.specs.declared.Parting.{Parting as PartAnswer}
-use Rattle.sheet.specs.declared.Parting.TheVariants as part
+use Rattle.sheet.specs.declared.Refusal.{Refusal}
+use Rattle.std.specs.Prelude.{Result as Answer}
+use Rattle.std.specs.Prelude.{Ok}
 use Rattle.sheet.specs.Sheet.{Sheet}
 use Rattle.sheet.specs.Reading.{accepted, refused, reading}
 use Rattle.sheet.specs.Encode.{size_bytes, quiet_bytes, row_bytes, start_bytes, press_bytes, test_bytes, machine_bytes, body, encode}
@@ -24,18 +25,22 @@ use Rattle.sheet.specs.laws.InjectiveLaw.{tests_on, starts_on, faults_on, rules_
 use Rattle.sheet.specs.laws.PartLaw.{presses-length}
 use Rattle.station.specs.Station.{same, head_bytes, agrees, agrees_with}
 use Rattle.station.proofs.laws.AgreeLaw.{same_true, same_self}
-use Rattle.station.specs.words.Parts.{least_of, RulesOf, TestsOf, HeadIn, TestsIn}
+use Rattle.reading.specs.declared.layout.Layout.{Layout}
+use Rattle.reading.specs.Layout.{layout_of}
+use Rattle.std.specs.Cmp.Lexicographic.{pointwise}
+use Rattle.lists.specs.Proving.{by_cases, dec_lt}
+use Rattle.station.specs.words.Parts.{TestsOf, HeadIn, TestsIn}
 
--- ---- equal bytes
-module _ (a b : List ℕ) where
-  pub same-long : (length a ≡ length b → ⊥) → false ≡ same a b
-  same-long h = sym (not-true-false (same a b) (λ e. h (ap length (same_true a b e))))
+-- ---- equal bytes, by the library's test
+same_is : (a b : List ℕ) → pointwise eqb a b ≡ same a b
+unfolding same
+same_is [] [] = refl
+same_is [] (y ∷ b) = refl
+same_is (x ∷ a) [] = refl
+same_is (x ∷ a) (y ∷ b) = ap (λ (rest : Bool). eqb x y && rest) (same_is a b)
 
-  pub same_not : (i : ℕ) → (get_or a i 0 ≡ get_or b i 0 → ⊥) → false ≡ same a b
-  same_not i h = sym (not-true-false (same a b) (λ e. h (ap (λ (l : List ℕ). get_or l i 0) (same_true a b e))))
-
-  pub same-all : length a ≡ length b → ((i : ℕ) → i < length a → get_or a i 0 ≡ get_or b i 0) → true ≡ same a b
-  same-all e h = let z = ext_get_or 0 a b e h in rw z (sym (same_self b))
+pub same-by : {a b c d : List ℕ} {r : Bool} → r ≡ pointwise eqb a b → a ≡ c → b ≡ d → r ≡ same c d
+same-by {a} {b} e f g = e ∙ same_is a b ∙ ap₂ same f g
 
 -- ---- the head
 rows-length : (b : ℕ) (l : List Row) → length (row_bytes b l) ≡ 5 * length l
@@ -57,46 +62,14 @@ module _ {sh : Sheet} (s : List ℕ) (read : reading s ≡ accepted sh) where
   head-length =
       omega (arith, length-append (size_bytes sh.size) (quiet_bytes sh.quiet ++ row_bytes 2 sh.rules), length-append (quiet_bytes sh.quiet) (row_bytes 2 sh.rules), rows-length 2 sh.rules)
 
-  head_in : (n : ℕ) → n ≡ length (head_bytes sh) → HeadIn sh s n
-  head_in n e =
+  -- and ends where the FAULTs begin
+  pub head_in : {layout : Layout} → layout ≡ layout_of sh → HeadIn sh s layout.faults
+  head_in {layout} e =
+      let n : layout.faults ≡ length (head_bytes sh) = omega (arith, ap (λ (z : Layout). z.faults) e, head-length) in
       record {
-        inside = omega (arith, ap length head-front, length-append (head_bytes sh) (faults_on sh));
-        bytes = ap (take n) head-front ∙ take_at (head_bytes sh) (faults_on sh) n (sym e);
+        inside = omega (arith, ap length head-front, length-append (head_bytes sh) (faults_on sh), n);
+        bytes = ap (take layout.faults) head-front ∙ take_at (head_bytes sh) (faults_on sh) layout.faults (sym n);
       }
-
-  -- the byte after SIZE
-  fifth : get_or s 4 0 ≡ get_or (quiet_bytes sh.quiet ++ rules_on sh) 0 0
-  unfolding size_bytes
-  fifth = ap (λ (l : List ℕ). get_or l 4 0) (sym (encoded s sh read) ∙ encode-parts sh)
-
-  quiet-length : (q : Bool) → sh.quiet ≡ q → get_or s 4 0 ≡ 8 → length (quiet_bytes sh.quiet) ≡ 1
-  unfolding quiet_bytes
-  quiet-length true e h = rw e refl
-  quiet-length false e h = absurd (rules-else sh (sym (rw e at fifth) ∙ h))
-
-  loud-length : (q : Bool) → sh.quiet ≡ q → (get_or s 4 0 ≡ 8 → ⊥) → length (quiet_bytes sh.quiet) ≡ 0
-  unfolding quiet_bytes
-  loud-length true e h = absurd (h (rw e at fifth))
-  loud-length false e h = rw e refl
-
-  pub five : 5 ≤ length s
-  unfolding encode body
-  five =
-      let e = ap length (encoded s sh read) in
-      let whole = ap length (encoded s sh read ∙ head-front) in
-      omega (arith, length-append (head_bytes sh) (faults_on sh), head-length, length-append (row_bytes 3 sh.faults) (starts_on sh), length-append (start_bytes sh.starts) (tests_on sh), length-append (test_bytes sh.tests) (6 ∷ []))
-
-module _ {sh : Sheet} {s : List ℕ} {rules : ℕ} (h : RulesOf sh s rules) where
-  pub rules-fit : 5 * rules ≤ 16384
-  rules-fit =
-      let e = ap length (head-front s h.read) in
-      omega (arith, length-append (head_bytes sh) (faults_on sh), head-length s h.read, h.many, short-enough s sh h.read)
-
-  pub head-quiet : get_or s 4 0 ≡ 8 → HeadIn sh s (5 + 5 * rules)
-  head-quiet e = head_in s h.read (5 + 5 * rules) (omega (arith, head-length s h.read, quiet-length s h.read sh.quiet refl e, h.many))
-
-  pub head-loud : (get_or s 4 0 ≡ 8 → ⊥) → HeadIn sh s (4 + 5 * rules)
-  head-loud e = head_in s h.read (4 + 5 * rules) (omega (arith, head-length s h.read, loud-length s h.read sh.quiet refl e, h.many))
 
 -- ---- the first tests
 tests-append : (l m : List (List ℕ)) → test_bytes (l ++ m) ≡ test_bytes l ++ test_bytes m
@@ -108,7 +81,7 @@ one-test : (t : List ℕ) → length (test_bytes (t ∷ [])) ≡ 1 + 2 * length 
 unfolding test_bytes
 one-test t = omega (arith, length-append (press_bytes t) [], presses-length t)
 
-pub span-at : {sh : Sheet} {s : List ℕ} (i : ℕ) {r : PartAnswer} → TestsOf sh s (i + 1) → r ≡ part_answer (parting s i) → r ≡ part.At (span_of sh i)
+pub span-at : {sh : Sheet} {s : List ℕ} (i : ℕ) {r : Answer Span Refusal} → TestsOf sh s (i + 1) → r ≡ part_answer (parting s i) → r ≡ Ok (span_of sh i)
 unfolding parting
 span-at {sh} {s} i h e = e ∙ rw (h.read, lt-leb (length sh.tests) i (omega (arith, h.few))) refl
 
@@ -171,29 +144,20 @@ pub part-long : (s : List ℕ) (a n : ℕ) → take (a + n - a) (drop a s) ≡ t
 part-long s a n = let e : a + n - a ≡ n = omega arith in rw e refl
 
 -- ---- both
-least-take : (ts : List (List ℕ)) (n : ℕ) → take (least_of n (length ts)) ts ≡ take n ts
-least-take ts n = go (ltb n (length ts)) refl
-  where
-    go : (b : Bool) → ltb n (length ts) ≡ b → take (cond b n (length ts)) ts ≡ take n ts
-    go true e = refl
-    go false e = take_all (length ts) ts (omega arith) ∙ sym (take_all n ts (ltb-false n (length ts) e))
+least-take : (ts : List (List ℕ)) (n : ℕ) → take (min n (length ts)) ts ≡ take n ts
+least-take ts n = by_cases (dec_lt (length ts) n)
+    (λ l. let e : min n (length ts) ≡ length ts = omega arith in ap (λ (k : ℕ). take k ts) e ∙ take_all (length ts) ts (omega arith) ∙ sym (take_all n ts (omega arith)))
+    (λ g. let e : min n (length ts) ≡ n = omega arith in ap (λ (k : ℕ). take k ts) e)
 
-pub least-few : (n m : ℕ) → least_of n m ≤ m
-least-few n m = go (ltb n m) refl
-  where
-    go : (b : Bool) → ltb n m ≡ b → cond b n m ≤ m
-    go true e = omega (arith, ltb-true n m e)
-    go false e = omega arith
-
-pub least-in : (n m : ℕ) {l k : ℕ} → l ≡ least_of n m → m ≡ k → l ≤ k
-least-in n m e f = omega (arith, least-few n m, e)
+pub least-in : (n m : ℕ) {l k : ℕ} → l ≡ min n m → m ≡ k → l ≤ k
+least-in n m e f = omega arith
 
 module _ (s : List ℕ) (a b : Sheet) (n : ℕ) (read : reading s ≡ accepted a) where
   pub agree-heads : false ≡ same (head_bytes a) (head_bytes b) → false ≡ agrees_with (reading s) b n
   unfolding agrees
   agree-heads e = rw (read, ← e) refl
 
-  pub agree-tests : (m k : ℕ) {r : Bool} → true ≡ same (head_bytes a) (head_bytes b) → m ≡ least_of n (length a.tests) → k ≡ least_of n (length b.tests) →
+  pub agree-tests : (m k : ℕ) {r : Bool} → true ≡ same (head_bytes a) (head_bytes b) → m ≡ min n (length a.tests) → k ≡ min n (length b.tests) →
       r ≡ same (test_bytes (take m a.tests)) (test_bytes (take k b.tests)) → r ≡ agrees_with (reading s) b n
   unfolding agrees
   agree-tests m k e em ek er =

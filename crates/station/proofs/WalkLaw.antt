@@ -1,4 +1,5 @@
 -- A walk along the rules of a test.
+use Rattle.lists.specs.Options.{coded}
 use Prim.Native.Nat.{ℕ, zero, suc, ◌+◌, ◌*◌, ◌/◌, ◌%◌, ◌<◌, ◌≤◌}
 use native.Mathlib.Nat.{le_of_suc-le-suc}
 use native.Mathlib.Omega.{arith}
@@ -6,6 +7,7 @@ use mathlib.Core.Path.{◌≡◌, refl, sym, ◌∙◌, ap}
 use mathlib.Core.Option.{Option, none, some}
 use mathlib.Core.List.{List, [], ◌∷◌, ◌++◌}
 use lib.ListN.{length, get_or, take, drop}
+use Rattle.std.specs.Prelude.{Some, None}
 use lib.Seq.{split_at, take-suc}
 use Rattle.lists.specs.Lists.{maybe}
 use Rattle.lists.specs.laws.TestLaw.{never}
@@ -14,7 +16,8 @@ use Rattle.sheet.specs.declared.Row.{Row}
 use Rattle.sheet.specs.Sheet.{Sheet, rule_at, after}
 use Rattle.sheet.specs.Reading.{accepted, reading}
 use Rattle.sheet.specs.Encode.{press_bytes}
-use Rattle.sheet.specs.Tables.{by_pair, Tables, tables_of, loaded_of}
+use Rattle.sheet.specs.declared.Tables.{Tables}
+use Rattle.sheet.specs.Tables.{by_pair, tables_of, loaded_of}
 use Rattle.sheet.specs.WellFormed.{TestIn}
 use Rattle.sheet.specs.words.Tabled.{ByPair}
 use Rattle.sheet.specs.laws.AcceptedLaw.{well-formed}
@@ -23,12 +26,11 @@ use Rattle.model.specs.Machine.{specified_from}
 use Rattle.model.specs.Mutant.{move_of, rule, specified}
 use Rattle.model.proofs.laws.StaysLaw.{rule-row}
 use Rattle.model.proofs.laws.SuiteLaw.{Following, specified-uncons, after-specified, specified-length}
-use Rattle.station.specs.declared.steps.Found.TheVariants as found
 use Rattle.station.specs.declared.Phase.{Phase}
 use Rattle.station.specs.declared.Phase.TheVariants as phase
 use Rattle.station.specs.declared.State.{State}
 use Rattle.station.specs.Station.{current, element_at, expected, due_by}
-use Rattle.station.specs.words.Parts.{found_of, Ruled, Walk}
+use Rattle.station.specs.words.Parts.{Ruled, Walk}
 use Rattle.station.proofs.laws.ProgressLaw.{element-some, element-out, expected-short}
 use Rattle.station.proofs.PressLaw.{presses-at, part_length}
 
@@ -44,7 +46,7 @@ by-pair g =
           table_at (λ i. g (i / 16) (i % 16)) (s * 16 + x) (omega arith) ∙ rw (high, low) refl;
     }
 
-pub ruled : (s : List ℕ) (sh : Sheet) (t : Tables) → reading s ≡ accepted sh → t ≡ loaded_of (reading s) → Ruled sh s t.output t.target
+pub ruled : (s : List ℕ) (sh : Sheet) (t : Tables) → reading s ≡ accepted sh → t ≡ loaded_of (reading s) → Ruled sh s t
 unfolding tables_of
 ruled s sh t e f =
     let is : t ≡ tables_of sh = f ∙ rw e refl in
@@ -114,7 +116,7 @@ specified-at sh (x ∷ t) os p (suc j) s r e h l er = go (rule_at sh.rules p x) 
         rw f.is (ih q.target (rw target at f.specifies) k)
 
 -- ---- along a test
-module _ {sh : Sheet} {t part outputs targets : List ℕ} (w : Walk sh t part outputs targets) {j s : ℕ} (reached : after sh.rules 0 (take j t) ≡ some s)
+module _ {sh : Sheet} {t part : List ℕ} {tables : Tables} (w : Walk sh t part tables) {j s : ℕ} (reached : after sh.rules 0 (take j t) ≡ some s)
     (l : j < length part / 2) where
   inside : j < length t
   inside = omega (arith, part_length t w.bytes)
@@ -132,26 +134,26 @@ module _ {sh : Sheet} {t part outputs targets : List ℕ} (w : Walk sh t part ou
   press-low = let at = rule-row sh w.formed s (get_or t j 0) here.row here.there in omega (arith, press-is, at.input, at.row.input, w.formed.size.inputs.few)
 
   -- the tables at that place
-  pub walk-on : {at : ℕ} → at ≡ s * 16 + get_or part (2 * j + 1) 0 → after sh.rules 0 (take (suc j) t) ≡ some (get_or targets at 0)
+  pub walk-on : {at : ℕ} → at ≡ s * 16 + get_or part (2 * j + 1) 0 → after sh.rules 0 (take (suc j) t) ≡ some (get_or tables.target at 0)
   walk-on {at} e =
       let is = w.targets-are.at s (get_or part (2 * j + 1) 0) state-low press-low in
       let there : rule_at sh.rules s (get_or part (2 * j + 1) 0) ≡ some here.row = rw press-is here.there in
-      here.further ∙ ap (λ (v : ℕ). some v) (sym (ap (λ (i : ℕ). get_or targets i 0) e ∙ is ∙ rw there refl))
+      here.further ∙ ap (λ (v : ℕ). some v) (sym (ap (λ (i : ℕ). get_or tables.target i 0) e ∙ is ∙ rw there refl))
 
-  pub walk-output : {at : ℕ} → at ≡ s * 16 + get_or part (2 * j + 1) 0 → found.At (get_or outputs at 0) ≡ found_of (element_at (expected sh t) j)
+  pub walk-output : {at : ℕ} → at ≡ s * 16 + get_or part (2 * j + 1) 0 → Some (get_or tables.output at 0) ≡ coded (element_at (expected sh t) j)
   unfolding expected specified
   walk-output {at} e =
       let is = w.outputs-are.at s (get_or part (2 * j + 1) 0) state-low press-low in
       let there : rule_at sh.rules s (get_or part (2 * j + 1) 0) ≡ some here.row = rw press-is here.there in
       let os = after-specified sh 0 w.test.reached t w.test.defined in
       let element = specified-at sh t os.0 0 j s here.row os.1 reached inside here.there in
-      rw (os.1, element) (ap found.At (ap (λ (i : ℕ). get_or outputs i 0) e ∙ is ∙ rw there refl))
+      rw (os.1, element) (ap Some (ap (λ (i : ℕ). get_or tables.output i 0) e ∙ is ∙ rw there refl))
 
 pub walk_start : (sh : Sheet) (t : List ℕ) → after sh.rules 0 (take 0 t) ≡ some 0
 unfolding after
 walk_start sh t = refl
 
-pub walk-out : {sh : Sheet} {t part outputs targets : List ℕ} → Walk sh t part outputs targets → (j : ℕ) → length part / 2 ≤ j → found.Nothing ≡ found_of (element_at (expected sh t) j)
+pub walk-out : {sh : Sheet} {t part : List ℕ} {tables : Tables} → Walk sh t part tables → (j : ℕ) → length part / 2 ≤ j → None ≡ coded (element_at (expected sh t) j)
 unfolding expected specified
 walk-out {sh} {t} w j l =
     let os = after-specified sh 0 w.test.reached t w.test.defined in
@@ -163,13 +165,13 @@ empty-in : (rules : List Row) → TestIn rules []
 unfolding after
 empty-in rules = record { reached = 0; defined = refl; short = omega arith }
 
-pub walks : {sh : Sheet} {s part outputs targets : List ℕ} → Ruled sh s outputs targets → (i : ℕ) → part ≡ press_bytes (get_or sh.tests i []) → Walk sh (get_or sh.tests i []) part outputs targets
+pub walks : {sh : Sheet} {s part : List ℕ} {tables : Tables} → Ruled sh s tables → (i : ℕ) → part ≡ press_bytes (get_or sh.tests i []) → Walk sh (get_or sh.tests i []) part tables
 walks {sh} {s} r i e =
     let wf = well-formed s sh r.read in
     record { formed = wf; test = all_get_d (TestIn sh.rules) sh.tests i [] wf.tests (empty-in sh.rules); bytes = e; outputs-are = r.outputs-are; targets-are = r.targets-are }
 
 -- an output is there: the position is in a test
-pub position-low : {sh : Sheet} {s outputs targets : List ℕ} → Ruled sh s outputs targets → (n i e : ℕ) → element_at (expected sh (current sh.tests n)) i ≡ some e → i < 256
+pub position-low : {sh : Sheet} {s : List ℕ} {tables : Tables} → Ruled sh s tables → (n i e : ℕ) → element_at (expected sh (current sh.tests n)) i ≡ some e → i < 256
 unfolding current
 position-low {sh} {s} r zero i e h = go (element-nothing i) h
   where
@@ -185,12 +187,12 @@ position-low {sh} {s} r (suc n) i e h =
     omega (arith, (element-some (expected sh t) i e h).inside, expected-short sh t)
 
 -- the output that is due is in a test
-pub due-low : {sh : Sheet} {s outputs targets : List ℕ} → Ruled sh s outputs targets → (st : State) (p : Phase) {e : ℕ} → due_by p sh st ≡ some e → st.position < 256
+pub due-low : {sh : Sheet} {s : List ℕ} {tables : Tables} → Ruled sh s tables → (st : State) (p : Phase) {e : ℕ} → due_by p sh st ≡ some e → st.position < 256
 due-low r st phase.Ready h = never (cc)
 due-low r st phase.Due {e} h = position-low r st.begun st.position e h
 due-low r st phase.Passed h = never (cc)
 due-low r st phase.Failed h = never (cc)
 
-pub none-expected : (sh : Sheet) (n i : ℕ) → n ≡ 0 → found.Nothing ≡ found_of (element_at (expected sh (current sh.tests n)) i)
+pub none-expected : (sh : Sheet) (n i : ℕ) → n ≡ 0 → None ≡ coded (element_at (expected sh (current sh.tests n)) i)
 unfolding current
 none-expected sh n i e = rw e (rw (element-out (expected sh []) i (omega (arith, expected-short sh []))) refl)

@@ -1,134 +1,81 @@
 // The specified output of the input that is due.
-ghost use Rattle.std.specs.Prelude.{ℕ, ◌+◌, ◌*◌, ◌<◌, ◌≡◌, List, eqb};
+ghost use Rattle.lists.specs.Options.{coded};
+ghost use Rattle.std.specs.Prelude.{ℕ, ◌<◌, ◌≡◌, List, eqb};
 ghost use Rattle.sheet.specs.Sheet.{Sheet};
-ghost use Rattle.sheet.specs.Reading as reading;
-ghost use Rattle.sheet.specs.Tables.{read_answer};
 ghost use Rattle.station.specs.Station.{current, element_at, expected, due_by, heard_as};
-ghost use Rattle.station.specs.Answers.{taken_answer};
-ghost use Rattle.station.specs.words.Parts.{found_of, Ruled, Walk};
+ghost use Rattle.station.specs.Answers.{heard_of};
+ghost use Rattle.station.specs.words.Parts.{Ruled, Walk};
 
-use crate::steps::Found;
-use crate::{Phase, State, Taken, test_of};
-use reading::{load, test_part};
-use sheet::Reading;
-
-// The rules of an accepted sheet by pair, at state * 16 + input: output and next state.
-pub(crate) fn rules_of(sheet: &[u8], outputs: &mut [u8; 256], targets: &mut [u8; 256]) -> Reading
-    ensures value { result ≡ read_answer (reading.reading sheet.now) }
-    ensures ruled { (sh : Sheet) → reading.reading sheet.now ≡ reading.accepted sh → Ruled sh sheet.now outputs.new targets.new }
-{
-    let mut choices = [0u16; 256];
-    let mut first = [0u16; 256];
-    let mut mutated = [0u8; 256];
-    let mut diverted = [0u8; 256];
-    let mut starts = [0u16; 256];
-    let mut lengths = [0u16; 256];
-    let loaded = load(
-        sheet,
-        outputs,
-        targets,
-        &mut choices,
-        &mut first,
-        &mut mutated,
-        &mut diverted,
-        &mut starts,
-        &mut lengths,
-    );
-    let reading = loaded.reading;
-    reading
-}
-
-fn place(s: u8, x: u8) -> usize
-    requires { (s < 16) × (x < 16) }
-    ensures value { result ≡ s * 16 + x }
-    ensures upper_bound { result < 256 }
-{
-    (s as usize) * 16 + (x as usize)
-}
+use crate::{Heard, Phase, State, test_of};
+use logs::Wrong;
+use reading::test_part;
+use sheet::Tables;
 
 // The specified output at a position of a test, given its PRESS commands.
-fn output_in<'a>(
-    part: &[u8],
-    outputs: &'a [u8; 256],
-    targets: &'a [u8; 256],
-    position: usize,
-) -> Found
-    requires { (sh : Sheet) × (t : List ℕ) × Walk sh t part.now outputs.now targets.now }
-    ensures { (sh : Sheet) (t : List ℕ) → Walk sh t part.now outputs.now targets.now → result ≡ found_of (element_at (expected sh t) position) }
+fn output_in(part: &[u8], tables: &Tables, position: usize) -> Option<u8>
+    requires { (sh : Sheet) × (t : List ℕ) × Walk sh t part.now tables.now }
+    ensures { (sh : Sheet) (t : List ℕ) → Walk sh t part.now tables.now → result ≡ coded (element_at (expected sh t) position) }
 {
     if part.len() / 2 <= position {
-        return Found::Nothing;
+        return None;
     }
     let mut s: u8 = 0;
-    let mut j: usize = 0;
-    while j < position {
-        let at = place(s, part[2 * j + 1]);
-        s = targets[at];
-        j += 1;
+    for j in 0..position {
+        s = tables.target[usize::from(s) * 16 + usize::from(part[2 * j + 1])];
     }
-    let at = place(s, part[2 * position + 1]);
-    Found::At(outputs[at])
+    Some(tables.output[usize::from(s) * 16 + usize::from(part[2 * position + 1])])
 }
 
 // The same in the test begun last.
-fn output_at<'a>(
-    sheet: &[u8],
-    outputs: &'a [u8; 256],
-    targets: &'a [u8; 256],
-    begun: usize,
-    position: usize,
-) -> Found
-    requires { (sh : Sheet) × Ruled sh sheet.now outputs.now targets.now }
-    ensures { (sh : Sheet) → Ruled sh sheet.now outputs.now targets.now → result ≡ found_of (element_at (expected sh (current sh.tests begun)) position) }
+fn output_at(sheet: &[u8], tables: &Tables, begun: usize, position: usize) -> Option<u8>
+    requires { (sh : Sheet) × Ruled sh sheet.now tables.now }
+    ensures { (sh : Sheet) → Ruled sh sheet.now tables.now → result ≡ coded (element_at (expected sh (current sh.tests begun)) position) }
 {
     if begun == 0 {
-        return Found::Nothing;
+        return None;
     }
     let part = test_part(sheet, begun - 1);
-    output_in(part, outputs, targets, position)
+    output_in(part, tables, position)
 }
 
 // The specified output of the input that is due; nothing where none is.
-pub(crate) fn due_output<'a>(
-    sheet: &[u8],
-    outputs: &'a [u8; 256],
-    targets: &'a [u8; 256],
-    state: State,
-) -> Found
-    requires { (sh : Sheet) × Ruled sh sheet.now outputs.now targets.now }
-    ensures { (sh : Sheet) → Ruled sh sheet.now outputs.now targets.now → result ≡ found_of (due_by state.phase sh state) }
+pub(crate) fn due_output(sheet: &[u8], tables: &Tables, state: State) -> Option<u8>
+    requires { (sh : Sheet) × Ruled sh sheet.now tables.now }
+    ensures { (sh : Sheet) → Ruled sh sheet.now tables.now → result ≡ coded (due_by state.phase sh state) }
 {
-    let phase = state.phase;
-    match phase {
-        Phase::Ready => Found::Nothing,
-        Phase::Due => output_at(sheet, outputs, targets, state.begun, state.position),
-        Phase::Passed => Found::Nothing,
-        Phase::Failed => Found::Nothing,
+    match state.phase {
+        Phase::Due => output_at(sheet, tables, state.begun, state.position),
+        Phase::Ready | Phase::Passed | Phase::Failed => None,
     }
 }
 
 // As specified, or the first wrong output.
-pub(crate) fn heard(state: State, output: u8, right: u8) -> Taken
+pub(crate) fn heard(state: State, output: u8, right: u8) -> Heard
     requires { state.position < 256 }
-    ensures { result ≡ taken_answer (reading.accepted (heard_as (eqb output right) state)) }
+    ensures { result ≡ heard_of (heard_as (eqb output right) state) }
 {
     let begun = state.begun;
     let position = state.position;
     if output == right {
-        Taken::Right(State {
-            begun,
-            position: position + 1,
-            phase: Phase::Ready,
-        })
+        Heard {
+            wrong: None,
+            state: State {
+                begun,
+                position: position + 1,
+                phase: Phase::Ready,
+            },
+        }
     } else {
-        Taken::Wrong(
-            test_of(begun),
-            position,
-            State {
+        Heard {
+            wrong: Some(Wrong {
+                test: test_of(begun),
+                position,
+            }),
+            state: State {
                 begun,
                 position,
                 phase: Phase::Failed,
             },
-        )
+        }
     }
 }

@@ -14,13 +14,12 @@ mod hearing;
 mod steps;
 mod suit;
 
-use reading::read;
-use sheet::{Reading, refusal_of};
-use steps::Found;
-use suit::Suited;
+use logs::Wrong;
+use reading::{load, read};
+use sheet::{Refusal, Tables};
 
 // No input is due; one is; or a verdict was given.
-#[derive(Clone, Copy)]
+#[derive(Clone, Copy, Debug, PartialEq, Eq)]
 pub enum Phase {
     Ready,
     Due,
@@ -29,7 +28,7 @@ pub enum Phase {
 }
 
 // How many tests have begun, how many outputs of the last of them were taken, and the phase.
-#[derive(Clone, Copy)]
+#[derive(Clone, Copy, Debug, PartialEq, Eq)]
 pub struct State {
     pub begun: usize,
     pub position: usize,
@@ -37,7 +36,7 @@ pub struct State {
 }
 
 // A next step: a reset (01: pulse), an input (01: press), or a verdict: pass, or the test and position of the first wrong output.
-#[derive(Clone, Copy)]
+#[derive(Clone, Copy, Debug, PartialEq, Eq)]
 pub enum Step {
     Reset,
     Input(u8),
@@ -45,100 +44,64 @@ pub enum Step {
     Failure(usize, usize),
 }
 
-// What begin answers: the first state.
-#[derive(Clone, Copy)]
-pub enum Begun {
-    At(State),
-    Refused(u8, usize),
+// What next gives: the step, and the state that it leaves.
+#[derive(Clone, Copy, Debug, PartialEq, Eq)]
+pub struct Advanced {
+    pub step: Step,
+    pub state: State,
 }
 
-// What next answers: the step, and the state that it leaves.
-#[derive(Clone, Copy)]
-pub enum Advanced {
-    Given(Step, State),
-    Refused(u8, usize),
-}
-
-// What taking an output answers: as specified, or the test and position of the first wrong output; with the state that it leaves.
-#[derive(Clone, Copy)]
-pub enum Taken {
-    Right(State),
-    Wrong(usize, usize, State),
-    Refused(u8, usize),
-}
-
-// What a change answers: the station goes on with the changed sheet, and the state as it was.
-#[derive(Clone, Copy)]
-pub enum Changed {
-    Accepted,
-    Refused(u8, usize),
+// What an output comes to: as specified, or the test and position of the first wrong one; and the state that it leaves.
+#[derive(Clone, Copy, Debug, PartialEq, Eq)]
+pub struct Heard {
+    pub wrong: Option<Wrong>,
+    pub state: State,
 }
 
 // The number of the test begun last, of so many.
 pub fn test_of(begun: usize) -> usize
     ensures { result ≡ begun - 1 }
 {
-    if begun == 0 { 0 } else { begun - 1 }
+    begun.saturating_sub(1)
 }
 
-// Begin: the sheet is accepted and its suite is complete; no test has begun.
-pub fn begin(sheet: &[u8]) -> Begun
+// Begin: the sheet is accepted and its suite is complete; no test has begun. Gives the first state.
+pub fn begin(sheet: &[u8]) -> Result<State, Refusal>
     ensures answer { result ≡ begun_answer (beginning sheet.now) }
     ensures told { ToldBegun sheet.now result }
 {
-    match suit::suit(sheet) {
-        Suited::Complete => Begun::At(State {
-            begun: 0,
-            position: 0,
-            phase: Phase::Ready,
-        }),
-        Suited::Refused(number, place) => Begun::Refused(number, place),
-    }
+    suit::suit(sheet)?;
+    Ok(State {
+        begun: 0,
+        position: 0,
+        phase: Phase::Ready,
+    })
 }
 
 // Next: a verdict is given again, and so is an input that is due; else the next input of the test begun last, the next test's reset, or
 // pass.
-pub fn next(sheet: &[u8], state: State) -> Advanced
+pub fn next(sheet: &[u8], state: State) -> Result<Advanced, Refusal>
     ensures answer { result ≡ next_answer (nexting sheet.now state) }
     ensures told { ToldNext sheet.now state result }
 {
-    let reading = read(sheet);
-    let Reading::Accepted(summary) = reading else {
-        let why = refusal_of(reading);
-        return Advanced::Refused(why.number, why.place);
-    };
-    let phase = state.phase;
-    match phase {
-        Phase::Ready => steps::along(sheet, summary.tests, state),
-        Phase::Due => steps::along(sheet, summary.tests, state),
-        Phase::Passed => Advanced::Given(Step::Pass, state),
-        Phase::Failed => {
-            let test = test_of(state.begun);
-            Advanced::Given(Step::Failure(test, state.position), state)
-        }
-    }
+    let summary = read(sheet)?;
+    Ok(steps::step(sheet, summary.tests, state))
 }
 
 // Take an output: of the input that is due, as specified, or the first wrong one.
-pub fn take_output(sheet: &[u8], state: State, output: u8) -> Taken
+pub fn take_output(sheet: &[u8], state: State, output: u8) -> Result<Heard, Refusal>
     ensures answer { result ≡ taken_answer (taking sheet.now state output) }
     ensures told { ToldTaken sheet.now state output result }
 {
-    let mut outputs = [0u8; 256];
-    let mut targets = [0u8; 256];
-    let reading = hearing::rules_of(sheet, &mut outputs, &mut targets);
-    let Reading::Accepted(summary) = reading else {
-        let why = refusal_of(reading);
-        return Taken::Refused(why.number, why.place);
-    };
-    let due = hearing::due_output(sheet, &outputs, &targets, state);
-    let Found::At(right) = due else {
-        return Taken::Refused(24, 0);
+    let mut tables = Tables::blank();
+    let summary = load(sheet, &mut tables)?;
+    let Some(right) = hearing::due_output(sheet, &tables, state) else {
+        return Err(Refusal::new(24, 0));
     };
     if summary.outputs <= output {
-        return Taken::Refused(24, 0);
+        return Err(Refusal::new(24, 0));
     }
-    hearing::heard(state, output, right)
+    Ok(hearing::heard(state, output, right))
 }
 
 // Was no verdict given?
@@ -146,29 +109,20 @@ fn is_open(phase: Phase) -> bool
     ensures { result ≡ is_open phase }
 {
     match phase {
-        Phase::Ready => true,
-        Phase::Due => true,
-        Phase::Passed => false,
-        Phase::Failed => false,
+        Phase::Ready | Phase::Due => true,
+        Phase::Passed | Phase::Failed => false,
     }
 }
 
-// Change: the station goes on at the same input with the changed sheet, if that is complete and equal in SIZE, QUIET, RULEs and each test
-// up to the last begun.
-pub fn change(sheet: &[u8], changed: &[u8], state: State) -> Changed
+// Change: the station goes on at the same input with the changed sheet, the state as it was, if that is complete and equal in SIZE, QUIET,
+// RULEs and each test up to the last begun.
+pub fn change(sheet: &[u8], changed: &[u8], state: State) -> Result<(), Refusal>
     ensures answer { result ≡ changed_answer (changing sheet.now state changed.now) }
     ensures told { ToldChanged sheet.now state changed.now result }
 {
-    let suited = suit::suit(changed);
-    if let Suited::Refused(number, place) = suited {
-        return Changed::Refused(number, place);
+    suit::suit(changed)?;
+    if is_open(state.phase) && agree::agree(sheet, changed, state.begun) {
+        return Ok(());
     }
-    let phase = state.phase;
-    let begun = state.begun;
-    if is_open(phase) {
-        if agree::agree(sheet, changed, begun) {
-            return Changed::Accepted;
-        }
-    }
-    Changed::Refused(23, 0)
+    Err(Refusal::new(23, 0))
 }

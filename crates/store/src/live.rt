@@ -38,6 +38,6 @@ pub(crate) fn admit(notes: &mut [u16], e: usize)
     for n in 0..34 {
         let at = noted_at(n, e / 16);
         let set = note(notes, at);
-        set_note(notes, at, add(set, (e % 16) as u8));
+        set_note(notes, at, with(set, (e % 16) as u8));
     }
 }

@@ -1,4 +1,7 @@
 -- From turn to turn.
+use Rattle.std.specs.Prelude.{Option as Maybe, Result as Answer, Ok, Err, IsErr}
+use Rattle.search.specs.declared.settle.GaveUp.{GaveUp}
+use Rattle.sweep.specs.Outcomes.{OutcomeOk}
 use mathlib.Core.Path.{◌≡◌, refl, sym, ◌∙◌, subst, ap}
 use mathlib.Core.Logic.{◌⊎◌, inl, inr}
 use mathlib.Core.Bool.{true}
@@ -13,29 +16,9 @@ use Rattle.block.specs.Tabled.{Tabled}
 use Rattle.block.specs.Tabulated.{Wf}
 use Rattle.block.specs.laws.TabledLaw.{well-formed}
 use Rattle.cubes.specs.declared.goal.Goal.TheVariants.{Nonconforming}
-use Rattle.refutation.specs.Lent.{StoreOk}
+use Rattle.refutation.specs.Lent.{StoreOk, Entry}
 use Rattle.search.specs.Search.{ForSheet}
 use Rattle.clearing.specs.Sweep.{Full, Swept, Refutes, Later, Advanced}
-use Rattle.sweep.specs.declared.Outcome.TheVariants as outcome
-use Rattle.sweep.specs.declared.turn.Turned.{Turned}
-use Rattle.sweep.specs.declared.turn.Turned.TheVariants as turned
-use Rattle.sweep.specs.Turning.{TurnedOk}
-use Rattle.sweep.specs.Outcomes.{outcome_of, OutcomeOk}
-
--- ---- where a turn clears nothing
-pub outcome-gives : (t : Turned) → ((x : ℕ) × (y : ℕ) × t ≡ turned.Refuted x y) ⊎ (t ≡ turned.GivesUp) → outcome.GaveUp ≡ outcome_of t
-outcome-gives t (inl e) = sym (ap outcome_of e.2)
-outcome-gives t (inr e) = sym (ap outcome_of e)
-
-pub gave-up : (t : Turned) → ((x y : ℕ) → t ≡ turned.Refuted x y → ⊥) → outcome_of t ≡ outcome.GaveUp → t ≡ turned.GivesUp
-gave-up (turned.Refuted by next) k h = absurd (k by next refl)
-gave-up (turned.Survives d) k h = never (cc)
-gave-up turned.GivesUp k h = refl
-
-pub ended-ok : {sh : Sheet} {m p blame : List ℕ} (buffer : List ℕ) (t : Turned) → TurnedOk sh p t buffer → Swept sh m p blame → OutcomeOk sh m (outcome_of t) p blame buffer
-ended-ok buffer (turned.Refuted by next) ok sw = sw
-ended-ok buffer (turned.Survives d) ok sw = (sw, ok)
-ended-ok buffer turned.GivesUp ok sw = sw
 
 -- ---- the place of a mutant in dictionary order, as a number
 pub rank : List ℕ → ℕ
@@ -65,8 +48,13 @@ rank-more (c ∷ p) (d ∷ q) (suc k) e low l same more =
     let ih = rank-more p q k el (λ i li. low (suc i) (omega arith)) (omega arith) (λ i li. same (suc i) (omega arith)) more in
     rw (ec, ← el) (omega (arith, ih))
 
+-- ---- where a turn gives up
+pub gave-up : {sh : Sheet} {m p blame : List ℕ} (buffer : List ℕ) (r : Answer (Maybe ℕ) GaveUp) → IsErr r → Swept sh m p blame → OutcomeOk sh m r p blame buffer
+gave-up buffer (Ok found) e s = never (cc)
+gave-up buffer (Err g) e s = s
+
 -- ---- from turn to turn
-pub record Sweeping (m log p₀ blame₀ p blame store₀ store notes₀ notes sequence₀ sequence : List ℕ) : Type 0 where
+pub record Sweeping (m log p₀ blame₀ p blame : List ℕ) (store₀ store : List Entry) (notes₀ notes sequence₀ sequence : List ℕ) : Type 0 where
   pub some : (sh : Sheet) × ForSheet sh m log × Swept sh m p blame
   pub each : (sh : Sheet) → ForSheet sh m log → Swept sh m p₀ blame₀ → Swept sh m p blame
   pub kept : StoreOk Nonconforming m log store
@@ -91,7 +79,7 @@ left_less {m} {p} {q} wf fp fq la =
     (rank-more p q la.place (fp.long ∙ sym fq.long) (few wf fp) (omega (arith, la.low, fp.long)) la.same la.more)
     (subst (λ (n : ℕ). rank q < 257 ^ n) fq.long (rank_below q (few wf fq)))
 
-module _ {m log p₀ blame₀ p blame store₀ store notes₀ notes sequence₀ sequence : List ℕ} (sw : Sweeping m log p₀ blame₀ p blame store₀ store notes₀ notes sequence₀ sequence) where
+module _ {m log p₀ blame₀ p blame : List ℕ} {store₀ store : List Entry} {notes₀ notes sequence₀ sequence : List ℕ} (sw : Sweeping m log p₀ blame₀ p blame store₀ store notes₀ notes sequence₀ sequence) where
   -- what a turn asks, and advancing after it
   pub full : Full m p
   full = sw.some.2.full
@@ -107,7 +95,7 @@ module _ {m log p₀ blame₀ p blame store₀ store notes₀ notes sequence₀ 
       let a = advanced re ad s.0 s.1 s.2 in
       left_less (well-formed s.1.tabled) full a.0.full a.1
 
-  pub sweeping-more : {q more kept noted written : List ℕ} {by next : ℕ} → ((sh : Sheet) → ForSheet sh m log → Refutes sh p by next) →
+  pub sweeping-more : {q more noted written : List ℕ} {kept : List Entry} {by next : ℕ} → ((sh : Sheet) → ForSheet sh m log → Refutes sh p by next) →
       ((sh : Sheet) → Tabled sh m → Swept sh m p blame → Refutes sh p by next → Advanced sh m p true q more) →
       StoreOk Nonconforming m log kept → length kept ≡ length store → length noted ≡ length notes → length written ≡ length sequence →
       Sweeping m log p₀ blame₀ q more store₀ kept notes₀ noted sequence₀ written

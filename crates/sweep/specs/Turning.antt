@@ -1,22 +1,28 @@
 -- What one turn of a sweep tells.
-use Rattle.std.specs.Prelude.{◌≡◌, true, List, ℕ}
+use Rattle.std.specs.Prelude.{Option as Maybe, IfSome, Result as Answer, Ok, Err}
+use Rattle.std.specs.Prelude.{List, ℕ}
 use Rattle.sheet.specs.Sheet.{Sheet}
 use Rattle.search.specs.Search.{ForSheet, mutant_in}
-use Rattle.clearing.specs.Sweep.{Cleared, Refutes}
+use Rattle.search.specs.declared.settle.GaveUp.{GaveUp}
+use Rattle.clearing.specs.Sweep.{Cleared, Clears}
 use Rattle.clearing.specs.Looking.{Found}
-use Rattle.sweep.specs.declared.turn.Asked.{Asked}
+use Rattle.clearing.specs.declared.order.Clearing.{Clearing}
 use Rattle.sweep.specs.declared.turn.Turned.{Turned}
 use Rattle.sweep.specs.declared.turn.Turned.TheVariants as turned
 
 -- what is asked of p is answered by what clears it
-pub record AskedOk (m log p : List ℕ) (r : Asked) : Type 0 where
-  pub at : r.ok ≡ true → (sh : Sheet) → ForSheet sh m log → Refutes sh p r.by r.next
+abbrev pub AskedOk : List ℕ → List ℕ → List ℕ → Maybe Clearing → Type 0
+AskedOk m log p r = IfSome r (λ c. (sh : Sheet) → ForSheet sh m log → Clears sh p c)
 
 -- where the mutant p conforms
-pub record ConformedOk (m log p : List ℕ) (r : Asked) : Type 0 where
-  pub at : (sh : Sheet) → ForSheet sh m log → Cleared sh (mutant_in sh p) → Refutes sh p r.by r.next
+pub record ConformedOk (m log p : List ℕ) (c : Clearing) : Type 0 where
+  pub at : (sh : Sheet) → ForSheet sh m log → Cleared sh (mutant_in sh p) → Clears sh p c
 
 abbrev pub TurnedOk : Sheet → List ℕ → Turned → List ℕ → Type 0
-TurnedOk sh p (turned.Refuted by next) buffer = Refutes sh p by next
+TurnedOk sh p (turned.Cleared c) buffer = Clears sh p c
 TurnedOk sh p (turned.Survives d) buffer = Found sh (mutant_in sh p) d buffer
-TurnedOk sh p turned.GivesUp buffer = Unit {0}
+
+-- or it gave up, and nothing is said
+abbrev pub TurnOk : Sheet → List ℕ → Answer Turned GaveUp → List ℕ → Type 0
+TurnOk sh p (Ok t) buffer = TurnedOk sh p t buffer
+TurnOk sh p (Err e) buffer = Unit {0}

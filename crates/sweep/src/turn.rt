@@ -1,5 +1,5 @@
 // One turn of a sweep: what clears a mutant, and others like it.
-ghost use Rattle.std.specs.Prelude.{◌≡◌, true, false, ◌*◌, ◌<◌, ◌≤◌, length};
+ghost use Rattle.std.specs.Prelude.{◌≡◌, true, ◌*◌, ◌≤◌, length, IsErr};
 ghost use Rattle.sheet.specs.Sheet.{Sheet};
 ghost use Rattle.block.specs.Layout.{states_of};
 ghost use Rattle.block.specs.Tabulated.{Wf};
@@ -9,15 +9,15 @@ ghost use Rattle.refutation.specs.Lent.{StoreOk};
 ghost use Rattle.refutation.specs.Refuting.{Ready};
 ghost use Rattle.search.specs.Search.{ForSheet};
 ghost use Rattle.clearing.specs.Sweep.{Full};
-ghost use Rattle.sweep.specs.declared.turn.Turned.TheVariants.{GivesUp};
-ghost use Rattle.sweep.specs.Turning.{AskedOk, ConformedOk, TurnedOk};
+ghost use Rattle.sweep.specs.Turning.{AskedOk, ConformedOk, TurnedOk, TurnOk};
 
-use block::{BLOCK, slots, wide};
-use clearing::{Looked, by_conforming, cleared_by, following, look};
+use block::{Block, slots};
+use clearing::{Clearing, Looked, by_conforming, choices_at, cleared_by, look};
 use cubes::goal::Goal;
-use cubes::tables::FACTS;
-use pool::{affords, again, answered, depth, keep, most_agreed, spend, unanswered};
-use refutation::told_from;
+use cubes::tables::Facts;
+use pool::Steering;
+use refutation::{Entry, Question, told_from};
+use search::GaveUp;
 
 // The first n choices of p, the others unsettled.
 fn prefix(p: &[u16; 32], n: usize) -> [u16; 32]
@@ -25,199 +25,172 @@ fn prefix(p: &[u16; 32], n: usize) -> [u16; 32]
     ensures { Extends p.now result }
 {
     let mut q = *p;
-    let mut j = n;
-    while j < 32 {
-        q[j] = 256;
-        j += 1;
-    }
+    q[n.min(32)..].fill(256);
     q
-}
-
-// By the choices at which slots p is cleared, and the next choice of the highest, if `ok`; else nothing is said.
-#[derive(Clone, Copy)]
-pub(crate) struct Asked {
-    pub ok: bool,
-    pub by: u32,
-    pub next: u16,
-}
-
-fn nothing() -> Asked
-    ensures { result.ok ≡ false }
-{
-    Asked {
-        ok: false,
-        by: 0,
-        next: 0,
-    }
 }
 
 // Asks whether a mutant with the first n choices of p survives.
 fn ask(
-    block: &[u8; BLOCK],
-    facts: &[u16; FACTS],
+    block: &Block,
+    facts: &Facts,
     log: &[u8],
-    store: &mut [u32],
+    store: &mut [Entry],
     notes: &mut [u16],
     p: &[u16; 32],
     n: usize,
-) -> Asked
+) -> Option<Clearing>
     requires { Ready block.now facts.now × StoreOk Nonconforming block.now log.now store.old × Full block.now p.now }
     ensures { StoreOk Nonconforming block.now log.now store.new × AskedOk block.now log.now p.now result }
 {
     let q = prefix(p, n);
-    let told = told_from(block, facts, log, Goal::Nonconforming, store, notes, &q);
-    if !told.ok {
-        return nothing();
-    }
-    let clearing = cleared_by(block, &told.cube, p);
-    Asked {
-        ok: true,
-        by: clearing.by,
-        next: clearing.next,
-    }
+    let question = Question {
+        block,
+        facts,
+        log,
+        goal: Goal::Nonconforming,
+    };
+    let cube = told_from(&question, store, notes, &q)?;
+    Some(cleared_by(block, &cube, p))
 }
 
 // Asks of p's first choices, more of them than a survivor has.
 fn ask_on(
-    block: &[u8; BLOCK],
-    facts: &[u16; FACTS],
+    block: &Block,
+    facts: &Facts,
     log: &[u8],
-    store: &mut [u32],
+    store: &mut [Entry],
     notes: &mut [u16],
+    steering: &mut Steering,
     p: &[u16; 32],
-) -> Asked
+) -> Option<Clearing>
     requires { Ready block.now facts.now × StoreOk Nonconforming block.now log.now store.old × Full block.now p.now }
     ensures { StoreOk Nonconforming block.now log.now store.new × AskedOk block.now log.now p.now result }
 {
-    let n = wide(slots(block) % 33);
-    let known = most_agreed(notes, p, n);
+    let n = usize::from(slots(block) % 33);
+    let known = steering.most_agreed(p, n);
     if known > n {
-        return nothing();
+        return None;
     }
-    let at = depth(notes, known, n);
+    let at = steering.depth(known, n);
     let asked = ask(block, facts, log, store, notes, p, at);
-    if asked.ok {
-        answered(notes, at);
-        return asked;
+    if asked.is_some() {
+        steering.answered(at);
+    } else {
+        steering.keep(notes);
+        steering.unanswered(at);
     }
-    keep(notes);
-    unanswered(notes, at);
-    nothing()
+    asked
 }
 
-// A question of all choices of p, if the store has room for an entry and a mutant conformed before: its answer clears more than the
+// A question of all choices of p, if the facts are ready for it and a mutant conformed before: its answer clears more than the
 // slots by which p conforms.
 fn ask_conforming(
-    block: &[u8; BLOCK],
-    facts: &[u16; FACTS],
+    block: &Block,
+    facts: &Facts,
+    ready: bool,
     log: &[u8],
-    store: &mut [u32],
+    store: &mut [Entry],
     notes: &mut [u16],
+    steering: &mut Steering,
     p: &[u16; 32],
-) -> Asked
-    requires { (34 ≤ length store.old → Ready block.now facts.now) × StoreOk Nonconforming block.now log.now store.old × Full block.now p.now }
+) -> Option<Clearing>
+    requires { (ready ≡ true → Ready block.now facts.now) × StoreOk Nonconforming block.now log.now store.old × Full block.now p.now }
     ensures { StoreOk Nonconforming block.now log.now store.new × AskedOk block.now log.now p.now result }
 {
-    if !again(notes) {
-        return nothing();
-    }
-    if store.len() < 34 {
-        return nothing();
+    if !steering.again() || !ready {
+        return None;
     }
     ask(block, facts, log, store, notes, p, 32)
 }
 
 // What clears p, which conforms, and others like it.
 fn conformed(
-    block: &[u8; BLOCK],
-    facts: &[u16; FACTS],
+    block: &Block,
+    facts: &Facts,
+    ready: bool,
     log: &[u8],
-    store: &mut [u32],
+    store: &mut [Entry],
     notes: &mut [u16],
+    steering: &mut Steering,
     p: &[u16; 32],
-) -> Asked
-    requires { Wf block.now × (34 ≤ length store.old → Ready block.now facts.now) × StoreOk Nonconforming block.now log.now store.old × Full block.now p.now }
+) -> Clearing
+    requires { Wf block.now × (ready ≡ true → Ready block.now facts.now) × StoreOk Nonconforming block.now log.now store.old × Full block.now p.now }
     ensures { StoreOk Nonconforming block.now log.now store.new × ConformedOk block.now log.now p.now result }
 {
-    let asked = ask_conforming(block, facts, log, store, notes, p);
-    if asked.ok {
-        return asked;
-    }
-    let by = by_conforming(block, p);
-    Asked {
-        ok: true,
-        by,
-        next: following(p, by),
+    match ask_conforming(block, facts, ready, log, store, notes, steering, p) {
+        Some(clearing) => clearing,
+        None => choices_at(p, by_conforming(block, p)),
     }
 }
 
-// A turn clears p and others like it, finds that p survives, told from the specification by a sequence of this length, or gives up.
+// A turn clears p and others like it, or finds that p survives, told from the specification by a sequence of this length.
 #[derive(Clone, Copy)]
 pub(crate) enum Turned {
-    Refuted(u32, u16),
+    Cleared(Clearing),
     Survives(usize),
-    GivesUp,
 }
 
 // A look at p.
 fn take_look(
-    block: &[u8; BLOCK],
-    facts: &[u16; FACTS],
+    block: &Block,
+    facts: &Facts,
+    ready: bool,
     log: &[u8],
-    store: &mut [u32],
+    store: &mut [Entry],
     notes: &mut [u16],
+    steering: &mut Steering,
     p: &[u16; 32],
     sequence: &mut [u8],
 ) -> Turned
     requires full { ((sh : Sheet) × ForSheet sh block.now log.now) × Full block.now p.now }
     requires block_in_bounds { states_of block.now * states_of block.now ≤ length sequence.old }
-    requires ready { (34 ≤ length store.old → Ready block.now facts.now) × StoreOk Nonconforming block.now log.now store.old }
+    requires ready { (ready ≡ true → Ready block.now facts.now) × StoreOk Nonconforming block.now log.now store.old }
     ensures turned_ok { (sh : Sheet) → ForSheet sh block.now log.now → TurnedOk sh p.now result sequence.new }
-    ensures store_ok { StoreOk Nonconforming block.now log.now store.new × (result ≡ GivesUp → ⊥) }
+    ensures store_ok { StoreOk Nonconforming block.now log.now store.new }
 {
     match look(block, facts, log, p, sequence) {
         Looked::Survives(d) => Turned::Survives(d),
         Looked::Fails(by) => {
-            spend(notes, 1);
-            Turned::Refuted(by, following(p, by))
+            steering.spend(1);
+            Turned::Cleared(choices_at(p, by))
         }
         Looked::Conforms => {
-            spend(notes, 4);
-            let asked = conformed(block, facts, log, store, notes, p);
-            Turned::Refuted(asked.by, asked.next)
+            steering.spend(4);
+            Turned::Cleared(conformed(block, facts, ready, log, store, notes, steering, p))
         }
     }
 }
 
-// While there is something to spend a look at p; else a question, if the store has room for an entry, and a look where it says nothing.
+// While there is something to spend a look at p; else a question, if the facts are ready for it, and a look where it says nothing.
 // With an empty store it gives up instead.
 pub(crate) fn turn(
-    block: &[u8; BLOCK],
-    facts: &[u16; FACTS],
+    block: &Block,
+    facts: &Facts,
+    ready: bool,
     log: &[u8],
-    store: &mut [u32],
+    store: &mut [Entry],
     notes: &mut [u16],
+    steering: &mut Steering,
     p: &[u16; 32],
     sequence: &mut [u8],
-) -> Turned
+) -> Result<Turned, GaveUp>
     requires full { ((sh : Sheet) × ForSheet sh block.now log.now) × Full block.now p.now }
     requires block_in_bounds { states_of block.now * states_of block.now ≤ length sequence.old }
-    requires ready { (34 ≤ length store.old → Ready block.now facts.now) × StoreOk Nonconforming block.now log.now store.old }
-    ensures turned_ok { (sh : Sheet) → ForSheet sh block.now log.now → TurnedOk sh p.now result sequence.new }
-    ensures store_ok { StoreOk Nonconforming block.now log.now store.new × (result ≡ GivesUp → length store.old ≡ 0) }
+    requires ready { (ready ≡ true → Ready block.now facts.now) × StoreOk Nonconforming block.now log.now store.old }
+    ensures turned_ok { (sh : Sheet) → ForSheet sh block.now log.now → TurnOk sh p.now result sequence.new }
+    ensures store_ok { StoreOk Nonconforming block.now log.now store.new × (IsErr result → length store.old ≡ 0) }
 {
-    if affords(notes) {
-        return take_look(block, facts, log, store, notes, p, sequence);
+    if !steering.affords() {
+        if store.len() == 0 {
+            return Err(GaveUp);
+        }
+        if ready {
+            if let Some(clearing) = ask_on(block, facts, log, store, notes, steering, p) {
+                return Ok(Turned::Cleared(clearing));
+            }
+        }
     }
-    if store.len() == 0 {
-        return Turned::GivesUp;
-    }
-    if store.len() < 34 {
-        return take_look(block, facts, log, store, notes, p, sequence);
-    }
-    let asked = ask_on(block, facts, log, store, notes, p);
-    if asked.ok {
-        return Turned::Refuted(asked.by, asked.next);
-    }
-    take_look(block, facts, log, store, notes, p, sequence)
+    Ok(take_look(
+        block, facts, ready, log, store, notes, steering, p, sequence,
+    ))
 }

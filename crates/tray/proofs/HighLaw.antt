@@ -1,19 +1,20 @@
 -- The first choice of a tray that is too high.
+use Rattle.std.specs.Prelude.{Ok, Err, Some, None}
 use Rattle.std.specs.Prelude.{◌+◌, ◌-◌, ◌*◌, ◌<◌, ◌≤◌, ◌≡◌, ◌∷◌, ◌++◌}
 use Rattle.lists.specs.Proving.{arith, ℕ, zero, suc, refl, sym, ◌∙◌, ap, Bool, true, false, cond, Option, none, some, List, [], length, take, drop, ltb, eq-eqb, never}
 use native.Mathlib.Nat.{suc-mul, zero-mul, mul-zero, le_of_suc-le-suc}
 use lib.ListN.{length-drop, drop_of_length-le}
 use lib.Seq.{drop-drop, length-take-le}
-use Rattle.lists.specs.Lists.{index_or}
+use Rattle.lists.specs.Options.{coded}
 use Rattle.sheet.specs.Sheet.{Sheet}
 use Rattle.sheet.specs.Reading.{accepted}
 use Rattle.model.specs.Mutant.{slots, later}
 use Rattle.model.specs.Operations.{first_high, with_mutant, refuse_at}
 use Rattle.model.specs.Tray.{slots_for}
 use Rattle.model.proofs.laws.OperationLaw.{high-first, mutant-high}
-use Rattle.machine.specs.declared.fitting.Fit.{Fit}
-use Rattle.machine.specs.declared.fitting.Fit.TheVariants as fit
-use Rattle.machine.specs.Fits.{fit_answer, fit_of}
+use Rattle.sheet.specs.declared.Refusal.{Refusal}
+use Rattle.sheet.specs.Tables.{refusal_of}
+use Rattle.machine.specs.Fits.{Fit, fit_answer, fit_of}
 use Rattle.machine.specs.laws.FitsLaw.{fit-mutant}
 use Rattle.tray.proofs.BoardLaw.{first-board, next-board}
 
@@ -72,9 +73,8 @@ pub low-none : {cs tray : List ℕ} {boards : ℕ} → length tray ≡ boards * 
 low-none {cs} {tray} {boards} e = record { left = boards; long = omega (arith, e); same = sym (shifted-zero (first_high (slots_for boards cs) tray)) }
 
 module _ {cs tray : List ℕ} {boards at : ℕ} (inv : LowTo cs boards tray at) where
-  pub low-all : length tray ≤ at → at ≡ index_or (length tray) (first_high (slots_for boards cs) tray)
-  low-all l =
-      rw (inv.same, drop_of_length-le tray l, high-nil (slots_for inv.left cs)) (omega (arith, inv.long))
+  pub low-all : length tray ≤ at → None ≡ coded (first_high (slots_for boards cs) tray)
+  low-all l = rw (inv.same, drop_of_length-le tray l, high-nil (slots_for inv.left cs)) refl
 
   module _ (l : at < length tray) where
     -- a board more
@@ -122,24 +122,25 @@ module _ {cs tray : List ℕ} {boards at : ℕ} (inv : LowTo cs boards tray at) 
         }
 
     -- it is not
-    pub low-high : (j : ℕ) → first_high cs (take (length cs) (drop at tray)) ≡ some j → at + j ≡ index_or (length tray) (first_high (slots_for boards cs) tray)
+    pub low-high : (j : ℕ) → first_high cs (take (length cs) (drop at tray)) ≡ some j → Some (at + j) ≡ coded (first_high (slots_for boards cs) tray)
     low-high j e = rw (parted, e) refl
 
 -- ---- as a board is refused
 
 module _ (sh : Sheet) (b : List ℕ) {f : Fit} (is : f ≡ fit_of sh b) where
-  pub fit_none : f ≡ fit.Mutant → first_high (slots sh) b ≡ none
+  pub fit_none : f ≡ Ok tt → first_high (slots sh) b ≡ none
   fit_none e = mutant-high sh b (fit-mutant sh b (sym is ∙ e))
 
-  pub fit-some : {number place : ℕ} → length b ≡ length (slots sh) → f ≡ fit.Refused number place → first_high (slots sh) b ≡ some place
+  pub fit-some : {why : Refusal} → length b ≡ length (slots sh) → f ≡ Err why → first_high (slots sh) b ≡ some why.place
   unfolding fit_of with_mutant
-  fit-some {number} {place} long e = go (first_high (slots sh) b) (rw (eq-eqb (length b) (length (slots sh)) long) at (sym is ∙ e))
+  fit-some {why} long e = go (first_high (slots sh) b) (rw (eq-eqb (length b) (length (slots sh)) long) at (sym is ∙ e))
     where
-      go : (o : Option ℕ) → fit_answer (refuse_at o 14 (accepted tt)) ≡ fit.Refused number place → o ≡ some place
+      at_place : Refusal → Option ℕ
+      at_place r = some r.place
+
+      go : (o : Option ℕ) → fit_answer (refuse_at o 14 (accepted tt)) ≡ Err why → o ≡ some why.place
       go none h = never (cc)
-      go (some i) h =
-          let same : i ≡ place = cc in
-          ap some same
+      go (some i) h = let same : refusal_of 14 i ≡ why = cc in ap at_place same
 
 -- ---- a turn of the loop, with the board as it is lent
 
@@ -154,18 +155,18 @@ module _ (sh : Sheet) {boards : ℕ} {tray : List ℕ} {at n : ℕ} (inv : LowTo
     is-there : f ≡ fit_of sh (take (length (slots sh)) (drop at tray))
     is-there = is ∙ ap (fit_of sh) lent
 
-    pub turn_more : f ≡ fit.Mutant → LowTo (slots sh) boards tray (at + n)
+    pub turn_more : f ≡ Ok tt → LowTo (slots sh) boards tray (at + n)
     turn_more e = rw count (low-more inv l (fit_none sh (take (length (slots sh)) (drop at tray)) is-there e))
 
-    module _ {number place : ℕ} (e : f ≡ fit.Refused number place) where
-      high : first_high (slots sh) (take (length (slots sh)) (drop at tray)) ≡ some place
+    module _ {why : Refusal} (e : f ≡ Err why) where
+      high : first_high (slots sh) (take (length (slots sh)) (drop at tray)) ≡ some why.place
       high = fit-some sh (take (length (slots sh)) (drop at tray)) is-there (low-long inv l) e
 
-      pub turn-high : at + place ≡ index_or (length tray) (first_high (slots_for boards (slots sh)) tray)
-      turn-high = low-high inv l place high
+      pub turn-high : Some (at + why.place) ≡ coded (first_high (slots_for boards (slots sh)) tray)
+      turn-high = low-high inv l why.place high
 
-      pub turn_below : at + place < length tray
-      turn_below = omega (arith, (high-first (slots sh) (take (length (slots sh)) (drop at tray)) place high).is, low-long inv l, low_end inv l)
+      pub turn_below : at + why.place < length tray
+      turn_below = omega (arith, (high-first (slots sh) (take (length (slots sh)) (drop at tray)) why.place high).is, low-long inv l, low_end inv l)
 
 -- ---- board by board
 

@@ -1,24 +1,22 @@
 -- From an accepted sheet to the answer, and what it tells.
+use Rattle.std.specs.Prelude.{Ok, Err, Option as Maybe, Some, None}
 use Rattle.std.specs.Prelude.{◌*◌, ◌<◌, ◌≤◌, ◌≡◌}
 use Rattle.lists.specs.Proving.{arith, ℕ, refl, sym, ◌∙◌, ap, subst, Bool, true, false, Option, none, some, List, length, take, drop, eqb, eqb-true, eq-eqb, lt-ltb, le-ltb, never}
 use lib.ListN.{length-map}
 use lib.Seq.{take_at}
-use Rattle.lists.specs.Lists.{index_or, overlay}
-use Rattle.sheet.specs.declared.Reading.{Reading as ReadAnswer}
-use Rattle.sheet.specs.declared.Reading.TheVariants as read
+use Rattle.lists.specs.Lists.{overlay}
+use Rattle.lists.specs.Options.{coded}
+use Rattle.sheet.specs.declared.Refusal.{Refusal}
 use Rattle.sheet.specs.Sheet.{Sheet}
 use Rattle.sheet.specs.Reading.{accepted, refused, Reading, reading}
-use Rattle.sheet.specs.Tables.{read_answer}
+use Rattle.sheet.specs.Tables.{refusal_of}
 use Rattle.model.specs.Mutant.{slots, IsMutant}
 use Rattle.model.specs.Suite.{first_failed_of, finding_of}
 use Rattle.model.specs.Operations.{first_high, failing}
 use Rattle.model.specs.Tray.{result_of, boards_in, slots_for, try_on, trying, board_at}
 use Rattle.model.proofs.laws.OperationLaw.{high-first, is-mutant, choice-too-high}
 use Rattle.model.proofs.laws.TrayLaw.{tray-told}
-use Rattle.block.specs.laws.OpenedLaw.{closed-by}
-use Rattle.tray.specs.declared.Tried.{Tried}
-use Rattle.tray.specs.declared.Tried.TheVariants as tried
-use Rattle.tray.specs.Answers.{tried_answer, Tries, HighMeans, TriedSays, ToldTried}
+use Rattle.tray.specs.Answers.{Tried, tried_answer, Tries, HighMeans, TriedSays, ToldTried}
 use Rattle.tray.specs.words.Trays.{TrayOf, results_of}
 use Rattle.tray.proofs.BoardLaw.{boards-many, board-long}
 use Rattle.tray.proofs.HighLaw.{HighBoard, ByBoards, by-boards}
@@ -48,8 +46,8 @@ module _ (sh : Sheet) (boards : ℕ) (tray : List ℕ) (room : ℕ) where
           is-mutant sh (board_at sh tray i) (board-long boards (length (slots sh)) tray long i l)
           (subst (λ (o : Option ℕ). ByBoards (slots sh) boards tray o) e (by-boards (slots sh) boards tray) i l)
 
-tries-refused : (sh : Sheet) (boards : ℕ) (tray old : List ℕ) {number place : ℕ} → try_on sh boards tray (length old) ≡ refused number place →
-    Tries (try_on sh boards tray (length old)) (tried.Refused number place) old old
+tries-refused : (sh : Sheet) (boards : ℕ) (tray old : List ℕ) {why : Refusal} → try_on sh boards tray (length old) ≡ refused why.number why.place →
+    Tries (try_on sh boards tray (length old)) (Err why) old old
 tries-refused sh boards tray old e = record { answer = rw e refl; numbers = rw e refl }
 
 -- as the code goes
@@ -57,37 +55,37 @@ module _ (sh : Sheet) (boards : ℕ) (tray old : List ℕ) {t : Bool} {n : ℕ} 
   exactly : t ≡ eqb (length tray) (boards * length (slots sh))
   exactly = measured ∙ ap (λ (k : ℕ). eqb (length tray) (boards * k)) count
 
-  pub tries-length : t ≡ false → Tries (try_on sh boards tray (length old)) (tried.Refused 13 0) old old
+  pub tries-length : t ≡ false → Tries (try_on sh boards tray (length old)) (Err (refusal_of 13 0)) old old
   tries-length e = tries-refused sh boards tray old (on-length sh boards tray (length old) (sym exactly ∙ e))
 
   module _ (e : t ≡ true) where
     pub tray-long : length tray ≡ boards * length (slots sh)
     tray-long = eqb-true (length tray) (boards * length (slots sh)) (sym exactly ∙ e)
 
-    module _ {high : ℕ} (found : high ≡ index_or (length tray) (first_high (slots_for boards (slots sh)) tray)) where
-      pub tries-high : high < length tray → Tries (try_on sh boards tray (length old)) (tried.Refused 14 high) old old
-      tries-high l = tries-refused sh boards tray old (on-high sh boards tray (length old) tray-long high (go (first_high (slots_for boards (slots sh)) tray) found))
+    module _ {o : Maybe ℕ} (found : o ≡ coded (first_high (slots_for boards (slots sh)) tray)) where
+      pub tries-high : {high : ℕ} → o ≡ Some high → Tries (try_on sh boards tray (length old)) (Err (refusal_of 14 high)) old old
+      tries-high {high} e = tries-refused sh boards tray old (on-high sh boards tray (length old) tray-long high (go (first_high (slots_for boards (slots sh)) tray) (sym e ∙ found)))
         where
-          go : (o : Option ℕ) → high ≡ index_or (length tray) o → o ≡ some high
-          go none h = absurd (omega arith)
-          go (some i) h = ap some (sym h)
+          go : (p : Option ℕ) → Some high ≡ coded p → p ≡ some high
+          go none h = never (cc)
+          go (some i) h = cc
 
-      module _ (l : length tray ≤ high) where
+      module _ (l : o ≡ None) where
         low : first_high (slots_for boards (slots sh)) tray ≡ none
-        low = go (first_high (slots_for boards (slots sh)) tray) refl found
+        low = go (first_high (slots_for boards (slots sh)) tray) (sym l ∙ found)
           where
-            go : (o : Option ℕ) → first_high (slots_for boards (slots sh)) tray ≡ o → high ≡ index_or (length tray) o → o ≡ none
-            go none f h = refl
-            go (some i) f h = absurd (omega (arith, (high-first (slots_for boards (slots sh)) tray i f).is))
+            go : (p : Option ℕ) → None ≡ coded p → p ≡ none
+            go none h = refl
+            go (some i) h = never (cc)
 
-        pub tries-short : length old < boards → Tries (try_on sh boards tray (length old)) (tried.Refused 16 0) old old
+        pub tries-short : length old < boards → Tries (try_on sh boards tray (length old)) (Err (refusal_of 16 0)) old old
         tries-short s = tries-refused sh boards tray old (on-short sh boards tray (length old) tray-long low s)
 
         module _ (room : boards ≤ length old) where
           pub tray-of : TrayOf sh boards tray (length old)
           tray-of = record { long = tray-long; mutants = mutants sh boards tray (length old) tray-long low; fits = room }
 
-          pub tries-done : {new : List ℕ} → new ≡ overlay (results_of sh boards tray) old → Tries (try_on sh boards tray (length old)) tried.Done old new
+          pub tries-done : {new : List ℕ} → new ≡ overlay (results_of sh boards tray) old → Tries (try_on sh boards tray (length old)) (Ok tt) old new
           tries-done e = let o = on_room sh boards tray (length old) tray-long low room in record { answer = rw o refl; numbers = rw o e }
 
 -- ---- what it tells
@@ -124,14 +122,13 @@ module _ (s : List ℕ) (sh : Sheet) (is : reading s ≡ accepted sh) (boards : 
 
 module _ (s : List ℕ) (boards : ℕ) (tray old : List ℕ) where
   -- a sheet refused on reading: the same number and place, and nothing is written
-  pub tried-refused : (a : ReadAnswer) (number place : ℕ) (r : Tried) → a ≡ read_answer (reading s) → a ≡ read.Refused number place → r ≡ tried.Refused number place →
+  pub tried-refused : {why : Refusal} → reading s ≡ refused why.number why.place → {r : Tried} → r ≡ Err why →
       Tries (trying s boards tray (length old)) r old old × ToldTried s boards tray (length old) r old
   unfolding trying ToldTried
-  tried-refused a number place r e er ea =
-      let h = closed-by s e number place er in (
-        record { answer = rw h ea; numbers = rw h refl },
-        λ sh es. let same : ◌≡◌ {A = Reading} (accepted sh) (refused number place) = sym es ∙ h in never (cc),
-      )
+  tried-refused {why} h er = (
+    record { answer = rw h er; numbers = rw h refl },
+    λ sh es. let same : ◌≡◌ {A = Reading} (accepted sh) (refused why.number why.place) = sym es ∙ h in never (cc),
+  )
 
   trying-is : (sh : Sheet) → reading s ≡ accepted sh → trying s boards tray (length old) ≡ try_on sh boards tray (length old)
   unfolding trying

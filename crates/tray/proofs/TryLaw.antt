@@ -1,4 +1,5 @@
 -- The results of a tray's mutants, one after another.
+use Rattle.std.specs.Prelude.{Result as Answer, Ok, Err, Option as Maybe, Some, None, IsOk}
 use Rattle.std.specs.Prelude.{◌+◌, ◌-◌, ◌*◌, ◌<◌, ◌≤◌, ◌≡◌, ◌∷◌, ◌++◌}
 use Rattle.lists.specs.Proving.{arith, ℕ, suc, refl, sym, ◌∙◌, ap, Option, none, some, List, [], length, set, take, drop, length-set, append_snoc, drop-cons, add-one, never}
 use mathlib.Core.List.{map}
@@ -16,57 +17,62 @@ use Rattle.model.specs.Tray.{result_of, boards_in, board_at}
 use Rattle.model.proofs.laws.SuiteLaw.{failed-means}
 use Rattle.block.specs.Logged.{observations}
 use Rattle.logs.specs.declared.walk.Wrong.{Wrong}
-use Rattle.logs.specs.declared.walk.Wrong.TheVariants as wrong
-use Rattle.logs.specs.Walked.{moves_in, wrong_of}
+use Rattle.logs.specs.Walked.{moves_in, wrong_at, wrong_of}
 use Rattle.logs.specs.laws.WalkedLaw.{walked-failed}
 use Rattle.machine.specs.declared.laying.Machine.{Machine}
-use Rattle.machine.specs.Fits.{Machined}
+use Rattle.sheet.specs.declared.Refusal.{Refusal}
+use Rattle.machine.specs.Fits.{Machined, MachinedBy}
+use Rattle.machine.specs.laws.FitsLaw.{not-mutant}
+use Rattle.logs.specs.Suites.{SuiteIn, Logged}
 use Rattle.search.specs.Search.{ForSheet}
 use Rattle.search.specs.laws.TabulatesLaw.{tabulates}
-use Rattle.tray.specs.words.Trays.{Low, TrayOf, results_of}
+use Rattle.tray.specs.words.Trays.{TrayOf, results_of}
 use Rattle.tray.proofs.BoardLaw.{boards-many, boards-more, board-end}
-
--- ---- what the walk finds, as a result
-
-module _ (o : Option Place) {w : Wrong} (is : w ≡ wrong_of o) where
-  pub result-none : w ≡ wrong.Nothing → 65535 ≡ result_of o
-  result-none e = go o (sym e ∙ is)
-    where
-      go : (p : Option Place) → wrong.Nothing ≡ wrong_of p → 65535 ≡ result_of p
-      go none h = refl
-      go (some f) h = never (cc)
-
-  pub result-some : {test position : ℕ} → w ≡ wrong.At test position → test ≡ result_of o
-  result-some {test} {position} e = go o (sym e ∙ is)
-    where
-      go : (p : Option Place) → wrong.At test position ≡ wrong_of p → test ≡ result_of p
-      go none h = never (cc)
-      go (some f) h = cc
-
-  pub result_low : {test position : ℕ} → w ≡ wrong.At test position → Low o → test < 65536
-  result_low {test} {position} e low = go o (sym e ∙ is) low
-    where
-      go : (p : Option Place) → wrong.At test position ≡ wrong_of p → Low p → test < 65536
-      go none h lw = never (cc)
-      go (some f) h lw =
-          let same : test ≡ f.test = cc in
-          omega (arith, same, lw)
 
 -- ---- one mutant, along the suite's log
 
-module _ {sh : Sheet} {m log b : List ℕ} {r : Machine} (su : ForSheet sh m log) (is : Machined sh b r) (mutant : IsMutant sh b) where
-  pub walked : failed_in (moves_in r.output r.target) r.start r.start 0 0 (observations log) ≡ first_failed_of sh b
-  walked =
+module _ {sh : Sheet} {m log b : List ℕ} {r : Machine} (su : ForSheet sh m log) (is : Machined sh b r) {w : Maybe Wrong}
+    (ew : w ≡ wrong_of (failed_in (moves_in r.output r.target) r.start r.start 0 0 (observations log))) where
+  found : w ≡ wrong_of (first_failed_of sh b)
+  found =
       let wf = su.tabled.formed in
-      ap (failed_in (moves_in r.output r.target) r.start r.start 0 0) su.suite
-      ∙ walked-failed sh wf b (tabulates wf b (is.moves mutant)) r.start (is.start mutant)
+      ew
+      ∙ ap wrong_of (ap (failed_in (moves_in r.output r.target) r.start r.start 0 0) su.suite ∙ walked-failed sh wf b (tabulates wf b is.moves) r.start is.start)
 
-  pub walked_low : Low (failed_in (moves_in r.output r.target) r.start r.start 0 0 (observations log))
-  walked_low = rw walked (go (first_failed_of sh b) (failed-means sh b su.tabled.formed))
+  pub passes : w ≡ None → 65535 ≡ result_of (first_failed_of sh b)
+  passes e = go (first_failed_of sh b) (sym e ∙ found)
     where
-      go : (o : Option Place) → FailedMeans sh b o → Low o
-      go none h = tt
-      go (some f) h = omega (arith, h.is, su.tabled.formed.few-tests)
+      go : (o : Option Place) → None ≡ wrong_of o → 65535 ≡ result_of o
+      go none h = refl
+      go (some f) h = never (cc)
+
+  module _ {v : Wrong} (e : w ≡ Some v) where
+    pub fails : v.test ≡ result_of (first_failed_of sh b)
+    fails = go (first_failed_of sh b) (sym e ∙ found)
+      where
+        go : (o : Option Place) → Some v ≡ wrong_of o → v.test ≡ result_of o
+        go none h = never (cc)
+        go (some f) h = let same : v ≡ wrong_at f = cc in ap (λ (x : Wrong). x.test) same
+
+    -- a test's number has 16 bits
+    pub few : v.test < 65536
+    few = go (first_failed_of sh b) (failed-means sh b su.tabled.formed) (sym e ∙ found)
+      where
+        go : (o : Option Place) → FailedMeans sh b o → Some v ≡ wrong_of o → v.test < 65536
+        go none f h = never (cc)
+        go (some p) f h =
+            let same : v ≡ wrong_at p = cc in
+            let test : v.test ≡ p.test = ap (λ (x : Wrong). x.test) same in
+            omega (arith, test, f.is, su.tabled.formed.few-tests)
+
+-- a mutant has a machine
+pub machine-ok : (sh : Sheet) (b : List ℕ) → IsMutant sh b → (o : Answer Machine Refusal) → MachinedBy sh b o → IsOk o
+machine-ok sh b is (Ok r) h = refl
+machine-ok sh b is (Err why) h = absurd (not-mutant sh b why h is)
+
+-- the suite's log
+pub by-log : {sh : Sheet} {s starts lengths m log : List ℕ} {tests room n : ℕ} → SuiteIn sh s starts lengths tests m room → Logged sh log n → ForSheet sh m (take n log)
+by-log su lg = record { tabled = su.tabled; suite = lg.is }
 
 -- ---- the loop: the results of the first i stand at the front
 

@@ -1,17 +1,21 @@
 -- What a tray of mutants answers and writes, and what that tells.
+use Rattle.std.specs.Prelude.{Result as Answer, Ok, Err}
 use Rattle.std.specs.Prelude.{ℕ, ◌+◌, ◌*◌, ◌<◌, ◌≤◌, ◌≡◌, List, [], length, take}
 use Rattle.lists.specs.Lists.{overlay}
+use Rattle.sheet.specs.declared.Refusal.{Refusal}
 use Rattle.sheet.specs.Sheet.{Sheet}
 use Rattle.sheet.specs.Reading.{Result, accepted, refused, reading}
+use Rattle.sheet.specs.Tables.{answer_by}
 use Rattle.model.specs.Mutant.{slots, IsMutant}
 use Rattle.model.specs.Operations.{failing}
 use Rattle.model.specs.Tray.{board_at, TrayMeans}
-use Rattle.tray.specs.declared.Tried.{Tried}
-use Rattle.tray.specs.declared.Tried.TheVariants as tried
+
+-- each mutant was tried, or why the tray is refused
+abbrev pub Tried : Type 0
+Tried = Answer (Unit {0}) Refusal
 
 abbrev pub tried_answer : Result (List ℕ) → Tried
-tried_answer (accepted results) = tried.Done
-tried_answer (refused number place) = tried.Refused number place
+tried_answer r = answer_by (λ results. tt) r
 
 -- what is written: a number for each mutant; nothing on a refusal
 abbrev pub tried_writes : Result (List ℕ) → List ℕ
@@ -34,8 +38,8 @@ pub record HighMeans (s : List ℕ) (sh : Sheet) (boards : ℕ) (tray : List ℕ
 
 -- at the front of the results stands what First failed test answers of each board alone; or 14, for the first board that it refuses
 abbrev pub TriedSays : List ℕ → Sheet → ℕ → List ℕ → Tried → List ℕ → Type 0
-TriedSays s sh boards tray tried.Done results = TrayMeans s sh boards tray (take boards results)
-TriedSays s sh boards tray (tried.Refused number place) results = (number ≡ 14) × HighMeans s sh boards tray place
+TriedSays s sh boards tray (Ok u) results = TrayMeans s sh boards tray (take boards results)
+TriedSays s sh boards tray (Err why) results = (why.number ≡ 14) × HighMeans s sh boards tray why.place
 
 -- of an accepted sheet, so many boards, and a number for each
 unfoldable pub ToldTried : List ℕ → ℕ → List ℕ → ℕ → Tried → List ℕ → Type 0

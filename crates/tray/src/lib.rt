@@ -12,31 +12,20 @@ ghost use Rattle.tray.specs.Answers.{tried_answer, tried_writes, ToldTried};
 mod boards;
 mod fitting;
 
-use block::{fresh, load};
-use sheet::{Reading, refusal_of};
-
-// What a tray answers: each mutant was tried.
-#[derive(Clone, Copy)]
-pub enum Tried {
-    Done,
-    Refused(u8, usize),
-}
+use block::load;
+use sheet::Refusal;
 
 // The number of the first failed test of each mutant, 65,535 for none, at the front of the results.
-pub fn first_failures(sheet: &[u8], boards: usize, choices: &[u8], results: &mut [u16]) -> Tried
+pub fn first_failures(
+    sheet: &[u8],
+    boards: usize,
+    choices: &[u8],
+    results: &mut [u16],
+) -> Result<(), Refusal>
     ensures answer { result ≡ tried_answer (trying sheet.now boards choices.now (length results.old)) }
     ensures numbers { results.new ≡ overlay (tried_writes (trying sheet.now boards choices.now (length results.old))) results.old }
     ensures told { ToldTried sheet.now boards choices.now (length results.old) result results.new }
 {
-    let mut block = fresh();
-    let mut starts = [0u16; 256];
-    let mut lengths = [0u16; 256];
-    let reading = load(sheet, &mut block, &mut starts, &mut lengths);
-    let Reading::Accepted(size) = reading else {
-        let why = refusal_of(reading);
-        return Tried::Refused(why.number, why.place);
-    };
-    boards::try_accepted(
-        sheet, &starts, &lengths, size.tests, &block, boards, choices, results,
-    )
+    let loaded = load(sheet)?;
+    boards::try_loaded(&loaded, boards, choices, results)
 }

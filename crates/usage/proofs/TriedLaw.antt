@@ -20,10 +20,10 @@ pub record Marking (m targets sheet : List ℕ) (whole used s at left : ℕ) : T
   pub is : mark_from (acts_in m targets) used s (inputs_at sheet at left) ≡ whole
 
 module _ {m targets sheet : List ℕ} {whole used s at left : ℕ} (h : Marking m targets sheet whole used s at left) where
-  pub marking-more : {k next : ℕ} → 0 < left → k ≡ pair (s % 16) (get_or sheet (at + 1) 0 % 16) → next ≡ mark used (slot_at m k) →
-      Marking m targets sheet whole next (get_or targets k 0) (at + 2) (left - 1)
+  pub marking-more : {k next on rest : ℕ} → 0 < left → k ≡ pair (s % 16) (get_or sheet (at + 1) 0 % 16) → next ≡ mark used (slot_at m k) → on ≡ at + 2 → rest ≡ left - 1 →
+      Marking m targets sheet whole next (get_or targets k 0) on rest
   unfolding mark_from acts_in
-  marking-more l ek en =
+  marking-more l ek en eo er = rw (eo, er)
       record {
         inside = omega (arith, h.inside);
         is = rw (en, ek) (sym (ap (mark_from (acts_in m targets) used s) (inputs-more sheet at left l)) ∙ h.is);

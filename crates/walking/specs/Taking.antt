@@ -1,22 +1,28 @@
 -- What take answers and writes (02, Point 8).
+use Rattle.std.specs.Prelude.{Result as Answer, Ok, Err, Option as Maybe, Some, None}
 use Rattle.std.specs.Prelude.{ℕ, ◌*◌, ◌≤◌, ◌≡◌, List, [], length, take}
 use Rattle.std.proofs.Math.Option.{Option, none, some}
 use Rattle.lists.specs.Lists.{overlay}
+use Rattle.sheet.specs.declared.Refusal.{Refusal}
 use Rattle.sheet.specs.Sheet.{Sheet}
 use Rattle.sheet.specs.Reading.{Result, accepted, refused, reading}
+use Rattle.sheet.specs.Tables.{answer_by}
 use Rattle.model.specs.Mutant.{slots, IsMutant, Conforming}
 use Rattle.model.specs.Compare.{found}
 use Rattle.model.specs.Verdict.{ShortestOf}
-use Rattle.model.specs.Walk.{Standing, start, after, end, Remains, FirstRemaining}
+use Rattle.model.specs.Walk.{Standing, start, after, end, with_standing, Remains, FirstRemaining}
 use Rattle.model.specs.Walk.{Taken as Next}
-use Rattle.machine.specs.declared.product.Difference.{Difference}
-use Rattle.machine.specs.declared.product.Difference.TheVariants as difference
+use Rattle.machine.specs.Differences.{Difference, difference_of}
+use Rattle.machine.specs.Fits.{fit_answer}
+use Rattle.search.specs.Search.{LastOk}
 use Rattle.search.specs.declared.settle.Beginning.{Beginning}
 use Rattle.search.specs.declared.settle.Beginning.TheVariants.{Front, After}
 use Rattle.walking.specs.declared.Place.{Place}
 use Rattle.walking.specs.declared.Place.TheVariants as place
-use Rattle.walking.specs.declared.Taken.{Taken}
-use Rattle.walking.specs.declared.Taken.TheVariants as taken
+
+-- a mutant with what tells it from the specification, none at the walk's end; or why the take is refused
+abbrev pub Taken : Type 0
+Taken = Answer (Maybe Difference) Refusal
 
 -- the place of a walk: of the mutant beside it only `Last` speaks
 abbrev pub standing : Place → List ℕ → Standing
@@ -25,26 +31,23 @@ standing place.Last last = after last
 standing place.End last = end
 
 -- where a search begins
-abbrev pub standing_from : Beginning → List ℕ → Standing
-standing_from Front last = start
-standing_from After last = after last
+abbrev pub standing_from : Beginning → Standing
+standing_from Front = start
+standing_from (After last) = after last.now
 
--- compare's answer
-abbrev pub compared_taken : Option (List ℕ) → Taken
-compared_taken none = taken.Conforms
-compared_taken (some xs) = taken.Departs (length xs)
+-- what a take from a place begins with, nothing at the end; or why the last mutant taken is refused
+abbrev pub Begins : Sheet → Standing → Answer (Maybe Beginning) Refusal → Type 0
+Begins sh at (Ok None) = at ≡ end
+Begins sh at (Ok (Some from)) = (at ≡ standing_from from) × LastOk from sh
+Begins sh at (Err why) = fit_answer (with_standing sh at (accepted tt)) ≡ Err why
 
-abbrev pub taken_by : Difference → Taken
-taken_by difference.Nothing = taken.Conforms
-taken_by (difference.Shown d) = taken.Departs d
-
-abbrev pub next_taken : Option Next → Taken
-next_taken none = taken.End
-next_taken (some t) = compared_taken t.compared
+-- compare's answer, none at the end
+abbrev pub next_taken : Option Next → Maybe Difference
+next_taken none = None
+next_taken (some t) = Some (difference_of t.compared)
 
 abbrev pub taken_answer : Result (Option Next) → Taken
-taken_answer (accepted o) = next_taken o
-taken_answer (refused number place) = taken.Refused number place
+taken_answer r = answer_by next_taken r
 
 -- what it writes: the mutant's choices, and its distinguishing sequence, if there is one
 abbrev pub next_board : Option Next → List ℕ
@@ -71,11 +74,11 @@ pub record Takes (result : Result (Option Next)) (r : Taken) (old_board new_boar
 
 -- 02: the next passing board in dictionary order, with the answer of compare, or the end
 abbrev pub TakenSays : Sheet → Standing → Taken → List ℕ → List ℕ → Type 0
-TakenSays sh at taken.Conforms board sequence = FirstRemaining sh at (take (length (slots sh)) board) × Conforming sh (take (length (slots sh)) board)
-TakenSays sh at (taken.Departs d) board sequence =
+TakenSays sh at (Ok (Some None)) board sequence = FirstRemaining sh at (take (length (slots sh)) board) × Conforming sh (take (length (slots sh)) board)
+TakenSays sh at (Ok (Some (Some d))) board sequence =
     FirstRemaining sh at (take (length (slots sh)) board) × ShortestOf sh (take (length (slots sh)) board) (take d sequence)
-TakenSays sh at taken.End board sequence = (b : List ℕ) → Remains sh at b → ⊥
-TakenSays sh at (taken.Refused number place) board sequence = ⊥
+TakenSays sh at (Ok None) board sequence = (b : List ℕ) → Remains sh at b → ⊥
+TakenSays sh at (Err why) board sequence = ⊥
 
 -- the last mutant taken is one of the sheet
 abbrev pub LastIs : Sheet → Standing → Type 0

@@ -1,12 +1,12 @@
 -- 02's Point 8, of whole walks: takes and tests added, one after another, from a sheet's bytes.
+use Rattle.std.specs.Prelude.{Result as Answer, Ok, Err, Some, None}
 use Rattle.std.specs.Prelude.{ℕ, ◌*◌, ◌≤◌, ◌≡◌, ◌⊎◌, length, take}
 use Rattle.std.proofs.Math.Option.{none, some}
 use mathlib.Core.List.{List, [], ◌∷◌, ◌++◌, map, Memᴰ}
 use Rattle.lists.specs.Lists.{All, Ascending, Before}
+use Rattle.sheet.specs.declared.Refusal.{Refusal}
 use Rattle.sheet.specs.Sheet.{Sheet}
 use Rattle.sheet.specs.Reading.{accepted, reading, with_tests}
-use Rattle.writing.specs.declared.Written.{Written}
-use Rattle.writing.specs.declared.Written.TheVariants as written
 use Rattle.adding.specs.Adding.{adding, Adds}
 use Rattle.model.specs.Mutant.{slots, IsMutant}
 use Rattle.model.specs.Suite.{Passes, Judgement, complete, judge_of, or_else}
@@ -14,9 +14,7 @@ use Rattle.model.specs.Verdict.{ComparedMeans}
 use Rattle.model.specs.Walk.{Standing, start, after, end, taking, Remains}
 use Rattle.model.specs.Walk.{Taken as Next}
 use Rattle.model.proofs.laws.WalkLaw.{Once}
-use Rattle.walking.specs.declared.Taken.{Taken}
-use Rattle.walking.specs.declared.Taken.TheVariants as taken
-use Rattle.walking.specs.Taking.{Takes, LastIs}
+use Rattle.walking.specs.Taking.{Taken, Takes, LastIs}
 
 -- ---- calls
 -- a take: both buffers as lent, the answer, and the buffers after it
@@ -31,7 +29,7 @@ pub record TakeCall : Type 0 where
 pub record AddCall : Type 0 where
   pub presses : List ℕ
   pub buffer : List ℕ
-  pub answer : Written
+  pub answer : Answer ℕ Refusal
   pub new_buffer : List ℕ
 
 pub data Call : Type 0 where
@@ -48,15 +46,14 @@ walk_at s place = record { sheet = s; place = place }
 
 -- the place that a take leaves: the mutant taken, at the board buffer's front, is the last; a mutant has n choices
 abbrev pub place_after : ℕ → Standing → Taken → List ℕ → Standing
-place_after n place taken.Conforms board = after (take n board)
-place_after n place (taken.Departs d) board = after (take n board)
-place_after n place taken.End board = end
-place_after n place (taken.Refused number spot) board = place
+place_after n place (Ok (Some found)) board = after (take n board)
+place_after n place (Ok None) board = end
+place_after n place (Err why) board = place
 
 -- the sheet that an addition leaves: the longer one, at the buffer's front
-abbrev pub sheet_after : List ℕ → Written → List ℕ → List ℕ
-sheet_after s (written.Done n) buffer = take n buffer
-sheet_after s (written.Refused number place) buffer = s
+abbrev pub sheet_after : List ℕ → Answer ℕ Refusal → List ℕ → List ℕ
+sheet_after s (Ok n) buffer = take n buffer
+sheet_after s (Err why) buffer = s
 
 abbrev pub leaves : ℕ → Walk → Call → Walk
 leaves n w (took t) = walk_at w.sheet (place_after n w.place t.answer t.new_board)
@@ -80,10 +77,10 @@ left n w (c ∷ calls) = left n (leaves n w c) calls
 -- ---- what the answers show
 -- the mutant taken, with compare's answer
 abbrev pub shown : ℕ → Taken → List ℕ → List ℕ → List Next
-shown n taken.Conforms board sequence = record { mutant = take n board; compared = none } ∷ []
-shown n (taken.Departs d) board sequence = record { mutant = take n board; compared = some (take d sequence) } ∷ []
-shown n taken.End board sequence = []
-shown n (taken.Refused number place) board sequence = []
+shown n (Ok (Some None)) board sequence = record { mutant = take n board; compared = none } ∷ []
+shown n (Ok (Some (Some d))) board sequence = record { mutant = take n board; compared = some (take d sequence) } ∷ []
+shown n (Ok None) board sequence = []
+shown n (Err why) board sequence = []
 
 unfoldable pub taken_in : ℕ → List Call → List Next
 taken_in n [] = []
@@ -94,9 +91,9 @@ abbrev pub mutants_in : ℕ → List Call → List (List ℕ)
 mutants_in n calls = map (λ (t : Next). t.mutant) (taken_in n calls)
 
 -- the tests added
-abbrev pub test_of : Written → List ℕ → List (List ℕ)
-test_of (written.Done n) xs = xs ∷ []
-test_of (written.Refused number place) xs = []
+abbrev pub test_of : Answer ℕ Refusal → List ℕ → List (List ℕ)
+test_of (Ok n) xs = xs ∷ []
+test_of (Err why) xs = []
 
 unfoldable pub tests_in : List Call → List (List ℕ)
 tests_in [] = []
@@ -154,5 +151,5 @@ pub record RestOfWalk (sh : Sheet) (s : List ℕ) (before calls : List Call) : T
 
 -- with room in both buffers a take gives the end
 abbrev pub GivesEnd : Sheet → Call → Type 0
-GivesEnd sh (took t) = length (slots sh) ≤ length t.board → sh.size.states * sh.size.states ≤ length t.sequence → t.answer ≡ taken.End
+GivesEnd sh (took t) = length (slots sh) ≤ length t.board → sh.size.states * sh.size.states ≤ length t.sequence → t.answer ≡ Ok None
 GivesEnd sh (added a) = Unit {0}

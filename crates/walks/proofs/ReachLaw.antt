@@ -1,6 +1,6 @@
 -- The pairs of states in reach.
 use Rattle.std.specs.Prelude.{◌+◌, ◌/◌, ◌%◌, ◌^◌, ◌<◌, ◌≤◌, ◌≡◌}
-use Rattle.lists.specs.Proving.{arith, ℕ, refl, sym, ◌∙◌, ap, subst, ⊎_elim, by_cases, List, length, get_or, set, replicate, length-set, length-replicate, get_or-replicate, List·getD-eq-default, get_or-set_same, get_or-set_other, ℕ_discrete, dec_lt, below_more}
+use Rattle.lists.specs.Proving.{arith, never, ℕ, refl, sym, ◌∙◌, ap, subst, ⊎_elim, by_cases, List, length, get_or, set, replicate, length-set, length-replicate, get_or-replicate, List·getD-eq-default, get_or-set_same, get_or-set_other, ℕ_discrete, dec_lt, below_more}
 use Rattle.model.specs.Machine.{Move}
 use Rattle.block.specs.Layout.{pair, waking, rule_output, rule_target, states_of, inputs_of}
 use Rattle.block.specs.Tabulated.{Wf, Ranged, choice_of, chosen, step_of, start_of}
@@ -13,6 +13,7 @@ use Rattle.cubes.specs.laws.ConformLaw.{cell-none, step-low, conforms}
 use Rattle.walks.specs.Walks.{Agrees, Settled}
 use Rattle.walks.specs.Reaching.{Met, Further, StartReached, CellKnown, CellReached, RowReached, AllWithin}
 use Rattle.walks.specs.declared.reach.Reach.{Reach}
+use Rattle.walks.specs.declared.reach.Stop.TheVariants.{Closed, Wrong}
 use Rattle.walks.proofs.StandLaw.{agrees-fewer, start-settled}
 
 -- ---- a pair is met
@@ -46,10 +47,10 @@ known-further : {m p old new : List ℕ} {before after : Reach} {k x : ℕ} → 
 known-further f known = record { at = λ e l. cell-wider f.grows f.used (known.at (f.free e) l) }
 
 -- ---- the start
-pub start-stopped : {m p rows : List ℕ} {r : Reach} → r.count ≡ 0 → (r.stop ≡ 255 → ⊥) → StartReached m p rows rows r
+pub start-stopped : {m p rows : List ℕ} {r : Reach} → r.count ≡ 0 → (r.stop ≡ Closed → ⊥) → StartReached m p rows rows r
 start-stopped e n = record { grows = grows_none; few = omega (arith, e); start = λ f. absurd (n f) }
 
-pub start-met : {m p old new : List ℕ} {used count : ℕ} {step : Step} → Wf m → Settled m p used waking step → Met old new 0 step.target → count ≤ 256 → StartReached m p old new (record { used = used; count = count; stop = 255 })
+pub start-met : {m p old new : List ℕ} {used count : ℕ} {step : Step} → Wf m → Settled m p used waking step → Met old new 0 step.target → count ≤ 256 → StartReached m p old new (record { used = used; count = count; stop = Closed })
 start-met {m} {new = new} wf se met few = record {
   grows = met.grows;
   few = few;
@@ -62,7 +63,7 @@ start-met {m} {new = new} wf se met few = record {
 pub cell-undefined : {m p rows : List ℕ} {r : Reach} {k x : ℕ} → rule_target m (pair (k / 16) x) ≡ 255 → CellReached m p rows rows r r k x
 cell-undefined e = record { further = further-none; cell = record { at = λ f l. cell-none e } }
 
-pub cell-stopped : {m p rows : List ℕ} {before after : Reach} {k x : ℕ} → HasAll before.used after.used → after.count ≡ before.count → (after.stop ≡ 255 → ⊥) → CellReached m p rows rows before after k x
+pub cell-stopped : {m p rows : List ℕ} {before after : Reach} {k x : ℕ} → HasAll before.used after.used → after.count ≡ before.count → (after.stop ≡ Closed → ⊥) → CellReached m p rows rows before after k x
 cell-stopped more e n = record { further = record { grows = grows_none; used = more; few = λ l. omega (arith, e); free = λ f. absurd (n f) }; cell = record { at = λ f. absurd (n f) } }
 
 cell-settled : {m p rows : List ℕ} {used at s q x : ℕ} {step : Step} → Wf m → q < states_of m → x < inputs_of m → at ≡ pair q x → Settled m p used at step → step.output ≡ rule_output m (pair s x)
@@ -92,8 +93,8 @@ row-none = record { further = further-none; row = λ x l. absurd (omega arith) }
 pub row_more : {m p old mid new : List ℕ} {r s t : Reach} {k n : ℕ} → RowReached m p old mid r s k n → CellReached m p mid new s t k n → RowReached m p old new r t k (n + 1)
 row_more {n = n} row cell = record { further = further-more row.further cell.further; row = below_more _ n (λ x l. known-further cell.further (row.row x l)) cell.cell }
 
-pub row-stopped : {m p old mid new : List ℕ} {r s t : Reach} {k n w : ℕ} → RowReached m p old mid r s k n → CellReached m p mid new s t k n → t.stop ≡ 254 → RowReached m p old new r t k w
-row-stopped row cell e = record { further = further-more row.further cell.further; row = λ x l. record { at = λ f. absurd (omega (arith, e, f)) } }
+pub row-stopped : {m p old mid new : List ℕ} {r s t : Reach} {k n w : ℕ} → RowReached m p old mid r s k n → CellReached m p mid new s t k n → t.stop ≡ Wrong → RowReached m p old new r t k w
+row-stopped row cell e = record { further = further-more row.further cell.further; row = λ x l. record { at = λ f. never cc } }
 
 pub row-all : {m p old new : List ℕ} {r s : Reach} {k n w : ℕ} → RowReached m p old new r s k n → w ≤ n → RowReached m p old new r s k w
 row-all row l = record { further = row.further; row = λ x h. row.row x (omega arith) }
@@ -116,8 +117,8 @@ pub record Spreading (m p rows done : List ℕ) (r : Reach) : Type 0 where
   pub long : length rows ≡ 16
   pub done-long : length done ≡ 16
   pub few : r.count ≤ 256
-  pub start : r.stop ≡ 255 → (b : List ℕ) → Ranged m b → Agrees p r.used b → Has (get_or rows 0 0) (start_of m b)
-  pub known : (s q x : ℕ) → Has (get_or done s 0) q → x < inputs_of m → r.stop ≡ 255 → q < states_of m → CellOk m (Agrees p r.used) rows s q x
+  pub start : r.stop ≡ Closed → (b : List ℕ) → Ranged m b → Agrees p r.used b → Has (get_or rows 0 0) (start_of m b)
+  pub known : (s q x : ℕ) → Has (get_or done s 0) q → x < inputs_of m → r.stop ≡ Closed → q < states_of m → CellOk m (Agrees p r.used) rows s q x
 
 none-there : (n s : ℕ) → ◌≡◌ {A = ℕ} (get_or (replicate n 0) s 0) 0
 none-there n s = by_cases (dec_lt s n) (λ l. get_or-replicate n s 0 0 l) (λ g. List·getD-eq-default (replicate n 0) 0 (omega (arith, length-replicate {A = ℕ} n 0)))
@@ -141,13 +142,13 @@ spreading-more {m} {p} {rows} {done} {more} {r} {t} {k} {j} {e} {u} ej lj sp row
   known = λ s q x h. go s q x (ℕ_discrete s j) h;
 }
   where
-    old : (s q x : ℕ) → Has (get_or done s 0) q → x < inputs_of m → t.stop ≡ 255 → q < states_of m → CellOk m (Agrees p t.used) more s q x
+    old : (s q x : ℕ) → Has (get_or done s 0) q → x < inputs_of m → t.stop ≡ Closed → q < states_of m → CellOk m (Agrees p t.used) more s q x
     old s q x h lx f lq = cell-wider row.further.grows row.further.used (sp.known s q x h lx (row.further.free f) lq)
 
-    new : (q x : ℕ) → q ≡ k % 16 → x < inputs_of m → t.stop ≡ 255 → q < states_of m → CellOk m (Agrees p t.used) more j q x
+    new : (q x : ℕ) → q ≡ k % 16 → x < inputs_of m → t.stop ≡ Closed → q < states_of m → CellOk m (Agrees p t.used) more j q x
     new q x eq lx f lq = rw (ej, eq) ((row.row x lx).at f (rw eq at lq))
 
-    go : (s q x : ℕ) → Dec (s ≡ j) → Has (get_or (set done j u) s 0) q → x < inputs_of m → t.stop ≡ 255 → q < states_of m → CellOk m (Agrees p t.used) more s q x
+    go : (s q x : ℕ) → Dec (s ≡ j) → Has (get_or (set done j u) s 0) q → x < inputs_of m → t.stop ≡ Closed → q < states_of m → CellOk m (Agrees p t.used) more s q x
     go s q x (no n) h lx f lq = old s q x (subst (λ (v : ℕ). Has v q) (get_or-set_other done j s u 0 n) h) lx f lq
     go s q x (yes es) h lx f lq =
         let here : get_or (set done j u) s 0 ≡ u = ap (λ (n : ℕ). get_or (set done j u) n 0) es ∙ get_or-set_same done j u 0 (omega (arith, sp.done-long)) in
@@ -155,7 +156,7 @@ spreading-more {m} {p} {rows} {done} {more} {r} {t} {k} {j} {e} {u} ej lj sp row
         (⊎_elim (λ a. old j q x a lx f lq) (λ a. new q x (alone ee a) lx f lq) (jo.only q (subst (λ (v : ℕ). Has v q) here h)))
 
 -- every pair in reach is done: those that have the choices used conform
-pub spreading-all : {m p rows done : List ℕ} {r : Reach} → Wf m → Spreading m p rows done r → AllWithin m rows done → r.stop ≡ 255 → Conform m (Agrees p r.used)
+pub spreading-all : {m p rows done : List ℕ} {r : Reach} → Wf m → Spreading m p rows done r → AllWithin m rows done → r.stop ≡ Closed → Conform m (Agrees p r.used)
 spreading-all {m} {p} {rows} wf sp within e =
     conforms {a = states_of m} wf
     (record { at = λ s ls. record { at = λ q lq. record { at = λ has x lx. sp.known s q x (within.at s ls q has) lx e lq } } })

@@ -1,6 +1,6 @@
 -- A settled part by the choices of a suspect.
-use Rattle.std.specs.Prelude.{◌+◌, ◌<◌, ◌≤◌, ◌≡◌}
-use Rattle.lists.specs.Proving.{arith, ℕ, sym, ◌∙◌, ap, subst, true, by_cases, List, length, get_or, set, List·getD-eq-default, get_or-set_same, get_or-set_other, ℕ_discrete, dec_lt}
+use Rattle.std.specs.Prelude.{◌+◌, ◌<◌, ◌≤◌, ◌≡◌, true, Option as Maybe, Some, None, is_some}
+use Rattle.lists.specs.Proving.{arith, ℕ, sym, ◌∙◌, ap, subst, never, by_cases, List, length, get_or, set, List·getD-eq-default, get_or-set_same, get_or-set_other, ℕ_discrete, dec_lt}
 use Rattle.block.specs.Tabulated.{Ranged}
 use Rattle.cubes.specs.Sets.{Has, Joined}
 use Rattle.cubes.specs.Cube.{Sought, Conform, Extends}
@@ -8,7 +8,6 @@ use Rattle.cubes.specs.declared.goal.Goal.{Goal}
 use Rattle.cubes.specs.declared.goal.Goal.TheVariants.{Nonconforming}
 use Rattle.walks.specs.Walks.{Agrees, NoneBy, Stands, ToldOk, SplitOk}
 use Rattle.walks.specs.declared.walk.Place.{Place}
-use Rattle.walks.specs.declared.refute.Told.{Told}
 use Rattle.walks.proofs.StandLaw.{agrees-fewer}
 
 -- ---- one more choice settled
@@ -33,15 +32,15 @@ module _ (p : List ℕ) (i c : ℕ) where
   stands-child free st = record { at = λ b w g. st.at b w (agrees-parent free g) }
 
   -- what does not depend on the suspect holds without its choice
-  pub told_parent : {goal : Goal} {m log : List ℕ} {r : Told} → ToldOk goal m log (set p i c) r → (r.ok ≡ true → Has r.used i → ⊥) → ToldOk goal m log p r
-  told_parent told none ok = record { at = λ b w g. (told ok).at b w (agrees-child (λ h. absurd (none ok h)) g) }
+  pub none-parent : {goal : Goal} {m log : List ℕ} {used : ℕ} → NoneBy goal m log (set p i c) used → (Has used i → ⊥) → NoneBy goal m log p used
+  none-parent none free = record { at = λ b w g. none.at b w (agrees-child (λ h. absurd (free h)) g) }
 
 -- ---- the same part, written otherwise
 pub stands-as : {m log p q : List ℕ} {place : Place} → q ≡ p → Stands m log p place → Stands m log q place
 stands-as {m} {log} {p} {q} {place} e st = subst (λ (l : List ℕ). Stands m log l place) (sym e) st
 
-pub told-as : {goal : Goal} {m log p q : List ℕ} {r : Told} → q ≡ p → ToldOk goal m log q r → ToldOk goal m log p r
-told-as {goal} {m} {log} {p} {q} {r} e told = subst (λ (l : List ℕ). ToldOk goal m log l r) e told
+pub none-as : {goal : Goal} {m log p q : List ℕ} {used : ℕ} → q ≡ p → NoneBy goal m log q used → NoneBy goal m log p used
+none-as {goal} {m} {log} {used = used} e none = subst (λ (l : List ℕ). NoneBy goal m log l used) e none
 
 -- ---- all its choices
 -- none of the mutants whose choice at i is below c is sought
@@ -70,9 +69,10 @@ pub none-conforming : {m log p : List ℕ} {used : ℕ} → Conform m (Agrees p 
 unfolding Sought
 none-conforming f = record { at = λ b w g y. y.1 (f b w g) }
 
--- a mutant with all the choices of the prefix has those used
-pub none-extends : {goal : Goal} {m log p : List ℕ} {used : ℕ} → NoneBy goal m log p used → (b : List ℕ) → Ranged m b → Extends b p → Sought goal m log b → ⊥
-none-extends none b w ex = none.at b w (record { at = λ j h. ex j })
+-- a mutant with all the choices of the prefix has those used, whichever are told
+pub none-told : (goal : Goal) (m log p : List ℕ) (r : Maybe ℕ) → ToldOk goal m log p r → is_some r ≡ true → (b : List ℕ) → Ranged m b → Extends b p → Sought goal m log b → ⊥
+none-told goal m log p None told e b w ex = never cc
+none-told goal m log p (Some used) told e b w ex = told.at b w (record { at = λ j h. ex j })
 
 -- what stands before each choice; q is p, settled at the suspect by the choice before
 pub record Trying (goal : Goal) (m log p q : List ℕ) (i left end : ℕ) (place : Place) (c used : ℕ) : Type 0 where

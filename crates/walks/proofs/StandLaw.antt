@@ -44,12 +44,12 @@ settled_at {m} {p} {used} {k} {i} {c} wf lk ei ni ec nc has is =
     settled-by wf lk is (λ b g. chosen-some m b k (λ z. ni (ei ∙ z)) ∙ ap (λ (j : ℕ). get_or b j 0) (sym ei) ∙ g.at i has (λ z. nc (ec ∙ z)) ∙ sym ec)
 
 -- so at any pair
-pub settled-step : {m p : List ℕ} {before used k i c : ℕ} {step : Step} → Wf m → k < 257 → i ≡ site_at m k → ChoiceIs p i c → (c ≡ 256 → ⊥) → UsedWith before i used → StepIs m k c step → Settled m p used k step
-settled-step {m} {p} {before} {used} {k} {i} {c} {step} wf lk ei ch nc us is = go (ℕ_discrete i 255)
+pub settled-step : {m p : List ℕ} {before used k i c : ℕ} {step : Step} → Wf m → k < 257 → i ≡ site_at m k → ChoiceIs p i c → UsedWith before i used → StepIs m k c step → Settled m p used k step
+settled-step {m} {p} {before} {used} {k} {i} {c} {step} wf lk ei ch us is = go (ℕ_discrete i 255)
   where
     go : Dec (i ≡ 255) → Settled m p used k step
     go (yes e) = settled-lone wf lk (sym ei ∙ e) (subst (λ (d : ℕ). StepIs m k d step) (ch.none e) is)
-    go (no n) = settled_at wf lk ei n (ch.some n) nc (us.has n (suspect-low wf lk ei n)) is
+    go (no n) = settled_at wf lk ei n (ch.some n) ch.settled (us.has n (suspect-low wf lk ei n)) is
 
 -- a suspect that is added is used
 pub joined-has : {before used i : ℕ} → i < 32 → Joined before (2 ^ (i % 32)) used → Has used i
@@ -111,17 +111,17 @@ module _ {m log p : List ℕ} {place : Place} {x o k used : ℕ} {step : Step} {
 
 -- ---- one observation, at the pair k
 module _ {m log p : List ℕ} {at state before since used k i : ℕ} {step : Step} {s : Observed} (wf : Wf m) (st : Stands m log p (record { at = at; state = state; used = before })) (ob : ObservedAt log at s)
-    (pa : PairAt m state s.code k) (lk : k < 257) (es : (s.code ≡ 256 → ⊥) → since ≡ before) (us : UsedWith since i used) (se : Settled m p used k step) where
+    (pa : PairAt m state s.code k) (es : (s.code ≡ 256 → ⊥) → since ≡ before) (us : UsedWith since i used) (se : Settled m p used k step) where
   pub step-on : Stands m log p (record { at = s.next; state = step.target; used = used })
   step-on = go (ℕ_discrete s.code 256)
     where
       go : Dec (s.code ≡ 256) → Stands m log p (record { at = s.next; state = step.target; used = used })
       go (yes e) = stands-reset wf ob e (subst (λ (j : ℕ). Settled m p used j step) (pa.reset e) se)
-      go (no n) = let h = pa.seen n lk in stands_on wf st ob (pa.some lk) n refl refl h.0 h.1 (λ j z. us.more j (rw (es n) z)) se
+      go (no n) = let h = pa.seen n in stands_on wf st ob pa.few n refl refl h.0 h.1 (λ j z. us.more j (rw (es n) z)) se
 
   pub step-not : (step.output ≡ s.code % 16 → ⊥) → (goal : Goal) → NoneBy goal m log p used
   step-not wrong goal = go (ℕ_discrete s.code 256)
     where
       go : Dec (s.code ≡ 256) → NoneBy goal m log p used
       go (yes e) = record { at = λ b w g y. wrong (se.output b w g ∙ ap (λ (j : ℕ). (choice_of m j (chosen m b j)).output) (pa.reset e) ∙ ap (λ (u : Move). u.output) (choice-waking m (chosen m b waking)) ∙ sym (ap (λ (w : ℕ). w % 16) e)) }
-      go (no n) = let h = pa.seen n lk in stands-not wf st ob (pa.some lk) n refl refl h.0 h.1 (λ j z. us.more j (rw (es n) z)) se wrong goal
+      go (no n) = let h = pa.seen n in stands-not wf st ob pa.few n refl refl h.0 h.1 (λ j z. us.more j (rw (es n) z)) se wrong goal

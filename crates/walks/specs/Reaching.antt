@@ -6,6 +6,7 @@ use Rattle.cubes.specs.Sets.{Has, HasAll, Grows}
 use Rattle.cubes.specs.Cube.{CellOk}
 use Rattle.walks.specs.Walks.{Agrees}
 use Rattle.walks.specs.declared.reach.Reach.{Reach}
+use Rattle.walks.specs.declared.reach.Stop.TheVariants.{Closed}
 
 -- no pair is lost, and one is met
 pub record Met (old new : List ℕ) (s q : ℕ) : Type 0 where
@@ -17,17 +18,17 @@ pub record Further (old new : List ℕ) (before after : Reach) : Type 0 where
   pub grows : Grows old new
   pub used : HasAll before.used after.used
   pub few : before.count ≤ 256 → after.count ≤ 256
-  pub free : after.stop ≡ 255 → before.stop ≡ 255
+  pub free : after.stop ≡ Closed → before.stop ≡ Closed
 
 -- the pair of the specification's start and the mutant's, with the mutants that have the choices settled at the suspects used
 pub record StartReached (m p old new : List ℕ) (r : Reach) : Type 0 where
   pub grows : Grows old new
   pub few : r.count ≤ 256
-  pub start : r.stop ≡ 255 → (b : List ℕ) → Ranged m b → Agrees p r.used b → Has (get_or new 0 0) (start_of m b)
+  pub start : r.stop ≡ Closed → (b : List ℕ) → Ranged m b → Agrees p r.used b → Has (get_or new 0 0) (start_of m b)
 
 -- the pair of states k / 16 and k % 16, with the mutants that have the choices settled at the suspects used, on the input x
 pub record CellKnown (m p rows : List ℕ) (r : Reach) (k x : ℕ) : Type 0 where
-  pub at : r.stop ≡ 255 → k % 16 < states_of m → CellOk m (Agrees p r.used) rows (k / 16) (k % 16) x
+  pub at : r.stop ≡ Closed → k % 16 < states_of m → CellOk m (Agrees p r.used) rows (k / 16) (k % 16) x
 
 pub record CellReached (m p old new : List ℕ) (before after : Reach) (k x : ℕ) : Type 0 where
   pub further : Further old new before after

@@ -1,5 +1,5 @@
 -- Mutants that have the choices settled at some suspects, along a log: what the steps of the attempt promise each other.
-use Rattle.std.specs.Prelude.{◌≡◌, true, List, ℕ, ◌/◌, ◌%◌, ◌<◌, ◌≤◌, length, get_or, drop}
+use Rattle.std.specs.Prelude.{◌≡◌, List, ℕ, ◌/◌, ◌%◌, ◌<◌, ◌≤◌, length, get_or, drop, Option as Maybe, IfSome}
 use Rattle.model.specs.Log.{GivesFrom}
 use Rattle.block.specs.Layout.{pair, waking, states_of, inputs_of, choices_of}
 use Rattle.block.specs.Tabulated.{Ranged, choice_of, chosen, step_of, start_of}
@@ -11,7 +11,6 @@ use Rattle.cubes.specs.declared.goal.Goal.{Goal}
 use Rattle.walks.specs.declared.walk.Place.{Place}
 use Rattle.walks.specs.declared.walk.Halt.{Halt}
 use Rattle.walks.specs.declared.walk.Halt.TheVariants as halt
-use Rattle.walks.specs.declared.refute.Told.{Told}
 
 -- b has the choices that p settles at the suspects of the set (256: not settled)
 pub record Agrees (p : List ℕ) (used : ℕ) (b : List ℕ) : Type 0 where
@@ -30,17 +29,19 @@ pub record Settled (m p : List ℕ) (used k : ℕ) (step : Step) : Type 0 where
 pub record ChoiceIs (p : List ℕ) (i c : ℕ) : Type 0 where
   pub none : i ≡ 255 → c ≡ 0
   pub some : (i ≡ 255 → ⊥) → c ≡ get_or p i 0
+  pub settled : c ≡ 256 → ⊥
 
 -- the set has what was used before, and the suspect i, if there is one
 pub record UsedWith (before i used : ℕ) : Type 0 where
   pub more : HasAll before used
   pub has : (i ≡ 255 → ⊥) → i < 32 → Has used i
 
--- k is the pair of the observation v in a state, or none
+-- k is the pair of the observation v in a state
 pub record PairAt (m : List ℕ) (state v k : ℕ) : Type 0 where
-  pub some : k < 257 → v ≤ 256
+  pub low : k < 257
+  pub few : v ≤ 256
   pub reset : v ≡ 256 → k ≡ waking
-  pub seen : (v ≡ 256 → ⊥) → k < 257 → (v / 16 < inputs_of m) × (k ≡ pair (state % 16) (v / 16 % 16))
+  pub seen : (v ≡ 256 → ⊥) → (v / 16 < inputs_of m) × (k ≡ pair (state % 16) (v / 16 % 16))
 
 -- the mutant b is in the state q and gives what is left of a log
 pub record Here (m b : List ℕ) (q : ℕ) (left : List ℕ) : Type 0 where
@@ -68,8 +69,9 @@ Starts log at (halt.Waits i place) = Unit {0}
 Starts log at (halt.Ends place) = (at < length log) × (get_or log at 0 ≡ 16)
 Starts log at halt.Lost = Unit {0}
 
-abbrev pub ToldOk : Goal → List ℕ → List ℕ → List ℕ → Told → Type 0
-ToldOk goal m log p r = r.ok ≡ true → NoneBy goal m log p r.used
+-- no mutant is sought that has the choices settled at the suspects told, if any are
+abbrev pub ToldOk : Goal → List ℕ → List ℕ → List ℕ → Maybe ℕ → Type 0
+ToldOk goal m log p r = IfSome r (λ used. NoneBy goal m log p used)
 
 -- the suspect is not settled, n are all the choices it has, and one more may be settled
 pub record SplitOk (m p : List ℕ) (i left n : ℕ) : Type 0 where

@@ -5,8 +5,8 @@ ghost use Rattle.cubes.specs.declared.goal.Goal.{Goal};
 ghost use Rattle.cubes.specs.declared.goal.Goal.TheVariants.{Nonconforming};
 ghost use Rattle.walks.specs.Walks.{Halts, Starts, ToldOk};
 
-use crate::reach::{CLOSED, spread};
-use crate::refute::{Told, told_of, unknown};
+use crate::reach::{Stop, spread};
+use crate::refute::told_of;
 use crate::walk::{Halt, Place, walk};
 use block::*;
 
@@ -21,30 +21,32 @@ fn walk_from(block: &Block, log: &[u8], p: &[u16; 32], at: usize) -> Halt
     if log[at] != PULSE {
         return Halt::Lost;
     }
-    let state = 0;
-    let used = 0;
-    walk(block, log, p, Place { at, state, used })
+    let start = Place {
+        at,
+        state: 0,
+        used: 0,
+    };
+    walk(block, log, p, start)
 }
 
-// By a wrong output in the log from the reset at a place on; `ok` only if there is one.
-pub fn by_log(block: &Block, log: &[u8], p: &[u16; 32], at: usize) -> Told
+// By a wrong output in the log from the reset at a place on: the suspects used; none where there is no wrong output.
+pub fn by_log(block: &Block, log: &[u8], p: &[u16; 32], at: usize) -> Option<u32>
     requires { Wf block.now }
     ensures { (goal : Goal) → ToldOk goal block.now log.now p.now result }
 {
     told_of(walk_from(block, log, p, at))
 }
 
-// As it conforms; `ok` only if it does.
-pub fn by_reach(block: &Block, p: &[u16; 32]) -> Told
+// As it conforms: the suspects used; none where it does not.
+pub fn by_reach(block: &Block, p: &[u16; 32]) -> Option<u32>
     requires { Wf block.now }
     ensures { (log : List ℕ) → ToldOk Nonconforming block.now log p.now result }
 {
     let reach = spread(block, p);
-    if reach.stop != CLOSED {
-        return unknown();
+    match reach.stop {
+        Stop::Closed => Some(reach.used),
+        _ => None,
     }
-    let used = reach.used;
-    Told { ok: true, used }
 }
 
 // Whether the log from the reset at a place on is given by a mutant with the settled choices, which it does not leave.

@@ -21,7 +21,6 @@ use block::*;
 use cubes::goal::Goal;
 pub use effort::spent;
 use leaves::*;
-pub use refute::Told;
 use refute::refute;
 use walk::Place;
 
@@ -29,7 +28,7 @@ use walk::Place;
 pub fn begins(log: &[u8]) -> bool
     ensures { result ≡ true → Begins log.now }
 {
-    if log.len() == 0 {
+    if log.is_empty() {
         return true;
     }
     log[0] == PULSE
@@ -52,10 +51,10 @@ pub fn none_from(
     if !begins(log) {
         return false;
     }
-    let at = 0;
-    let state = 0;
-    let used = 0;
-    let start = Place { at, state, used };
-    let told = refute(block, log, goal, notes, prefix, start, 33);
-    told.ok
+    let start = Place {
+        at: 0,
+        state: 0,
+        used: 0,
+    };
+    refute(block, log, goal, notes, prefix, start, 33).is_some()
 }

@@ -4,27 +4,28 @@ ghost use Rattle.block.specs.Layout.{inputs_of};
 ghost use Rattle.block.specs.Tabulated.{Wf};
 ghost use Rattle.cubes.specs.Cube.{Conform};
 ghost use Rattle.walks.specs.Walks.{Agrees};
+ghost use Rattle.walks.specs.declared.reach.Stop.TheVariants.{Closed};
 ghost use Rattle.walks.specs.Reaching.{Met, StartReached, CellReached, RowReached, AllWithin};
 
 use crate::steps::{settled_choice, used_with};
 use block::*;
-use cubes::words::{Sets, one, union};
+use cubes::words::{Sets, holds, with, within};
 
-// Nothing stops the pairs so far: no wrong output, no unsettled suspect.
-pub(crate) const CLOSED: u8 = 255;
+// What stops the pairs: nothing so far; a wrong output in reach; the first unsettled suspect; that not every pair was looked at.
+#[derive(Clone, Copy)]
+pub(crate) enum Stop {
+    Closed,
+    Wrong,
+    Waits(u8),
+    Lost,
+}
 
-// A wrong output is in reach.
-pub(crate) const WRONG: u8 = 254;
-
-// Not every pair was looked at.
-const LOST: u8 = 253;
-
-// By which suspects, how many pairs were met, and what stops them: CLOSED, WRONG, or the first unsettled suspect.
+// By which suspects, how many pairs were met, and what stops them.
 #[derive(Clone, Copy)]
 pub(crate) struct Reach {
     pub used: u32,
     pub count: u16,
-    pub stop: u8,
+    pub stop: Stop,
 }
 
 // Adds a pair to the rows, by state of the specification a set of states, and to the queue.
@@ -35,28 +36,30 @@ fn meet(rows: &mut Sets, queue: &mut [u8; 256], s: u8, q: u8, count: u16) -> u16
     if q >= 16 {
         return count;
     }
-    let at = wide(s);
+    let at = usize::from(s);
     let row = rows[at];
-    if cubes::words::holds(row, q) {
+    if holds(row, q) {
         return count;
     }
-    rows[at] = union(row, one(q));
+    rows[at] = with(row, q);
     if count >= 256 {
         return count;
     }
-    queue[wide16(count)] = s * 16 + q;
+    queue[usize::from(count)] = s * 16 + q;
     count + 1
 }
 
 // The first unsettled suspect stops the pairs, unless something stops them already.
 fn stopped(mut reach: Reach, i: u8) -> Reach
-    ensures { (result.used ≡ reach.used) × (result.count ≡ reach.count) × (result.stop ≡ 255 → ⊥) }
+    ensures { (result.used ≡ reach.used) × (result.count ≡ reach.count) × (result.stop ≡ Closed → ⊥) }
 {
-    if reach.stop != CLOSED {
-        return reach;
+    match reach.stop {
+        Stop::Closed => {
+            reach.stop = Stop::Waits(i);
+            reach
+        }
+        _ => reach,
     }
-    reach.stop = i % 32;
-    reach
 }
 
 // One input at the pair of states k / 16 and k % 16.
@@ -79,16 +82,17 @@ fn cell(
     }
     let pair = place(k % 16, x);
     let i = site(block, pair);
-    let c = settled_choice(p, i);
-    if c == 256 {
+    let Some(c) = settled_choice(p, i) else {
         return stopped(reach, i);
-    }
+    };
     let step = transition(block, pair, c);
     let used = used_with(reach.used, i);
     if step.output != rule_output(block, at) {
-        let count = reach.count;
-        let stop = WRONG;
-        return Reach { used, count, stop };
+        return Reach {
+            used,
+            count: reach.count,
+            stop: Stop::Wrong,
+        };
     }
     let count = meet(rows, queue, next, step.target, reach.count);
     let stop = reach.stop;
@@ -103,18 +107,17 @@ fn start(block: &Block, p: &[u16; 32], rows: &mut Sets, queue: &mut [u8; 256]) -
     let none = Reach {
         used: 0,
         count: 0,
-        stop: CLOSED,
+        stop: Stop::Closed,
     };
     let i = site(block, WAKING);
-    let c = settled_choice(p, i);
-    if c == 256 {
+    let Some(c) = settled_choice(p, i) else {
         return stopped(none, i);
-    }
+    };
     let step = transition(block, WAKING, c);
     Reach {
         used: used_with(0, i),
         count: meet(rows, queue, 0, step.target, 0),
-        stop: CLOSED,
+        stop: Stop::Closed,
     }
 }
 
@@ -134,7 +137,7 @@ fn row(
     let mut reach = from;
     for x in 0..end {
         reach = cell(block, p, k, x, rows, queue, reach);
-        if reach.stop == WRONG {
+        if let Stop::Wrong = reach.stop {
             return reach;
         }
     }
@@ -148,7 +151,7 @@ fn all_within(block: &Block, rows: &Sets, done: &Sets) -> bool
 {
     let end = states(block);
     for s in 0..end {
-        if !cubes::words::within(rows[wide(s)], done[wide(s)]) {
+        if !within(rows[usize::from(s)], done[usize::from(s)]) {
             return false;
         }
     }
@@ -159,32 +162,32 @@ fn all_within(block: &Block, rows: &Sets, done: &Sets) -> bool
 fn row_of(k: u8) -> usize
     ensures { (result ≡ k / 16) × (result < 16) }
 {
-    wide(k / 16)
+    usize::from(k / 16)
 }
 
 // The pairs in reach, breadth first. Where nothing stops them, every mutant that has the choices of the suspects used conforms.
 pub(crate) fn spread(block: &Block, p: &[u16; 32]) -> Reach
     requires { Wf block.now }
-    ensures { result.stop ≡ 255 → Conform block.now (Agrees p.now result.used) }
+    ensures { result.stop ≡ Closed → Conform block.now (Agrees p.now result.used) }
 {
     let mut rows = [0u16; 16];
     let mut done = [0u16; 16];
     let mut queue = [0u8; 256];
     let mut reach = start(block, p, &mut rows, &mut queue);
     let mut n: usize = 0;
-    while n < wide16(reach.count) {
+    // stays: the queue grows while it is read
+    while n < usize::from(reach.count) {
         let k = queue[n];
         reach = row(block, p, k, &mut rows, &mut queue, reach);
-        if reach.stop == WRONG {
+        if let Stop::Wrong = reach.stop {
             return reach;
         }
         let s = row_of(k);
-        done[s] = union(done[s], one(k % 16));
+        done[s] = with(done[s], k % 16);
         n += 1;
     }
     if !all_within(block, &rows, &done) {
-        reach.stop = LOST;
-        return reach;
+        reach.stop = Stop::Lost;
     }
     reach
 }

@@ -1,19 +1,22 @@
 // What the settled choices do at a pair of a state and an input, or into the waking state.
-ghost use Rattle.std.specs.Prelude.{◌≡◌, ◌<◌};
+ghost use Rattle.std.specs.Prelude.{◌≡◌, ◌<◌, IfSome};
 ghost use Rattle.walks.specs.Walks.{ChoiceIs, UsedWith};
 
-use block::*;
 use leaves::*;
 
-// The choice settled at a suspect, 256 where it is not settled; 0 where there is no suspect (255).
-pub(crate) fn settled_choice(p: &[u16; 32], i: u8) -> u16
+// The choice settled at a suspect, none where it is not settled (256); 0 where there is no suspect (255).
+pub(crate) fn settled_choice(p: &[u16; 32], i: u8) -> Option<u16>
     requires { (i ≡ 255 → ⊥) → i < 32 }
-    ensures { ChoiceIs p.now i result }
+    ensures { IfSome result (λ c. ChoiceIs p.now i c) }
 {
     if i == 255 {
-        return 0;
+        return Some(0);
     }
-    p[wide(i)]
+    let c = p[usize::from(i)];
+    if c == 256 {
+        return None;
+    }
+    Some(c)
 }
 
 // The suspects used, with this one if it is one.
@@ -23,5 +26,5 @@ pub(crate) fn used_with(used: u32, i: u8) -> u32
     if i == 255 {
         return used;
     }
-    joined(used, i)
+    with(used, i)
 }

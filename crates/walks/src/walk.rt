@@ -1,5 +1,5 @@
 // The walk of the log with the settled choices.
-ghost use Rattle.std.specs.Prelude.{◌≡◌};
+ghost use Rattle.std.specs.Prelude.{◌≡◌, IfSome};
 ghost use Rattle.block.specs.Tabulated.{Wf};
 ghost use Rattle.cubes.specs.declared.goal.Goal.{Goal};
 ghost use Rattle.walks.specs.Walks.{PairAt, Stands, Halts};
@@ -24,34 +24,25 @@ pub(crate) enum Halt {
     Lost,
 }
 
-// No pair: an observation that can't be taken.
-const NOWHERE: usize = 257;
-
-// The pair of an observation in a state; at a reset, the one that leads to the waking state.
-fn pair_at(block: &Block, state: u8, v: u16) -> usize
-    ensures { PairAt block.now state v result }
+// The pair of an observation in a state, if it can be taken; at a reset, the one that leads to the waking state.
+fn pair_at(block: &Block, state: u8, v: u16) -> Option<usize>
+    ensures { IfSome result (λ k. PairAt block.now state v k) }
 {
     if v == 256 {
-        return WAKING;
-    }
-    if v > 256 {
-        return NOWHERE;
+        return Some(WAKING);
     }
     let x = input_of(v);
-    if x >= inputs(block) {
-        return NOWHERE;
+    if v > 256 || x >= inputs(block) {
+        return None;
     }
-    some_place(state, x)
+    Some(some_place(state, x))
 }
 
 // The suspects used before an observation; after a reset what was before does not matter.
 fn since_reset(v: u16, used: u32) -> u32
     ensures { (v ≡ 256 → ⊥) → result ≡ used }
 {
-    if v == 256 {
-        return 0;
-    }
-    used
+    if v == 256 { 0 } else { used }
 }
 
 // Walks the log from a place on. A reset is the transition into the waking state, with the output 0.
@@ -59,28 +50,26 @@ pub(crate) fn walk(block: &Block, log: &[u8], p: &[u16; 32], from: Place) -> Hal
     requires { Wf block.now × Stands block.now log.now p.now from }
     ensures { (goal : Goal) → Halts goal block.now log.now p.now result }
 {
-    let mut at = from.at;
-    let mut state = from.state;
-    let mut used = from.used;
-    while at < log.len() {
-        let seen = observe(log, at);
-        let v = seen.code;
-        let k = pair_at(block, state, v);
-        if k > WAKING {
+    let mut here = from;
+    while here.at < log.len() {
+        let seen = observe(log, here.at);
+        let Some(k) = pair_at(block, here.state, seen.code) else {
             return Halt::Lost;
-        }
+        };
         let i = site(block, k);
-        let c = settled_choice(p, i);
-        if c == 256 {
-            return Halt::Waits(i, Place { at, state, used });
-        }
+        let Some(c) = settled_choice(p, i) else {
+            return Halt::Waits(i, here);
+        };
         let step = transition(block, k, c);
-        used = used_with(since_reset(v, used), i);
-        if step.output != output_of(v) {
+        let used = used_with(since_reset(seen.code, here.used), i);
+        if step.output != output_of(seen.code) {
             return Halt::Fails(used);
         }
-        state = step.target;
-        at = seen.next;
+        here = Place {
+            at: seen.next,
+            state: step.target,
+            used,
+        };
     }
-    Halt::Ends(Place { at, state, used })
+    Halt::Ends(here)
 }

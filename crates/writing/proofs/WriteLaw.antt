@@ -1,5 +1,5 @@
 -- What `put` and `write` answer, case by case.
-use Prim.Native.Nat.{ℕ, ◌≤◌, ◌<◌}
+use Prim.Native.Nat.{ℕ, ◌≤◌}
 use native.Mathlib.Omega.{arith}
 use mathlib.Core.Path.{◌≡◌, refl, sym, ◌∙◌, ap}
 use mathlib.Core.Bool.{Bool, true, false, cond}
@@ -7,9 +7,8 @@ use mathlib.Core.List.{List}
 use lib.Dec.{ltb}
 use lib.ListN.{length, take, drop, replicate, length-replicate}
 use lib.Seq.{take-append_seam}
-use borrow.Author.Tests.{lt-ltb, le-ltb, ltb-false}
-use Rattle.sheet.specs.declared.Reading.{Reading as ReadAnswer}
-use Rattle.sheet.specs.declared.Reading.TheVariants as read
+use borrow.Author.Tests.{ltb-false}
+use Rattle.std.specs.Prelude.{Result as Answer, Ok, Err}
 use Rattle.sheet.specs.declared.Refusal.{Refusal}
 use Rattle.sheet.specs.declared.Summary.{Summary}
 use Rattle.lists.specs.Lists.{overlay}
@@ -17,59 +16,41 @@ use Rattle.sheet.specs.Reading.{Result, accepted, refused, Reading, reading}
 use Rattle.sheet.specs.Encode.{encode}
 use Rattle.sheet.specs.Tables.{read_answer, refusal_of}
 use Rattle.lists.specs.laws.TestLaw.{never}
-use Rattle.writing.specs.declared.Written.{Written}
-use Rattle.writing.specs.declared.Written.TheVariants as written
 use Rattle.writing.specs.Drawing.{Drawing, is_cut, sheet_of}
 use Rattle.writing.specs.Writing.{placed, writing, written_answer, sheet_writes, Spells, ToldWritten}
-use Rattle.writing.specs.words.Spelled.{Spelled, length_of}
-use Rattle.writing.proofs.laws.SpelledLaw.{spelled-front}
+use Rattle.writing.specs.words.Spelled.{length_of}
 use Rattle.writing.proofs.laws.DrawingLaw.{whole}
 use Rattle.writing.proofs.laws.LengthLaw.{sheet-length}
 use Rattle.writing.proofs.laws.WritingLaw.{refuses, writes, spells, cut-refused, unread-refused, short-refused, written-again}
 
 -- the answer and the buffer are those of an outcome
-abbrev Puts : Result (List ℕ) → Written → List ℕ → List ℕ → Type 0
+abbrev Puts : Result (List ℕ) → Answer ℕ Refusal → List ℕ → List ℕ → Type 0
 Puts x r old new = (r ≡ written_answer x) × (new ≡ overlay (sheet_writes x) old)
 
-pub puts-refused : (x : Result (List ℕ)) (number : ℕ) (l : List ℕ) → x ≡ refused number 0 → Puts x (written.Refused number 0) l l
+pub puts-refused : (x : Result (List ℕ)) (number : ℕ) (l : List ℕ) → x ≡ refused number 0 → Puts x (Err (refusal_of number 0)) l l
 puts-refused x number l e = rw e (refl, refl)
-
-pub puts-accepted : (x : Result (List ℕ)) (s old new : List ℕ) (to : ℕ) → x ≡ accepted s → Spelled old new 0 to s → Puts x (written.Done to) old new
-puts-accepted x s old new to e p = let m : to ≡ length s = omega (arith, p.many) in rw e (ap written.Done m, spelled-front p)
 
 -- ---- put: what was read decides
 
-module _ (s : List ℕ) (room : ℕ) (a : ReadAnswer) (e : a ≡ read_answer (reading s)) where
-  pub placed-refused : (number place : ℕ) (why : Refusal) → a ≡ read.Refused number place → why ≡ refusal_of a → placed (reading s) s room ≡ refused why.number 0
-  placed-refused number place why h k = one (reading s) e
-    where
-      one : (r : Reading) → a ≡ read_answer r → placed r s room ≡ refused why.number 0
-      one (accepted sh) q = never (cc)
-      one (refused n p) q = ap (λ (i : ℕ). refused i 0) (ap (λ (x : Refusal). x.number) (sym (k ∙ ap refusal_of q)))
-
-  placed-accepted : (summary : Summary) → a ≡ read.Accepted summary → placed (reading s) s room ≡ cond (ltb room (length s)) (refused 16 0) (accepted s)
-  placed-accepted summary h = one (reading s) e
-    where
-      one : (r : Reading) → a ≡ read_answer r → placed r s room ≡ cond (ltb room (length s)) (refused 16 0) (accepted s)
-      one (accepted sh) q = refl
-      one (refused n p) q = never (cc)
-
-  pub placed-short : (summary : Summary) → a ≡ read.Accepted summary → room < length s → placed (reading s) s room ≡ refused 16 0
-  placed-short summary h l = placed-accepted summary h ∙ rw (lt-ltb room (length s) l) refl
-
-  pub placed-there : (summary : Summary) → a ≡ read.Accepted summary → length s ≤ room → placed (reading s) s room ≡ accepted s
-  placed-there summary h l = placed-accepted summary h ∙ rw (le-ltb room (length s) l) refl
+module _ (s : List ℕ) (room : ℕ) where
+  module _ (summary : Summary) (e : Ok summary ≡ read_answer (reading s)) where
+    placed-accepted : placed (reading s) s room ≡ cond (ltb room (length s)) (refused 16 0) (accepted s)
+    placed-accepted = one (reading s) e
+      where
+        one : (r : Reading) → Ok summary ≡ read_answer r → placed r s room ≡ cond (ltb room (length s)) (refused 16 0) (accepted s)
+        one (accepted sh) q = refl
+        one (refused n p) q = never (cc)
 
 -- ---- write
 
-abbrev Promised : Drawing → Written → List ℕ → List ℕ → Type 0
+abbrev Promised : Drawing → Answer ℕ Refusal → List ℕ → List ℕ → Type 0
 Promised d r old new =
     (r ≡ written_answer (writing d (length old))) × ((new ≡ overlay (sheet_writes (writing d (length old))) old) × ToldWritten d r old new)
 
 module _ (d : Drawing) (old : List ℕ) where
   -- what the answer tells
-  module _ (r : Written) (new : List ℕ) (p : Puts (writing d (length old)) r old new) where
-    spelt : (n : ℕ) → r ≡ written.Done n → Spells d (take n new)
+  module _ (r : Answer ℕ Refusal) (new : List ℕ) (p : Puts (writing d (length old)) r old new) where
+    spelt : (n : ℕ) → r ≡ Ok n → Spells d (take n new)
     spelt n h = one (writing d (length old)) refl p
       where
         one : (x : Result (List ℕ)) → writing d (length old) ≡ x → Puts x r old new → Spells d (take n new)
@@ -95,9 +76,9 @@ module _ (d : Drawing) (old : List ℕ) where
           ),
         )
 
-  pub write-cut : is_cut d ≡ true → Promised d (written.Refused 2 0) old old
+  pub write-cut : is_cut d ≡ true → (why : Refusal) → why ≡ refusal_of 2 0 → Promised d (Err why) old old
   unfolding writing
-  write-cut e = promised _ old (puts-refused (writing d (length old)) 2 old (rw e refl))
+  write-cut e why w = rw w (promised _ old (puts-refused (writing d (length old)) 2 old (rw e)))
 
 -- tables that are not cut, and whether their sheet is too long
 pub record Sized (d : Drawing) (long : Bool) : Type 0 where
@@ -108,18 +89,15 @@ module _ {d : Drawing} {long : Bool} (z : Sized d long) where
   measured : long ≡ ltb 16384 (length (encode (sheet_of d)))
   measured = z.is ∙ ap (ltb 16384) (sym (sheet-length d (whole d z.uncut)))
 
-  pub write-long : (old : List ℕ) → long ≡ true → Promised d (written.Refused 1 0) old old
+  pub write-long : (old : List ℕ) → long ≡ true → (why : Refusal) → why ≡ refusal_of 1 0 → Promised d (Err why) old old
   unfolding writing reading
-  write-long old h = promised d old _ old (puts-refused (writing d (length old)) 1 old (rw (z.uncut, ← measured, h) refl))
+  write-long old h why w = rw w (promised d old _ old (puts-refused (writing d (length old)) 1 old (rw (z.uncut, ← measured, h))))
 
   -- there is room in the array that the sheet is spelled in
   module _ (fits : long ≡ false) where
     pub spell-room : length (encode (sheet_of d)) ≤ length {A = ℕ} (replicate 16384 0)
     spell-room = omega (arith, ltb-false 16384 (length (encode (sheet_of d))) (sym measured ∙ fits), length-replicate {A = ℕ} 16384 0)
 
-    pub spelled-inside : {new : List ℕ} {to : ℕ} → Spelled (replicate 16384 0) new 0 to (encode (sheet_of d)) → to ≤ length new
-    spelled-inside p = omega (arith, spell-room, p.many, p.long)
-
-  pub write-spelled : (r : Written) (old new s : List ℕ) → s ≡ encode (sheet_of d) → Puts (placed (reading s) s (length old)) r old new → Promised d r old new
+  pub write-spelled : (r : Answer ℕ Refusal) (old new s : List ℕ) → s ≡ encode (sheet_of d) → Puts (placed (reading s) s (length old)) r old new → Promised d r old new
   unfolding writing
   write-spelled r old new s e p = promised d old r new (rw (z.uncut, ← e) p)

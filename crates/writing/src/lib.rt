@@ -4,25 +4,30 @@
 
 #![tactic(auto)]
 
-ghost use Rattle.std.specs.Prelude.{◌≡◌, ℕ, ◌+◌, ◌≤◌, Bool, List, eqb, ltb, length};
-ghost use Rattle.sheet.specs.declared.Size.{Size as Sizes};
+ghost use Rattle.std.specs.Prelude.{◌≡◌, ◌+◌, ◌≤◌, eqb, ltb, length};
 ghost use Rattle.lists.specs.Lists.{overlay};
 ghost use Rattle.sheet.specs.Reading.{reading};
-ghost use Rattle.sheet.specs.Encode.{quiet_bytes};
-ghost use Rattle.writing.specs.Drawing.{total, is_cut, drawing};
-ghost use Rattle.writing.specs.words.Spelled.{length_of};
-ghost use Rattle.writing.specs.Writing.{placed, writing, written_answer, sheet_writes, ToldWritten};
+ghost use Rattle.sheet.specs.Encode.{quiet_bytes, encode};
+ghost use Rattle.writing.specs.Drawing.{total, is_cut, sheet_of};
+ghost use Rattle.writing.specs.words.Spelled.{length_of, Spelled};
+ghost use Rattle.writing.specs.Writing.{drawn, placed, writing, written_answer, sheet_writes, ToldWritten};
 
 pub mod spell;
 
-use sheet::{Reading, Size, refusal_of};
-use spell::wide;
+use sheet::{Refusal, Size};
 
-// What writing a sheet answers: its length, or a refusal's number and place.
-#[derive(Clone, Copy)]
-pub enum Written {
-    Done(usize),
-    Refused(u8, usize),
+// The tables of a drawing program: whether the sheet is quiet, rules and faults four bytes a row (s x o t), the STARTs' states, the
+// lengths of the tests, and their presses end to end.
+// stays: rows are bytes, and lengths stand beside the presses: `ranthelo_write` lends C's own tables, and there is no heap to lay them out anew.
+#[derive(Clone, Copy, Debug, PartialEq, Eq)]
+pub struct Drawing<'a> {
+    pub size: Size,
+    pub quiet: bool,
+    pub rules: &'a [u8],
+    pub faults: &'a [u8],
+    pub starts: &'a [u8],
+    pub lengths: &'a [u16],
+    pub presses: &'a [u8],
 }
 
 // Whether lengths add up to a number of presses: what is left of it after each, so that no sum overflows.
@@ -30,29 +35,13 @@ fn adds_up(lengths: &[u16], presses: usize) -> bool
     ensures { result ≡ eqb (total lengths.now) presses }
 {
     let mut left = presses;
-    let mut i = 0;
-    while i < lengths.len() {
-        let n = wide(lengths[i]);
-        if left < n {
+    for n in lengths {
+        let Some(rest) = left.checked_sub(usize::from(*n)) else {
             return false;
-        }
-        left -= n;
-        i += 1;
+        };
+        left = rest;
     }
     left == 0
-}
-
-fn is_cut(rules: &[u8], faults: &[u8], lengths: &[u16], presses: &[u8]) -> bool
-    ensures { (size : Sizes) (quiet : Bool) (starts : List ℕ)
-        → result ≡ is_cut (drawing size quiet rules.now faults.now starts lengths.now presses.now) }
-{
-    if rules.len() % 4 != 0 {
-        return true;
-    }
-    if faults.len() % 4 != 0 {
-        return true;
-    }
-    !adds_up(lengths, presses.len())
 }
 
 // The bytes of SIZE, of QUIET if it stands, and of END.
@@ -63,83 +52,77 @@ fn frame(quiet: bool) -> usize
     if quiet { 6 } else { 5 }
 }
 
-// Whether the sheet of tables of so many bytes, STARTs, tests and presses has over 16,384 bytes.
-fn is_long(
-    quiet: bool,
-    rules: usize,
-    faults: usize,
-    starts: usize,
-    tests: usize,
-    presses: usize,
-) -> bool
-    ensures { result ≡ ltb 16384 (length_of quiet rules faults starts tests presses) }
-{
-    if rules > 16384 {
-        return true;
+impl Drawing<'_> {
+    fn is_cut(&self) -> bool
+        ensures { result ≡ is_cut (drawn self.now) }
+    {
+        self.rules.len() % 4 != 0
+            || self.faults.len() % 4 != 0
+            || !adds_up(self.lengths, self.presses.len())
     }
-    if faults > 16384 {
-        return true;
+
+    // Whether its sheet has over 16,384 bytes.
+    fn is_long(&self) -> bool
+        ensures { result ≡ ltb 16384 (length_of self.now.quiet (length self.now.rules.now) (length self.now.faults.now) (length self.now.starts.now) (length self.now.lengths.now) (length self.now.presses.now)) }
+    {
+        let rules = self.rules.len();
+        let faults = self.faults.len();
+        let starts = self.starts.len();
+        let tests = self.lengths.len();
+        let presses = self.presses.len();
+        let most = rules.max(faults).max(starts).max(tests).max(presses);
+        most > 16384
+            || frame(self.quiet)
+                + 5 * (rules / 4)
+                + 5 * (faults / 4)
+                + 2 * starts
+                + tests
+                + 2 * presses
+                > 16384
     }
-    if starts > 16384 {
-        return true;
+
+    // Its sheet, if its lengths add up to no more than its presses.
+    fn spell(&self, sheet: &mut [u8]) -> usize
+        requires lengths_in_bounds { total self.now.lengths.now ≤ length self.now.presses.now }
+        requires inputs_in_bounds { length (encode (sheet_of (drawn self.now))) ≤ length sheet.old }
+        ensures { Spelled sheet.old sheet.new 0 result (encode (sheet_of (drawn self.now))) }
+    {
+        let sizes = [self.size.states, self.size.inputs, self.size.outputs];
+        let sized = spell::command(spell::SIZE, &sizes, sheet, 0);
+        let ruled = spell::quieted(self.quiet, sheet, sized);
+        let faulted = spell::rows(spell::RULE, self.rules, sheet, ruled);
+        let started = spell::rows(spell::FAULT, self.faults, sheet, faulted);
+        let tested = spell::operands(spell::START, self.starts, sheet, started);
+        let ended = spell::tests(self.lengths, self.presses, sheet, tested);
+        spell::byte(spell::END, sheet, ended)
     }
-    if tests > 16384 {
-        return true;
-    }
-    if presses > 16384 {
-        return true;
-    }
-    frame(quiet) + 5 * (rules / 4) + 5 * (faults / 4) + 2 * starts + tests + 2 * presses > 16384
 }
 
 // A sheet to a buffer's front, where reading accepts it and there is room.
-fn put(sheet: &[u8], buffer: &mut [u8]) -> Written
+fn put(sheet: &[u8], buffer: &mut [u8]) -> Result<usize, Refusal>
     ensures value { result ≡ written_answer (placed (reading sheet.now) sheet.now (length buffer.old)) }
     ensures buffer_after { buffer.new ≡ overlay (sheet_writes (placed (reading sheet.now) sheet.now (length buffer.old))) buffer.old }
 {
-    let reading = reading::read(sheet);
-    let Reading::Accepted(_) = reading else {
-        let why = refusal_of(reading);
-        return Written::Refused(why.number, 0);
-    };
+    reading::read(sheet).map_err(|why| Refusal::new(why.number, 0))?;
     if buffer.len() < sheet.len() {
-        return Written::Refused(16, 0);
+        return Err(Refusal::new(16, 0));
     }
-    Written::Done(spell::bytes(sheet, buffer, 0))
+    Ok(spell::bytes(sheet, buffer, 0))
 }
 
-// The sheet of the tables at the buffer's front: whether it is quiet, rules and faults four bytes a row (s x o t), the STARTs' states, the lengths of the
-// tests, and their presses end to end.
-pub fn write(
-    size: Size,
-    quiet: bool,
-    rules: &[u8],
-    faults: &[u8],
-    starts: &[u8],
-    lengths: &[u16],
-    presses: &[u8],
-    buffer: &mut [u8],
-) -> Written
-    ensures answer { result ≡ written_answer (writing (drawing size quiet rules.now faults.now starts.now lengths.now presses.now) (length buffer.old)) }
-    ensures bytes { buffer.new ≡ overlay (sheet_writes (writing (drawing size quiet rules.now faults.now starts.now lengths.now presses.now) (length buffer.old))) buffer.old }
-    ensures told { ToldWritten (drawing size quiet rules.now faults.now starts.now lengths.now presses.now) result buffer.old buffer.new }
+// The sheet of the tables at the buffer's front; gives its length.
+pub fn write(drawing: &Drawing, buffer: &mut [u8]) -> Result<usize, Refusal>
+    ensures answer { result ≡ written_answer (writing (drawn drawing.now) (length buffer.old)) }
+    ensures bytes { buffer.new ≡ overlay (sheet_writes (writing (drawn drawing.now) (length buffer.old))) buffer.old }
+    ensures told { ToldWritten (drawn drawing.now) result buffer.old buffer.new }
 {
-    if is_cut(rules, faults, lengths, presses) {
-        return Written::Refused(2, 0);
+    if drawing.is_cut() {
+        return Err(Refusal::new(2, 0));
     }
-    if is_long(
-        quiet,
-        rules.len(),
-        faults.len(),
-        starts.len(),
-        lengths.len(),
-        presses.len(),
-    ) {
-        return Written::Refused(1, 0);
+    if drawing.is_long() {
+        return Err(Refusal::new(1, 0));
     }
     let mut sheet = [0u8; 16384];
-    let end = spell::spell(
-        size, quiet, rules, faults, starts, lengths, presses, &mut sheet,
-    );
+    let end = drawing.spell(&mut sheet);
     put(&sheet[..end], buffer)
 }

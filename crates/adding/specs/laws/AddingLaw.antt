@@ -1,4 +1,5 @@
 -- What a test added to a sheet comes to: the longer sheet is accepted, and each refusal is the one that 02 names.
+use Rattle.std.specs.Prelude.{Result as Answer, Ok, Err}
 use Rattle.std.specs.Prelude.{◌+◌, ◌<◌, ◌≤◌, ◌≡◌, ◌∷◌}
 use Rattle.lists.specs.Proving.{arith, ℕ, suc, refl, sym, ◌∙◌, ap, Bool, true, false, Option, some, none, List, [], length, take, drop, ltb, lt-ltb, le-ltb, never}
 use Rattle.std.proofs.Math.Dec.{leb}
@@ -12,8 +13,8 @@ use Rattle.sheet.specs.Reading.{Result, accepted, refused, reading}
 use Rattle.sheet.specs.WellFormed.{TestIn, WellFormed}
 use Rattle.sheet.specs.laws.AcceptedLaw.{well-formed}
 use Rattle.sheet.specs.laws.AcceptsLaw.{accepts}
-use Rattle.writing.specs.declared.Written.{Written}
-use Rattle.writing.specs.declared.Written.TheVariants as written
+use Rattle.sheet.specs.declared.Refusal.{Refusal}
+use Rattle.sheet.specs.Tables.{refusal_of}
 use Rattle.model.specs.Longer.{with_test}
 use Rattle.model.specs.Operations.{refuse_if}
 use Rattle.model.proofs.laws.StaysLaw.{rule-row}
@@ -167,22 +168,22 @@ module _ (sh : Sheet) (xs : List ℕ) (room : ℕ) where
           }
 
 -- ---- what it tells
-module _ {result : Result (List ℕ)} {r : Written} {old new : List ℕ} (ad : Adds result r old new) where
+module _ {result : Result (List ℕ)} {r : Answer ℕ Refusal} {old new : List ℕ} (ad : Adds result r old new) where
   refused-by : {number place : ℕ} → result ≡ refused number place → RefusedBy number place r old new
   refused-by e = record { answer = rw e at ad.answer; untouched = rw e at ad.bytes }
 
-  done-is : {bytes : List ℕ} → result ≡ accepted bytes → r ≡ written.Done (length bytes)
+  done-is : {bytes : List ℕ} → result ≡ accepted bytes → r ≡ Ok (length bytes)
   done-is e = rw e at ad.answer
 
 -- what stands at the front of the buffer was written there
-pub written-front : (result : Result (List ℕ)) {r : Written} {old new : List ℕ} → Adds result r old new → (n : ℕ) → r ≡ written.Done n → result ≡ accepted (take n new)
+pub written-front : (result : Result (List ℕ)) {r : Answer ℕ Refusal} {old new : List ℕ} → Adds result r old new → (n : ℕ) → r ≡ Ok n → result ≡ accepted (take n new)
 written-front (accepted bytes) {r} {old} {new} ad n e =
-    let long : written.Done n ≡ written.Done (length bytes) = sym e ∙ ad.answer in
+    let long : ◌≡◌ {A = Answer ℕ Refusal} (Ok n) (Ok (length bytes)) = sym e ∙ ad.answer in
     let same : n ≡ length bytes = cc in
     ap accepted (sym (rw (same, ad.bytes) (take_at bytes (drop (length bytes) old) (length bytes) refl)))
-written-front (refused number place) ad n e = let other : written.Done n ≡ written.Refused number place = sym e ∙ ad.answer in never (cc)
+written-front (refused number place) ad n e = let other : ◌≡◌ {A = Answer ℕ Refusal} (Ok n) (Err (refusal_of number place)) = sym e ∙ ad.answer in never (cc)
 
-pub added-told : (s : List ℕ) (sh : Sheet) → reading s ≡ accepted sh → (xs : List ℕ) {r : Written} {old new : List ℕ} → Adds (add_on sh xs (length old)) r old new → ToldAdded sh xs r old new
+pub added-told : (s : List ℕ) (sh : Sheet) → reading s ≡ accepted sh → (xs : List ℕ) {r : Answer ℕ Refusal} {old new : List ℕ} → Adds (add_on sh xs (length old)) r old new → ToldAdded sh xs r old new
 added-told s sh e xs {r} {old} {new} ad =
     let wf = well-formed s sh e in
     record {

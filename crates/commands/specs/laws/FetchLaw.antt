@@ -1,112 +1,109 @@
--- What is fetched at a place.
-use Rattle.std.proofs.Math.Path.{◌≡◌, ap}
-use Rattle.std.specs.Prelude.{refl, Bool, List, ℕ, ◌+◌, ◌-◌, ◌<◌, ◌≤◌, length, get_or, leb, ltb, eqb}
-use Rattle.std.proofs.Common.{sym, ◌∙◌, arith}
-use Rattle.std.proofs.Math.Bool.{true, false}
-use borrow.Author.Tests.{le-leb, lt-leb, le-ltb, lt-ltb, ltb-true, ltb-false, leb-true, leb-false, eqb-true}
-use Rattle.commands.specs.declared.fetch.Item.{Item}
-use Rattle.commands.specs.declared.fetch.Taken.{Taken}
-use Rattle.commands.specs.declared.fetch.Taken.TheVariants.{Whole, Short, Nothing}
-use Rattle.commands.specs.declared.fetch.Fetched.{Fetched}
+-- What stands at a place.
+use Rattle.std.proofs.Common.{◌≡◌, ℕ, ◌+◌, ◌<◌, ◌≤◌, Bool, true, false, cond, List, length, get_or, refl, arith}
+use Rattle.std.specs.Prelude.{eqb, leb, ltb, Some, None}
+use Rattle.std.specs.Prelude.{Option as Maybe}
+use borrow.Author.Tests.{le-leb, lt-leb, leb-true, leb-false, ltb-true, ltb-false, eqb-true, eqb-false}
+use Rattle.lists.specs.laws.TestLaw.{never}
 use Rattle.sheet.specs.Reading.{width, command_of}
-use Rattle.commands.specs.words.Fetch.{operand_of, item_at, fetch_by, fetch_at, whole_as, command_from}
+use Rattle.commands.specs.declared.fetch.Command.{Command as Code}
+use Rattle.commands.specs.words.Fetch.{byte_of, says, command_by, command_at}
 
--- the code's parts make what the definition fetches
-pub whole : (s : List ℕ) (at w o₁ o₂ o₃ o₄ : ℕ) → at < length s → w ≡ width (get_or s at 0) → w ≤ length s - at
-    → o₁ ≡ operand_of s at w 1 → o₂ ≡ operand_of s at w 2 → o₃ ≡ operand_of s at w 3 → o₄ ≡ operand_of s at w 4
-    → ◌≡◌ {A = Fetched} (record { taken = Whole (record { byte = get_or s at 0; first = o₁; second = o₂; third = o₃; fourth = o₄ }); next = at + w }) (fetch_at s at)
-whole s at w o₁ o₂ o₃ o₄ l e h e₁ e₂ e₃ e₄ = rw (e₁, e₂, e₃, e₄, e) (simp (lt-ltb at (length s) l, le-leb (at + width (get_or s at 0)) (length s) (omega arith)))
-
-pub short : (s : List ℕ) (at w : ℕ) → at < length s → w ≡ width (get_or s at 0) → length s - at < w
-    → ◌≡◌ {A = Fetched} (record { taken = Short (get_or s at 0); next = at }) (fetch_at s at)
-short s at w l e h = simp (lt-ltb at (length s) l, lt-leb (at + width (get_or s at 0)) (length s) (omega arith))
-
-pub none : (s : List ℕ) (at : ℕ) → length s ≤ at → ◌≡◌ {A = Fetched} (record { taken = Nothing; next = at }) (fetch_at s at)
-none s at l = simp (le-ltb at (length s) l)
-
--- the command that is fetched is the definition's
-same : (s : List ℕ) (at b : ℕ) → command_from (item_at s at b) ≡ command_of b s at
-same s at b = one (eqb b 1) refl (eqb b 2) refl (eqb b 3) refl (eqb b 5) refl (eqb b 7) refl
-  where
-    one : (p : Bool) → eqb b 1 ≡ p → (q : Bool) → eqb b 2 ≡ q → (r : Bool) → eqb b 3 ≡ r → (t : Bool) → eqb b 5 ≡ t → (u : Bool) → eqb b 7 ≡ u
-        → command_from (item_at s at b) ≡ command_of b s at
-    one true e q _ r _ t _ u _ = rw (eqb-true b 1 e)
-    one false e true f r _ t _ u _ = rw (eqb-true b 2 f)
-    one false e false f true g t _ u _ = rw (eqb-true b 3 g)
-    one false e false f false g true h u _ = rw (eqb-true b 5 h)
-    one false e false f false g false h true i = rw (eqb-true b 7 i)
-    one false e false f false g false h false i = simp (e, f, g, h, i)
-
-kind : Taken → ℕ
-kind (Whole k) = 0
-kind (Short b) = 1
-kind Nothing = 2
-
-item_of : Item → Taken → Item
-item_of d (Whole k) = k
-item_of d (Short b) = d
-item_of d Nothing = d
-
-byte_of : Taken → ℕ
-byte_of (Whole k) = 0
-byte_of (Short b) = b
-byte_of Nothing = 0
-
-pub record WholeAt (s : List ℕ) (at : ℕ) (k : Item) (e : ℕ) : Type 0 where
+-- a whole command stands there, and says what the definition's does
+pub record WholeAt (s : List ℕ) (at : ℕ) (command : Code) : Type 0 where
   pub here : at < length s
   pub all : at + width (get_or s at 0) ≤ length s
-  pub item : k ≡ item_at s at (get_or s at 0)
-  pub byte : k.byte ≡ get_or s at 0
-  pub says : command_from k ≡ command_of (get_or s at 0) s at
-  pub next : e ≡ at + width (get_or s at 0)
+  pub byte : byte_of command ≡ get_or s at 0
+  pub says : says command ≡ command_of (get_or s at 0) s at
 
+-- a command's byte stands there, and its operands are missing
 pub record ShortAt (s : List ℕ) (at b : ℕ) : Type 0 where
   pub here : at < length s
   pub few : length s < at + width (get_or s at 0)
   pub byte : b ≡ get_or s at 0
 
+-- each command takes a byte at least
+pub wide : (b : ℕ) → 1 ≤ width b
+wide b =
+    one (eqb b 1) _ _ (omega arith) (one (eqb b 2) _ _ (omega arith) (one (eqb b 3) _ _ (omega arith)
+    (one (eqb b 5) _ _ (omega arith) (one (eqb b 7) _ _ (omega arith) (omega arith)))))
+  where
+    one : (p : Bool) (m n : ℕ) → 1 ≤ m → 1 ≤ n → 1 ≤ cond p m n
+    one true m n h k = h
+    one false m n h k = k
+
+-- what the command with a byte is; none has a byte above 8
+abbrev Named : List ℕ → ℕ → ℕ → Maybe Code → Type 0
+Named s at b (Some command) = (byte_of command ≡ b) × (says command ≡ command_of b s at)
+Named s at b None = 1 ≤ b → b ≤ 8 → ⊥
+
+named : (s : List ℕ) (at b : ℕ) → Named s at b (command_by s at b)
+named s at b = one (eqb b 1) refl (eqb b 2) refl (eqb b 3) refl (eqb b 4) refl (eqb b 5) refl (eqb b 6) refl (eqb b 7) refl (eqb b 8) refl
+  where
+    one : (a : Bool) → eqb b 1 ≡ a → (d : Bool) → eqb b 2 ≡ d → (f : Bool) → eqb b 3 ≡ f → (g : Bool) → eqb b 4 ≡ g → (h : Bool) → eqb b 5 ≡ h
+        → (i : Bool) → eqb b 6 ≡ i → (j : Bool) → eqb b 7 ≡ j → (k : Bool) → eqb b 8 ≡ k → Named s at b (command_by s at b)
+    one true e d _ f _ g _ h _ i _ j _ k _ = rw (eqb-true b 1 e) (refl, refl)
+    one false e₁ true e f _ g _ h _ i _ j _ k _ = rw (eqb-true b 2 e) (refl, refl)
+    one false e₁ false e₂ true e g _ h _ i _ j _ k _ = rw (eqb-true b 3 e) (refl, refl)
+    one false e₁ false e₂ false e₃ true e h _ i _ j _ k _ = rw (eqb-true b 4 e) (refl, refl)
+    one false e₁ false e₂ false e₃ false e₄ true e i _ j _ k _ = rw (eqb-true b 5 e) (refl, refl)
+    one false e₁ false e₂ false e₃ false e₄ false e₅ true e j _ k _ = rw (eqb-true b 6 e) (refl, refl)
+    one false e₁ false e₂ false e₃ false e₄ false e₅ false e₆ true e k _ = rw (eqb-true b 7 e) (refl, refl)
+    one false e₁ false e₂ false e₃ false e₄ false e₅ false e₆ false e₇ true e = rw (eqb-true b 8 e) (refl, refl)
+    one false e₁ false e₂ false e₃ false e₄ false e₅ false e₆ false e₇ false e₈ =
+        let n₁ = eqb-false b 1 e₁ in
+        let n₂ = eqb-false b 2 e₂ in
+        let n₃ = eqb-false b 3 e₃ in
+        let n₄ = eqb-false b 4 e₄ in
+        let n₅ = eqb-false b 5 e₅ in
+        let n₆ = eqb-false b 6 e₆ in
+        let n₇ = eqb-false b 7 e₇ in
+        let n₈ = eqb-false b 8 e₈ in
+        simp (e₁, e₂, e₃, e₄, e₅, e₆, e₇, e₈) (λ l k. omega arith)
+
 module _ (s : List ℕ) (at : ℕ) where
-  whole_by : (p : Bool) → ltb at (length s) ≡ p → (q : Bool) → leb (at + width (get_or s at 0)) (length s) ≡ q
-      → (f : Fetched) → f ≡ fetch_by s at p q → (k : Item) → f.taken ≡ Whole k → WholeAt s at k f.next
-  unfolding kind item_of
-  whole_by true e true g f i k t =
-      let same_item : k ≡ item_at s at (get_or s at 0) = ap (item_of k) (sym t ∙ ap (λ (x : Fetched). x.taken) i) in
+  -- by the bytes: all of them are there, some are missing, none is there
+  pub whole : at + width (get_or s at 0) ≤ length s → command_at s at ≡ command_by s at (get_or s at 0)
+  whole h = simp (le-leb (at + width (get_or s at 0)) (length s) h)
+
+  pub short : length s < at + width (get_or s at 0) → command_at s at ≡ None
+  short h = simp (lt-leb (at + width (get_or s at 0)) (length s) h)
+
+  pub none : length s ≤ at → command_at s at ≡ None
+  none h = short (omega (arith, wide (get_or s at 0)))
+
+  whole_by : (all : Bool) → leb (at + width (get_or s at 0)) (length s) ≡ all → (o : Maybe Code) → Named s at (get_or s at 0) o
+      → (command : Code) → cond all o None ≡ Some command → WholeAt s at command
+  whole_by true e (Some c) n command i =
+      let same : c ≡ command = cc in
+      let k = leb-true (at + width (get_or s at 0)) (length s) e in
+      rw (← same) (record { here = omega (arith, wide (get_or s at 0)); all = k; byte = n.0; says = n.1 })
+  whole_by true e None n command i = never (cc)
+  whole_by false e o n command i = never (cc)
+
+  pub fetched-whole : (command : Code) → command_at s at ≡ Some command → WholeAt s at command
+  fetched-whole = whole_by (leb (at + width (get_or s at 0)) (length s)) refl (command_by s at (get_or s at 0)) (named s at (get_or s at 0))
+
+  short-by : (all : Bool) → leb (at + width (get_or s at 0)) (length s) ≡ all → (o : Maybe Code) → Named s at (get_or s at 0) o → cond all o None ≡ None
+      → 1 ≤ get_or s at 0 → get_or s at 0 ≤ 8 → length s < at + width (get_or s at 0)
+  short-by true e (Some c) n i l k = never (cc)
+  short-by true e None n i l k = absurd (n l k)
+  short-by false e o n i l k = leb-false (at + width (get_or s at 0)) (length s) e
+
+  pub fetched-short : (b : ℕ) → command_at s at ≡ None → at < length s → b ≡ get_or s at 0 → 1 ≤ b → b ≤ 8 → ShortAt s at b
+  fetched-short b i h e l k =
       record {
-        here = ltb-true at (length s) e;
-        all = leb-true (at + width (get_or s at 0)) (length s) g;
-        item = same_item;
-        byte = ap (λ (x : Item). x.byte) same_item;
-        says = ap command_from same_item ∙ same s at (get_or s at 0);
-        next = ap (λ (x : Fetched). x.next) i;
+        here = h;
+        few = short-by (leb (at + width (get_or s at 0)) (length s)) refl (command_by s at (get_or s at 0)) (named s at (get_or s at 0)) i (omega arith) (omega arith);
+        byte = e;
       }
-  whole_by true e false g f i k t = let z : ◌≡◌ {A = ℕ} 0 1 = ap kind (sym t ∙ ap (λ (x : Fetched). x.taken) i) in absurd (omega arith)
-  whole_by false e q g f i k t = let z : ◌≡◌ {A = ℕ} 0 2 = ap kind (sym t ∙ ap (λ (x : Fetched). x.taken) i) in absurd (omega arith)
 
-  pub fetched-whole : (f : Fetched) → f ≡ fetch_at s at → (k : Item) → f.taken ≡ Whole k → WholeAt s at k f.next
-  fetched-whole = whole_by (ltb at (length s)) refl (leb (at + width (get_or s at 0)) (length s)) refl
-
-  pub fetched-as : (f : Fetched) → f ≡ fetch_at s at → (k : Item) → f.taken ≡ Whole k → fetch_at s at ≡ whole_as k f.next
-  fetched-as f i k t = sym i ∙ (λ j. record { taken = t j; next = f.next })
-
-  pub as-whole : (k : Item) (next : ℕ) → fetch_at s at ≡ whole_as k next → WholeAt s at k next
-  as-whole k next e = fetched-whole (whole_as k next) (sym e) k refl
-
-  short-by : (p : Bool) → ltb at (length s) ≡ p → (q : Bool) → leb (at + width (get_or s at 0)) (length s) ≡ q
-      → (f : Fetched) → f ≡ fetch_by s at p q → (b : ℕ) → f.taken ≡ Short b → ShortAt s at b
-  unfolding kind byte_of
-  short-by true e true g f i b t = let z : ◌≡◌ {A = ℕ} 1 0 = ap kind (sym t ∙ ap (λ (x : Fetched). x.taken) i) in absurd (omega arith)
-  short-by true e false g f i b t =
-      record { here = ltb-true at (length s) e; few = leb-false (at + width (get_or s at 0)) (length s) g; byte = ap byte_of (sym t ∙ ap (λ (x : Fetched). x.taken) i) }
-  short-by false e q g f i b t = let z : ◌≡◌ {A = ℕ} 1 2 = ap kind (sym t ∙ ap (λ (x : Fetched). x.taken) i) in absurd (omega arith)
-
-  pub fetched-short : (f : Fetched) → f ≡ fetch_at s at → (b : ℕ) → f.taken ≡ Short b → ShortAt s at b
-  fetched-short = short-by (ltb at (length s)) refl (leb (at + width (get_or s at 0)) (length s)) refl
-
-  none-by : (p : Bool) → ltb at (length s) ≡ p → (q : Bool) → (f : Fetched) → f ≡ fetch_by s at p q → f.taken ≡ Nothing → length s ≤ at
-  unfolding kind
-  none-by true e true f i t = let z : ◌≡◌ {A = ℕ} 2 0 = ap kind (sym t ∙ ap (λ (x : Fetched). x.taken) i) in absurd (omega arith)
-  none-by true e false f i t = let z : ◌≡◌ {A = ℕ} 2 1 = ap kind (sym t ∙ ap (λ (x : Fetched). x.taken) i) in absurd (omega arith)
-  none-by false e q f i t = ltb-false at (length s) e
-
-  pub fetched-none : (f : Fetched) → f ≡ fetch_at s at → f.taken ≡ Nothing → length s ≤ at
-  fetched-none = none-by (ltb at (length s)) refl (leb (at + width (get_or s at 0)) (length s))
+  -- none, though a byte would begin a whole command: no byte is there
+  pub fetched-none : command_at s at ≡ None → (at < length s → (1 ≤ get_or s at 0) × (get_or s at 0 ≤ 8) × (at + width (get_or s at 0) ≤ length s)) → length s ≤ at
+  fetched-none i k = one (ltb at (length s)) refl
+    where
+      one : (there : Bool) → ltb at (length s) ≡ there → length s ≤ at
+      one true e =
+          let h = ltb-true at (length s) e in
+          let t = k h in
+          absurd (omega (arith, (fetched-short (get_or s at 0) i h refl t.0 t.1).few))
+      one false e = ltb-false at (length s) e

@@ -1,66 +1,44 @@
--- What the code's reader fetches at a place: a command by value, and the place of the next one.
-use Rattle.std.specs.Prelude.{ℕ, ◌+◌, Bool, cond, List, leb, ltb, eqb, length, get_or}
-use Rattle.sheet.specs.declared.Row.{Row}
-use Rattle.sheet.specs.declared.Size.{Size}
-use Rattle.commands.specs.declared.fetch.Item.{Item}
-use Rattle.commands.specs.declared.fetch.Taken.{Taken}
-use Rattle.commands.specs.declared.fetch.Taken.TheVariants.{Whole, Short, Nothing}
-use Rattle.commands.specs.declared.fetch.Fetched.{Fetched}
-use Rattle.sheet.specs.Reading.{Command, size, quiet, rule, fault, start, test, press, end, width}
+-- What stands at a place: a command of the code.
+use Rattle.std.specs.Prelude.{ℕ, ◌+◌, cond, List, leb, eqb, length, get_or, Some, None}
+use Rattle.std.specs.Prelude.{Option as Maybe}
+use Rattle.commands.specs.declared.fetch.Command.TheVariants as code
+use Rattle.commands.specs.declared.fetch.Command.{Command as Code}
+use Rattle.sheet.specs.Reading.{Command, size, quiet, rule, fault, start, test, press, end, width, size_at, row_at}
 
--- the byte i of a command of w bytes, 0 where it has none
-abbrev pub operand_of : List ℕ → ℕ → ℕ → ℕ → ℕ
-operand_of s at w i = cond (ltb i w) (get_or s (at + i) 0) 0
+-- the command with this byte at a place; none where no command has it
+abbrev pub command_by : List ℕ → ℕ → ℕ → Maybe Code
+command_by s at b =
+    cond (eqb b 1) (Some (code.Size (size_at s at)))
+    (cond (eqb b 2) (Some (code.Rule (row_at s at)))
+    (cond (eqb b 3) (Some (code.Fault (row_at s at)))
+    (cond (eqb b 4) (Some code.Test)
+    (cond (eqb b 5) (Some (code.Press (get_or s (at + 1) 0)))
+    (cond (eqb b 6) (Some code.End)
+    (cond (eqb b 7) (Some (code.Start (get_or s (at + 1) 0)))
+    (cond (eqb b 8) (Some code.Quiet)
+    None)))))))
 
-abbrev pub item_at : List ℕ → ℕ → ℕ → Item
-item_at s at b =
-    record {
-      byte = b;
-      first = operand_of s at (width b) 1;
-      second = operand_of s at (width b) 2;
-      third = operand_of s at (width b) 3;
-      fourth = operand_of s at (width b) 4;
-    }
+-- the command that stands whole at a place, if any
+abbrev pub command_at : List ℕ → ℕ → Maybe Code
+command_at s at = cond (leb (at + width (get_or s at 0)) (length s)) (command_by s at (get_or s at 0)) None
 
--- by cases: is a byte there, and are its operands?
-abbrev pub fetch_by : List ℕ → ℕ → Bool → Bool → Fetched
-fetch_by s at there all =
-    cond there
-    (cond all
-    (record { taken = Whole (item_at s at (get_or s at 0)); next = at + width (get_or s at 0) })
-    (record { taken = Short (get_or s at 0); next = at }))
-    (record { taken = Nothing; next = at })
+-- a command's byte, and what it says
+abbrev pub byte_of : Code → ℕ
+byte_of (code.Size z) = 1
+byte_of (code.Rule r) = 2
+byte_of (code.Fault r) = 3
+byte_of code.Test = 4
+byte_of (code.Press x) = 5
+byte_of code.End = 6
+byte_of (code.Start t) = 7
+byte_of code.Quiet = 8
 
-abbrev pub fetch_at : List ℕ → ℕ → Fetched
-fetch_at s at = fetch_by s at (ltb at (length s)) (leb (at + width (get_or s at 0)) (length s))
-
--- a whole command was fetched
-abbrev pub whole_as : Item → ℕ → Fetched
-whole_as k next = record { taken = Whole k; next = next }
-
-abbrev pub row_from : Item → Row
-row_from k = record { source = k.first; input = k.second; output = k.third; target = k.fourth }
-
-abbrev pub size_from : Item → Size
-size_from k = record { states = k.first; inputs = k.second; outputs = k.third }
-
--- what a command by value says
-abbrev pub command_from : Item → Command
-command_from k =
-    cond (eqb k.byte 1) (size (size_from k))
-    (cond (eqb k.byte 2) (rule (row_from k))
-    (cond (eqb k.byte 3) (fault (row_from k))
-    (cond (eqb k.byte 4) test
-    (cond (eqb k.byte 5) (press k.first)
-    (cond (eqb k.byte 7) (start k.first)
-    (cond (eqb k.byte 8) quiet
-    end))))))
-
-abbrev pub no_item : Item
-no_item = record { byte = 0; first = 0; second = 0; third = 0; fourth = 0 }
-
--- a whole command, and nothing but zeros otherwise
-abbrev pub item_in : Taken → Item
-item_in (Whole k) = k
-item_in (Short b) = no_item
-item_in Nothing = no_item
+abbrev pub says : Code → Command
+says (code.Size z) = size z
+says (code.Rule r) = rule r
+says (code.Fault r) = fault r
+says code.Test = test
+says (code.Press x) = press x
+says code.End = end
+says (code.Start t) = start t
+says code.Quiet = quiet

@@ -4,8 +4,8 @@ use Rattle.lists.specs.Proving.{arith, ℕ, sym, ◌∙◌, ap, subst, inl, inr,
 use Rattle.std.specs.Int.Bits.{bit_and, and_self}
 use Rattle.std.proofs.lemmas.Nat.{and_shr, and_mod, and_le_l}
 use Rattle.model.specs.Machine.{Move}
-use Rattle.cubes.specs.Sets.{Has}
-use Rattle.cubes.specs.Cube.{Means, GoingOk, SoundsOk, BothOk, Shared, FreedOk}
+use Rattle.cubes.specs.Sets.{Has, Shared}
+use Rattle.cubes.specs.Cube.{Means, GoingOk, SoundsOk, BothOk, FreedOk}
 use Rattle.cubes.specs.laws.SetLaw.{nothing, alone, shared-and}
 
 pub meant : (l : ℕ) (v : Move) → (l ≡ 4294967295 → ⊥) → Means l v → (l / 65536 ≡ v.output) × Has (l % 65536) v.target

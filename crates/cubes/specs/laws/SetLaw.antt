@@ -7,8 +7,7 @@ use Rattle.std.proofs.lemmas.Nat.{and_shr}
 use Rattle.std.proofs.Common.{pow_pos, shl_exact}
 use Rattle.lists.specs.laws.BitLaw.{or-bit, one-other}
 use Rattle.lists.specs.laws.BitLaw as bit
-use Rattle.cubes.specs.Sets.{Has, HasAll, Joined, Grows, Put}
-use Rattle.cubes.specs.Cube.{Shared}
+use Rattle.cubes.specs.Sets.{Has, HasAll, Joined, Shared, Grows, Put}
 
 and-odd : (a b : ℕ) → bit_and a b % 2 ≡ min (a % 2) (b % 2)
 and-odd a b = omega (arith, and_step a b)

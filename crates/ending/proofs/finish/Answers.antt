@@ -1,29 +1,23 @@
-use Rattle.ending.specs.declared.End.TheVariants.{Accepted}
+use Rattle.std.proofs.Common.{◌≡◌, true, ◌∙◌, sym, arith}
+use Rattle.sheet.specs.Sheet.{all_reached}
 use Rattle.ending.proofs.EndLaw as laws
-use mathlib.Core.Path.{◌∙◌, sym, ap}
-use native.Mathlib.Omega.{arith}
 use Rattle.ending.proofs.finish.Goals as goal
 
 pub returns-then-at-sheet : goal.returns-then-at-sheet
-returns-then-at-sheet c = λ sh h. let a = c.args in laws.end_more sh a.sheet.now a.at c.if-at-sheet.true
+returns-then-at-sheet c = λ sh h. cc (laws.end_more sh c.args.sheet.now c.args.at c.if-at-sheet.true)
 
-pub returns-then-slots-le32 : goal.returns-then-slots-le32
-returns-then-slots-le32 c = let a = c.args in
-    λ sh h.
+pub returns-then-not-all_reached : goal.returns-then-not-all_reached
+returns-then-not-all_reached c = λ sh h.
+    cc (laws.end-lost sh c.args.sheet.now c.args.at c.if-at-sheet.false (sym (c.all_reached.ensures sh h.size h.leads) ∙ c.if-not-all_reached.true))
+
+pub returns-then-slots-gt-MOST : goal.returns-then-slots-gt-MOST
+returns-then-slots-gt-MOST c = λ sh h.
     let n = c.open_slots-slots.ensures sh h in
-    ap Accepted n
-    ∙ laws.end-good sh a.sheet.now a.at c.if-at-sheet.false
-    (sym (c.all_reached.ensures sh h.size h.leads) ∙ c.if-all_reached.true) (omega arith)
+    let reached : all_reached sh ≡ true = sym (c.all_reached.ensures sh h.size h.leads) ∙ c.if-not-all_reached.false in
+    cc (laws.end-many sh c.args.sheet.now c.args.at c.if-at-sheet.false reached (omega arith))
 
-pub returns-else-slots-le32 : goal.returns-else-slots-le32
-returns-else-slots-le32 c = let a = c.args in
-    λ sh h.
+pub returns : goal.returns
+returns c = λ sh h.
     let n = c.open_slots-slots.ensures sh h in
-    laws.end-many sh a.sheet.now a.at c.if-at-sheet.false
-    (sym (c.all_reached.ensures sh h.size h.leads) ∙ c.if-all_reached.true) (omega arith)
-
-pub returns-else-all_reached : goal.returns-else-all_reached
-returns-else-all_reached c = λ sh h.
-    let a = c.args in
-    laws.end-lost sh a.sheet.now a.at c.if-at-sheet.false
-    (sym (c.all_reached.ensures sh h.size h.leads) ∙ c.if-all_reached.false)
+    let reached : all_reached sh ≡ true = sym (c.all_reached.ensures sh h.size h.leads) ∙ c.if-not-all_reached.false in
+    cc (laws.end-good sh c.args.sheet.now c.args.at c.if-at-sheet.false reached (omega arith))

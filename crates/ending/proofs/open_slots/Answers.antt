@@ -1,27 +1,20 @@
+use Rattle.std.proofs.Common.{◌≡◌, ℕ, ◌+◌, ap, ◌∙◌, arith}
 use Rattle.sheet.specs.declared.Size.{Size}
-use mathlib.Core.Path.{ap, ◌∙◌, ◌≡◌}
 use Rattle.sheet.specs.Sheet.{open_below, waking_slots}
-use Prim.Native.Nat.{ℕ, ◌+◌}
 use Rattle.ending.proofs.EndLaw as laws
-use native.Mathlib.Omega.{arith}
 use Rattle.ending.proofs.open_slots.Goals as goal
 
 pub loop-s-init : goal.loop-s-init
-loop-s-init c = (omega arith, omega arith, λ sh e h k. laws.slots-none sh _ k)
-
-pub open_at-n-requires : goal.open_at-n-requires
-open_at-n-requires c = (c.requires, omega (arith, c.requires))
-
-pub overflow_add-n : goal.overflow_add-n
-overflow_add-n c = omega (arith, c.requires)
+loop-s-init c = (omega arith, λ sh e h k. laws.slots-none sh _ k)
 
 pub loop-s-preserved : goal.loop-s-preserved
-loop-s-preserved c = (omega arith, omega arith, λ sh e h k. laws.slots-more sh _ _ _ (c.loop-s.invariant.2 sh e h k) (c.open_at-n.ensures.counted sh e h))
+loop-s-preserved c = (omega arith, λ sh e h k. laws.slots-more sh _ _ _ (c.loop-s.invariant.1 sh e h k) (c.open_at-n.ensures.counted sh e h))
 
 pub returns : goal.returns
-returns c = let a = c.args in
+returns c =
+    let a = c.args in
     λ sh h.
     let e : c.loop-s.s ≡ a.size.states = omega arith in
     laws.slots-all sh _
-    (c.loop-s.invariant.2 sh h.size (laws.linked _ c.unruled_choices-unruled.ensures h) (c.waking_slots-n.ensures.counted sh h.starts-are)
+    (c.loop-s.invariant.1 sh h.size (laws.linked _ c.unruled_choices-unruled.ensures h) (c.waking_slots-n.ensures.counted sh h.starts-are)
     ∙ ap (λ (n : ℕ). waking_slots sh + open_below sh n) (e ∙ ap (λ (z : Size). z.states) h.size))

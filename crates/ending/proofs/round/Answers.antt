@@ -1,29 +1,27 @@
+use Rattle.std.proofs.Common.{◌≡◌, true, false, get_or, arith}
+use Rattle.lists.specs.laws.TestLaw.{never}
 use Rattle.ending.proofs.EndLaw as laws
-use mathlib.Core.Path.{◌≡◌}
-use native.Mathlib.Omega.{arith}
 use Rattle.ending.proofs.round.Goals as goal
-use Rattle.ending.proofs.round.Goals.{then-done-s, else-done-s}
+use Rattle.ending.proofs.round.Goals.{then-seen-s+then-not-done-s, else-seen-s, else-seen-s-via-then-seen-s+else-not-done-s, else-seen-s-via-else-seen-s}
 
 pub loop-s-init : goal.loop-s-init
-loop-s-init c = (omega arith, λ rules f g h d m q. laws.round-none c.args.size rules g m)
-
-pub bounds-done-s : goal.bounds-done-s
-bounds-done-s c = omega (arith, c.requires)
-
-pub bounds-seen-s : goal.bounds-seen-s
-bounds-seen-s c = omega (arith, c.requires)
-
-pub spread-more-requires : goal.spread-more-requires
-spread-more-requires c = (c.requires, omega (arith, c.requires))
-
-pub overflow_add-s : goal.overflow_add-s
-overflow_add-s c = omega (arith, c.requires)
+loop-s-init c = λ rules f g h d m q. laws.round-none c.args.size rules g m
 
 pub loop-s-preserved : goal.loop-s-preserved
-loop-s-preserved c = elim c.if-done-s.branch [
-  | then-done-s w ↦ (omega arith, λ rules f g h d m q. rw w.next-is (laws.round-new c.args.size rules g d m _ (omega (arith, c.requires)) w.if-done-s.true (w.spread-more.ensures rules _ h (c.loop-s.invariant.1 rules f g h d m q))))
-  | else-done-s w ↦ (omega arith, λ rules f g h d m q. rw w.next-is (laws.round-known c.args.size rules g d m _ (omega (arith, c.requires)) q (omega arith) w.if-done-s.false (c.loop-s.invariant.1 rules f g h d m q)))
-]
+loop-s-preserved c =
+    let a = c.args in
+    elim c.if-seen-s.branch [
+      | then-seen-s+then-not-done-s w ↦
+          λ rules f g h d m q.
+          rw w.next-is (laws.round-new a.size rules g d m _ (omega (arith, c.requires)) w.if-seen-s.true (w.spread.ensures rules _ h (c.loop-s.invariant rules f g h d m q)))
+      | else-seen-s w ↦
+          let done : get_or a.seen.now c.loop-s.s false ≡ true → get_or a.done.now c.loop-s.s false ≡ true =
+          elim w.else-seen-s.branch [
+            | else-seen-s-via-then-seen-s+else-not-done-s v ↦ λ e. v.if-not-done-s.false
+            | else-seen-s-via-else-seen-s v ↦ λ e. never (cc (v.if-seen-s.false))
+          ] in
+          λ rules f g h d m q. rw w.next-is (laws.round-known a.size rules g d m _ (omega (arith, c.requires)) q (omega arith) done (c.loop-s.invariant rules f g h d m q))
+    ]
 
 pub returns : goal.returns
-returns c = λ rules f g h d m q. let e : c.loop-s.s ≡ c.args.size.states = omega arith in rw (← e) (c.loop-s.invariant.1 rules f g h d m q)
+returns c = λ rules f g h d m q. let e : c.loop-s.s ≡ c.args.size.states = omega arith in rw (← e) (c.loop-s.invariant rules f g h d m q)

@@ -1,21 +1,19 @@
 -- What END looks at: words for the contracts of the crate's own functions, and of `finish`.
-use Rattle.std.specs.Prelude.{ℕ, ◌<◌, ◌≡◌, Bool, true, cond, List, ltb, length, get_or}
+use Rattle.std.specs.Prelude.{Result as Answer}
+use Rattle.std.specs.Prelude.{ℕ, ◌<◌, ◌≡◌, Bool, true, false, List, ltb, length, get_or}
 use Rattle.sheet.specs.declared.Row.{Row}
 use Rattle.sheet.specs.declared.Size.{Size}
-use Rattle.ending.specs.declared.End.{End}
-use Rattle.ending.specs.declared.End.TheVariants as ending
+use Rattle.sheet.specs.declared.Refusal.{Refusal}
 use Rattle.lists.specs.Lists.{any}
 use Rattle.sheet.specs.Sheet.{Sheet, rows_at, leads, unruled_choices, open_slots}
-use Rattle.sheet.specs.Reading.{Reading, accepted, refused}
+use Rattle.sheet.specs.Reading.{Reading}
+use Rattle.sheet.specs.Tables.{answer_by}
 use Rattle.sheet.specs.words.Tabled.{ByPair, Leads, present, StartsHold}
 
-abbrev pub mark_of : Bool → ℕ
-mark_of b = cond b 1 0
-
--- sixteen bytes that mark the states of which g holds
-pub record Marks (l : List ℕ) (g : ℕ → Bool) : Type 0 where
+-- sixteen marks, of the states of which g holds
+pub record Marks (l : List Bool) (g : ℕ → Bool) : Type 0 where
   pub size : length l ≡ 16
-  pub at : (t : ℕ) → t < 16 → get_or l t 0 ≡ mark_of (g t)
+  pub at : (t : ℕ) → t < 16 → get_or l t false ≡ g t
 
 -- where a rule at a state of f leads, g holds
 pub record Follows (z : Size) (rules : List Row) (f g : ℕ → Bool) : Type 0 where
@@ -36,6 +34,5 @@ pub record Gathered (z : Size) (starts : ℕ) (quiet : Bool) (ts ms : List ℕ) 
   pub faulty : ByPair ms (λ s x. present (rows_at sh.faults s x))
 
 -- how a reading ends, for the code
-abbrev pub end_of : Reading → End
-end_of (accepted sh) = ending.Accepted (open_slots sh)
-end_of (refused number place) = ending.Refused number place
+abbrev pub end_of : Reading → Answer ℕ Refusal
+end_of r = answer_by open_slots r

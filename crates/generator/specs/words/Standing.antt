@@ -1,5 +1,5 @@
 -- What the functions that draw promise one another: rows in tables of four bytes a row.
-use Rattle.std.specs.Prelude.{◌≡◌, ℕ, ◌+◌, ◌*◌, ◌/◌, ◌%◌, ◌≤◌, cond, List, [], ◌∷◌, length}
+use Rattle.std.specs.Prelude.{ℕ, ◌+◌, ◌*◌, ◌/◌, ◌%◌, ◌≤◌, cond, List, [], ◌∷◌, length}
 use Rattle.sheet.specs.declared.Row.{Row}
 use Rattle.sheet.specs.declared.Size.{Size}
 use Rattle.lists.specs.Lists.{joined}
@@ -7,12 +7,11 @@ use Rattle.sheet.specs.Sheet.{row_of}
 use Rattle.sheet.specs.WellFormed.{SizeIn}
 use Rattle.writing.specs.words.Spelled.{Spelled}
 use Rattle.generator.specs.declared.pairs.Pair.{Pair}
-use Rattle.generator.specs.declared.pairs.Place.{Place}
 use Rattle.generator.specs.Generating.{third, drawn, rule_from, is_faulty, fault_of, Draft}
 
--- a pair's rule, its third draw and the seed after it
+-- a pair's rule and its third draw
 abbrev pub pair_from : Size → ℕ → ℕ → ℕ → Pair
-pair_from z seed s x = record { rule = rule_from z seed s x; lot = drawn 8 (third seed); seed = third seed }
+pair_from z seed s x = record { rule = rule_from z seed s x; lot = drawn 8 (third seed) }
 
 -- the fault that a pair with this rule and third draw gets, if any
 abbrev pub faults_of : Size → Row → ℕ → ℕ → List Row
@@ -25,14 +24,12 @@ pub record Ready (z : Size) (rs fs : List ℕ) : Type 0 where
   pub faults : 128 ≤ length fs
 
 -- from a seed and so many faults, pair i is put into the tables
-pub record PairPut (z : Size) (i : ℕ) (old new : Place) (rs rs' fs fs' : List ℕ) : Type 0 where
-  pub seed : new.seed ≡ third old.seed
-  pub rule : Spelled rs rs' (4 * i) (4 * i + 4) (row_of (rule_from z old.seed (i / z.inputs) (i % z.inputs)))
-  pub fault : Spelled fs fs' (4 * old.faults) (4 * new.faults)
-      (joined row_of (faults_of z (rule_from z old.seed (i / z.inputs) (i % z.inputs)) (drawn 8 (third old.seed)) old.faults))
+pub record PairPut (z : Size) (i seed standing standing' : ℕ) (rs rs' fs fs' : List ℕ) : Type 0 where
+  pub rule : Spelled rs rs' (4 * i) (4 * i + 4) (row_of (rule_from z seed (i / z.inputs) (i % z.inputs)))
+  pub fault : Spelled fs fs' (4 * standing) (4 * standing')
+      (joined row_of (faults_of z (rule_from z seed (i / z.inputs) (i % z.inputs)) (drawn 8 (third seed)) standing))
 
 -- the rows of a draft of i pairs stand at the front of the tables
-pub record Standing (d : Draft) (i : ℕ) (p : Place) (rs rs' fs fs' : List ℕ) : Type 0 where
-  pub seed : p.seed ≡ d.seed
+pub record Standing (d : Draft) (i standing : ℕ) (rs rs' fs fs' : List ℕ) : Type 0 where
   pub rules : Spelled rs rs' 0 (4 * i) (joined row_of d.rules)
-  pub faults : Spelled fs fs' 0 (4 * p.faults) (joined row_of d.faults)
+  pub faults : Spelled fs fs' 0 (4 * standing) (joined row_of d.faults)

@@ -1,7 +1,8 @@
 -- The suite of an accepted sheet: where its tests stand, and that their log is the suite's.
 use Rattle.std.specs.Prelude.{◌*◌, ◌≤◌, ◌≡◌}
 use Rattle.lists.specs.Proving.{arith, ℕ, refl, sym, ◌∙◌, ap, List, [], length, take}
-use Rattle.std.proofs.Common.{append-nil}
+use Rattle.std.proofs.Common.{append-nil, replicate}
+use Rattle.std.proofs.lemmas.List.{length-replicate}
 use Rattle.sheet.specs.Sheet.{Sheet}
 use Rattle.sheet.specs.Tables.{tables_of}
 use Rattle.sheet.specs.WellFormed.{WellFormed}
@@ -68,3 +69,8 @@ module _ {sh : Sheet} {s starts lengths m : List ℕ} {tests : ℕ} (rd : ReadFr
 
   pub suite-long : {room : ℕ} → 24576 ≤ room → SuiteIn sh s starts lengths tests m room
   suite-long l = suite-in (omega (arith, log-bytes sh, ap length rd.bytes, rd.short))
+
+-- an array of so many noughts is such a room
+pub suite-blank : {sh : Sheet} {s starts lengths m : List ℕ} {tests : ℕ} (room : ℕ) → SuiteIn sh s starts lengths tests m room →
+    SuiteIn sh s starts lengths tests m (length {A = ℕ} (replicate room 0))
+suite-blank room su = rw (length-replicate {A = ℕ} room 0) su

@@ -5,7 +5,8 @@ use Rattle.std.proofs.Common.{suc-le-suc, add-zero, append_assoc, get_or-append-
 use Rattle.sheet.specs.Sheet.{Sheet}
 use Rattle.sheet.specs.Encode.{operand_bytes, press_bytes, encode}
 use Rattle.sheet.specs.Part.{span_of}
-use Rattle.sheet.specs.Tables.{Tables, tables_of}
+use Rattle.sheet.specs.declared.Tables.{Tables}
+use Rattle.sheet.specs.Tables.{tables_of}
 use Rattle.sheet.specs.WellFormed.{WellFormed}
 use Rattle.lists.specs.laws.ListLaw.{all-at-index}
 use Rattle.sheet.specs.laws.PartLaw.{before, presses, after, layout, presses-length}

@@ -1,4 +1,5 @@
 -- A sheet whose suite grows.
+use Rattle.std.specs.Prelude.{Result as Answer, Ok, Err}
 use Rattle.std.specs.Prelude.{ℕ, ◌+◌, ◌-◌, ◌*◌, ◌≤◌, ◌<◌, ◌≡◌, Bool, false, cond, List, eqb, leb, length, take}
 use Rattle.sheet.specs.Sheet.{Sheet}
 use Rattle.sheet.specs.Encode.{body}
@@ -10,13 +11,9 @@ use Rattle.model.specs.Making.{Grown, grow_from}
 use Rattle.block.specs.Logged.{log_bytes}
 use Rattle.logs.specs.Tests.{Defined}
 use Rattle.search.specs.Search.{ForSheet}
-use Rattle.sweep.specs.declared.Outcome.{Outcome}
-use Rattle.sweep.specs.declared.Outcome.TheVariants as outcome
+use Rattle.sheet.specs.declared.Refusal.{Refusal}
+use Rattle.sheet.specs.Tables.{refusal_of}
 use Rattle.making.specs.declared.grow.Growth.{Growth}
-use Rattle.making.specs.declared.grow.Next.{Next}
-use Rattle.making.specs.declared.grow.Next.TheVariants as next
-use Rattle.making.specs.declared.grow.State.{State}
-use Rattle.making.specs.declared.grow.State.TheVariants as state
 
 -- the bytes before `end` are all of the sheet but its END, the block holds its tables, and the first n bytes of the log are its suite's
 pub record Held (sh : Sheet) (m bytes log : List ℕ) (end n : ℕ) : Type 0 where
@@ -53,33 +50,15 @@ pub record Complete (result : Result Grown) (bytes : List ℕ) (end appended : �
   pub short : end < 16384
   pub long : length bytes ≡ 16384
 
--- how far it is: the suite is complete; the next test does not fit; or neither is known
-abbrev pub Reached : State → Result Grown → List ℕ → List ℕ → List ℕ → Growth → Type 0
-Reached state.Complete result m bytes log g = Complete result bytes g.end g.appended
-Reached state.Full result m bytes log g = result ≡ refused 18 0
-Reached state.Unknown result m bytes log g = (sh : Sheet) × GrowingIn result sh m bytes log g
-
--- one of the first two
-abbrev pub Finished : State → Result Grown → List ℕ → Growth → Type 0
-Finished state.Complete result bytes g = Complete result bytes g.end g.appended
-Finished state.Full result bytes g = result ≡ refused 18 0
-Finished state.Unknown result bytes g = ⊥
+-- the suite is complete; or the next test does not fit
+abbrev pub Grows : Result Grown → List ℕ → Answer Growth Refusal → Type 0
+Grows result bytes (Ok g) = Complete result bytes g.end g.appended
+Grows result bytes (Err why) = (result ≡ refused 18 0) × (why ≡ refusal_of 18 0)
 
 -- whether a test of d inputs fits
 abbrev pub fitting : ℕ → ℕ → ℕ → Bool
 fitting room end d = cond (eqb room 0) false (leb (end + 2 + 2 * d) 16384)
 
--- what comes after what a sweep found
-abbrev pub next_of : Outcome → ℕ → ℕ → Next
-next_of outcome.Nothing room end = next.Ends state.Complete
-next_of outcome.GaveUp room end = next.Ends state.Unknown
-next_of (outcome.Survivor d) room end = cond (fitting room end d) (next.Appends d) (next.Ends state.Full)
-
--- ---- what becomes of the numbers
--- no test is appended
-abbrev pub ended_in : Growth → State → Growth
-ended_in g s = record { state = s; end = g.end; observed = g.observed; room = g.room; appended = g.appended }
-
--- a test of d inputs is
+-- what becomes of the numbers where a test is appended
 abbrev pub longer_by : Growth → ℕ → ℕ → Growth
-longer_by g d observed = record { state = state.Unknown; end = g.end + 1 + 2 * d; observed = observed; room = g.room - 1; appended = g.appended + 1 }
+longer_by g d observed = record { end = g.end + 1 + 2 * d; observed = observed; room = g.room - 1; appended = g.appended + 1 }

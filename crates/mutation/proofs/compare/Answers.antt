@@ -1,29 +1,15 @@
 -- `compare`: a refusal of reading, or the operation on the accepted sheet.
-use mathlib.Core.Path.{sym, ◌∙◌, ap, ap₂}
-use lib.ListN.{length}
-use Rattle.mutation.specs.declared.Compared.TheVariants.{Refused}
-use Rattle.lists.specs.Lists.{overlay}
-use Rattle.mutation.specs.Answers.{compared_answer, compared_writes}
-use Rattle.block.specs.laws.OpenedLaw.{opened, closed-by}
-use Rattle.mutation.proofs.OpenLaw.{comparing-on, comparing-refused, told-compared}
-use Rattle.sheet.specs.laws.RefusalLaw.{refusal-told}
+use Rattle.std.proofs.Common.{rules, length}
+use Rattle.mutation.proofs.OpenLaw.{compared-unread, compared-loaded, told-compared}
 use Rattle.mutation.proofs.compare.Goals as goal
 
-pub returns-in_default : goal.returns-in_default
-returns-in_default c = let a = c.args in
-    let z = refusal-told _ _ _ _ c.refusal_of-why.ensures c.in_default.is in
-    let e = comparing-refused a.sheet.now c.in_default.field-0 c.in_default.field-1 (closed-by a.sheet.now c.load-reading.ensures.value c.in_default.field-0 c.in_default.field-1 c.in_default.is) a.mutant.now (length a.buffer.now) in
-    let answer = ap₂ Refused z.0 z.1 ∙ sym (ap compared_answer e) in
-    let bytes = sym (ap (λ q. overlay (compared_writes q) a.buffer.now) e) in record { answer = answer; bytes = bytes; told = told-compared a.sheet.now a.mutant.now (length a.buffer.now) _ a.buffer.now a.buffer.now answer bytes }
-
-pub compare_accepted-requires : goal.compare_accepted-requires
-compare_accepted-requires c = let a = c.args in
-    let o = opened a.sheet.now c.load-reading.ensures.value c.in-Accepted.is c.load-reading.ensures.loads in (o.sheet, o.holds.loads.tabled)
+pub returns-in_err-load : goal.returns-in_err-load
+returns-in_err-load c = let a = c.args in
+    let is = compared-unread a.sheet.now c.in_err-load.ensures.refused a.mutant.now (length a.buffer.now) {r = c.from_residual.result} {buffer = a.buffer.now} (search rules) in
+    record { answer = is.answer; bytes = is.bytes; told = told-compared a.sheet.now a.mutant.now (length a.buffer.now) is }
 
 pub returns : goal.returns
 returns c = let a = c.args in
-    let o = opened a.sheet.now c.load-reading.ensures.value c.in-Accepted.is c.load-reading.ensures.loads in
-    let e = comparing-on a.sheet.now o.sheet o.is a.mutant.now (length a.buffer.now) in
-    let is = c.compare_accepted.ensures o.sheet o.holds.loads.tabled in
-    let answer = is.answer ∙ sym (ap compared_answer e) in
-    let bytes = is.bytes ∙ sym (ap (λ q. overlay (compared_writes q) a.buffer.now) e) in record { answer = answer; bytes = bytes; told = told-compared a.sheet.now a.mutant.now (length a.buffer.now) _ a.buffer.now _ answer bytes }
+    let o = c.in_ok-load.ensures.opened in
+    let is = compared-loaded a.sheet.now o.sheet o.is a.mutant.now (length a.buffer.now) (c.compare_loaded.ensures o.sheet o.holds) in
+    record { answer = is.answer; bytes = is.bytes; told = told-compared a.sheet.now a.mutant.now (length a.buffer.now) is }

@@ -1,9 +1,10 @@
-use Rattle.store.specs.laws.ToldLaw.{void}
+use Rattle.lists.specs.Proving.{refl}
+use Rattle.lists.specs.laws.TestLaw.{clash}
 use Rattle.refutation.proofs.FactsLaw.{prepared}
 use Rattle.refutation.proofs.prepare.Goals as goal
 
 pub returns-then-not-enter_all : goal.returns-then-not-enter_all
-returns-then-not-enter_all c = (c.enter_all.ensures.long, λ e. void e)
+returns-then-not-enter_all c = (c.enter_all.ensures.long, λ e. clash _ e refl)
 
 pub exchange_all-requires : goal.exchange_all-requires
 exchange_all-requires c =

@@ -74,6 +74,10 @@ fields-take xs n h =
 pub field-more : {a b c d : List ℕ} {i j k l : ℕ} (xs : List ℕ) (n : ℕ) → Spelled a b i j (fields (take n xs)) → Spelled b c j k (32 ∷ []) → Spelled c d k l (decimal (get_or xs n 0)) → n < length xs → Spelled a d i l (fields (take (n + 1) xs))
 field-more xs n p q r h = rw (fields-take xs n h) (spelled-both p (spelled-both q r))
 
+-- the same, of a blank and a number together
+pub field-next : {a b c : List ℕ} {i j k : ℕ} (xs : List ℕ) (n : ℕ) → Spelled a b i j (fields (take n xs)) → Spelled b c j k (32 ∷ decimal (get_or xs n 0)) → n < length xs → Spelled a c i k (fields (take (n + 1) xs))
+field-next xs n p q h = rw (fields-take xs n h) (spelled-both p q)
+
 pub fields-none : (l : List ℕ) (at : ℕ) → Spelled l l at at (fields [])
 unfolding fields
 fields-none l at = spelled_none

@@ -1,5 +1,5 @@
 -- What the search for a nonconforming mutant finds is the judgement.
-use Rattle.std.specs.Prelude.{◌≡◌}
+use Rattle.std.specs.Prelude.{◌≡◌, Some}
 use Rattle.lists.specs.Proving.{arith, ℕ, refl, ◌∙◌, ap, Option, some, none, List, length, never}
 use Rattle.lists.specs.Lists.{overlay}
 use Rattle.sheet.specs.Sheet.{Sheet}
@@ -9,9 +9,7 @@ use Rattle.model.proofs.laws.JudgeLaw.{judge-none, judge-first}
 use Rattle.model.proofs.laws.LogLaw.{passes-gives}
 use Rattle.logs.specs.laws.WalkedLaw.{gives-passes}
 use Rattle.cubes.specs.declared.goal.Goal.TheVariants.{Nonconforming}
-use Rattle.machine.specs.declared.product.Difference.{Difference}
-use Rattle.machine.specs.declared.product.Difference.TheVariants as difference
-use Rattle.machine.specs.Differences.{difference_of}
+use Rattle.machine.specs.Differences.{Difference, difference_of}
 use Rattle.search.specs.Search.{Wanted, In, every, NoneOf}
 use Rattle.search.specs.Shown.{Shown}
 
@@ -35,7 +33,7 @@ pub record Survivor (sh : Sheet) (d : Difference) (old_board new_board old_seque
   pub mutant : List ℕ
   pub inputs : List ℕ
   pub judged : judge_of sh ≡ survivor mutant inputs
-  pub long : d ≡ difference.Shown (length inputs)
+  pub long : d ≡ Some (length inputs)
   pub board : new_board ≡ overlay mutant old_board
   pub sequence : new_sequence ≡ overlay inputs old_sequence
 

@@ -1,4 +1,6 @@
 -- What the answers of the station's calls tell.
+use Rattle.std.specs.Prelude.{Result as Answer}
+use Rattle.std.specs.Prelude.{Ok, Err}
 use Rattle.std.specs.Prelude.{ℕ, ◌-◌, ◌<◌, ◌≡◌, Bool, true, false, not, ◌&&◌, ◌⊎◌, List, [], ◌∷◌, ◌++◌, eqb, ltb, length}
 use Rattle.std.proofs.Math.Path.{refl}
 use Rattle.std.proofs.Common.{sym, ◌∙◌, ap, subst, inl, inr, ⊎_elim, ltb-true}
@@ -16,17 +18,15 @@ use Rattle.station.specs.declared.Phase.TheVariants as phase
 use Rattle.station.specs.declared.State.{State}
 use Rattle.station.specs.declared.Step.{Step}
 use Rattle.station.specs.declared.Step.TheVariants as step
-use Rattle.station.specs.declared.Begun.{Begun}
-use Rattle.station.specs.declared.Begun.TheVariants as begun
 use Rattle.station.specs.declared.Advanced.{Advanced}
-use Rattle.station.specs.declared.Advanced.TheVariants as advanced
-use Rattle.station.specs.declared.Taken.{Taken}
-use Rattle.station.specs.declared.Changed.{Changed}
-use Rattle.station.specs.declared.Changed.TheVariants as changed
+use Rattle.station.specs.declared.Heard.{Heard as HeardAnswer}
+use Rattle.sheet.specs.declared.Refusal.{Refusal}
+use Rattle.sheet.specs.Tables.{refusal_of}
+use Rattle.logs.specs.Walked.{wrong_of}
 use Rattle.station.specs.Station.{state_at, fresh, is_complete, suited, beginning, input_at, Given, onward, along, next_by, nexting, Heard, heard_as, place_of, due_by, take_by, taking, agrees, Agree, is_open, changing}
-use Rattle.station.specs.Answers.{begun_answer, next_answer, heard_of, taken_answer, changed_answer}
+use Rattle.station.specs.Answers.{begun_answer, advanced_at, advanced_of, next_answer, heard_of, taken_answer, changed_answer}
 use Rattle.station.specs.Calls.{Call, next, take-output, sheet_of, state_of, Answered, sheet_left, state_left, Chained, History, last_sheet, last_state, due_in, GivesPass, GivesFailure, Some, RightMeans, PassMeans, FailureMeans}
-use Rattle.station.specs.Told.{BegunSays, ToldBegun, StepSays, AdvancedSays, NextSays, ToldNext, BelowOutputs, TakenSays, ToldTaken, ChangedSays, ToldChanged}
+use Rattle.station.specs.Told.{BegunSays, ToldBegun, StepSays, AdvancedSays, NextSays, ToldNext, BelowOutputs, HeardSays, TakenSays, ToldTaken, ChangedSays, ToldChanged}
 use Rattle.station.proofs.laws.ProgressLaw.{current-agree}
 use Rattle.station.proofs.laws.AgreeLaw.{agrees-true, true-agrees}
 use Rattle.station.proofs.laws.VerdictLaw.{next-left, take_left}
@@ -56,17 +56,17 @@ module _ (s : List ℕ) (sh : Sheet) (read : reading s ≡ accepted sh) where
       go complete e = inl ((complete-told s sh read).0 e, suited-on complete e)
       go (survivor b xs) e = inr (suited-on (survivor b xs) e)
 
-pub begun-told : (s : List ℕ) (r : Begun) → r ≡ begun_answer (beginning s) → ToldBegun s r
+pub begun-told : (s : List ℕ) (r : Answer State Refusal) → r ≡ begun_answer (beginning s) → ToldBegun s r
 unfolding ToldBegun beginning
 begun-told s r e sh read = go (complete-or s sh read)
   where
     go : (Complete sh × (suited s ≡ accepted sh)) ⊎ (suited s ≡ refused 22 0) → BegunSays sh r
     go (inl (all, is)) =
-        let at : r ≡ begun.At fresh = e ∙ rw is refl in
+        let at : r ≡ Ok fresh = e ∙ rw is refl in
         let means : Complete sh × Guaranteed sh = rw ((complete-told s sh read).1 all) at (judged-told s sh read) in
         record { begins = λ h. at; only = λ h. means; otherwise = λ h. absurd (h all) }
     go (inr is) =
-        let at : r ≡ begun.Refused 22 0 = e ∙ rw is refl in
+        let at : r ≡ Err (refusal_of 22 0) = e ∙ rw is refl in
         record {
           begins = λ h. let z = suited-complete s sh read h in never (cc);
           only = λ h. never (cc);
@@ -162,13 +162,13 @@ module _ (s : List ℕ) (st : State) (first : List ℕ) (calls : List Call) (h :
   next-given (accepted g) eg = next-step g eg g.step refl
   next-given (refused number place) k = let z = next-on read-on.0 read-on.1 st.phase refl in never (cc)
 
-  due-given : (sh : Sheet) (x : ℕ) → reading s ≡ accepted sh → st.phase ≡ phase.Due → input_at sh st ≡ some x → next_answer (nexting s st) ≡ advanced.Given (step.Input x) st
+  due-given : (sh : Sheet) (x : ℕ) → reading s ≡ accepted sh → st.phase ≡ phase.Due → input_at sh st ≡ some x → next_answer (nexting s st) ≡ Ok (advanced_at (step.Input x) st)
   due-given sh x er p i =
       ap next_answer (next-on sh er phase.Due p)
       ∙ ap (λ (o : Option ℕ). next_answer (accepted (along sh st o))) i
-      ∙ ap (λ (q : Phase). advanced.Given (step.Input x) (state_at st.begun st.position q)) (sym p)
+      ∙ ap (λ (q : Phase). Ok (advanced_at (step.Input x) (state_at st.begun st.position q))) (sym p)
 
-  next-says : (r : Advanced) → r ≡ next_answer (nexting s st) → NextSays first calls s st r
+  next-says : (r : Answer Advanced Refusal) → r ≡ next_answer (nexting s st) → NextSays first calls s st r
   next-says r e =
       record {
         given = subst (AdvancedSays first (calls ++ next s st (nexting s st) ∷ [])) (sym e) (next-given (nexting s st) refl);
@@ -196,7 +196,7 @@ module _ (s : List ℕ) (st : State) (first : List ℕ) (calls : List Call) (h :
       low : BelowOutputs s o
       low = below s st o g eg
 
-      says : (f : Option Place) → g.failure ≡ f → TakenSays first calls s st o (heard_of f g.state)
+      says : (f : Option Place) → g.failure ≡ f → (due_in calls ≡ true) × BelowOutputs s o × HeardSays first (calls ++ take-output s st o (taking s st o) ∷ []) (wrong_of f)
       says none ef = (
         due,
         low,
@@ -217,16 +217,16 @@ module _ (s : List ℕ) (st : State) (first : List ℕ) (calls : List Call) (h :
       same-as : (sh : Sheet) → reading s ≡ accepted sh → (front-told first calls h).sheet ≡ sh
       same-as sh e = let f = front-told first calls h in let q : reading s ≡ accepted f.sheet = rw es at f.read in cc
 
-pub next-told : (s : List ℕ) (st : State) (r : Advanced) → r ≡ next_answer (nexting s st) → ToldNext s st r
+pub next-told : (s : List ℕ) (st : State) (r : Answer Advanced Refusal) → r ≡ next_answer (nexting s st) → ToldNext s st r
 unfolding ToldNext
 next-told s st r e first calls h es et = next-says s st first calls h es et r e
 
-pub taken-told : (s : List ℕ) (st : State) (o : ℕ) (r : Taken) → r ≡ taken_answer (taking s st o) → ToldTaken s st o r
+pub taken-told : (s : List ℕ) (st : State) (o : ℕ) (r : Answer HeardAnswer Refusal) → r ≡ taken_answer (taking s st o) → ToldTaken s st o r
 unfolding ToldTaken
 taken-told s st o r e first calls h es et = subst (TakenSays first calls s st o) (sym e) (take-given s st first calls h es et o (taking s st o) refl)
 
 -- ---- a change
-pub changed-told : (s : List ℕ) (st : State) (c : List ℕ) (r : Changed) → r ≡ changed_answer (changing s st c) → ToldChanged s st c r
+pub changed-told : (s : List ℕ) (st : State) (c : List ℕ) (r : Answer (Unit {0}) Refusal) → r ≡ changed_answer (changing s st c) → ToldChanged s st c r
 unfolding ToldChanged changing
 changed-told s st c r e sh new read read-new = go (complete-or c new read-new)
   where
@@ -252,7 +252,7 @@ changed-told s st c r e sh new read read-new = go (complete-or c new read-new)
     go (inl (all, is)) =
         equal all (is_open st.phase) (agrees sh new st.begun) refl refl (e ∙ rw (is, read) refl)
     go (inr is) =
-        let at : r ≡ changed.Refused 22 0 = e ∙ rw is refl in
+        let at : r ≡ Err (refusal_of 22 0) = e ∙ rw is refl in
         record {
           goes_on = λ x y z. let w = suited-complete c new read-new x in never (cc);
           only = λ x. never (cc);

@@ -1,55 +1,42 @@
 -- Words for the contracts of the station's own functions.
-use Rattle.std.specs.Prelude.{ℕ, ◌+◌, ◌≤◌, ◌≡◌, cond, List, ltb, length, take, drop}
-use Rattle.std.proofs.Math.Option.{Option, none, some}
+use Rattle.std.specs.Prelude.{Result as Answer}
+use Rattle.std.specs.Prelude.{Option as Maybe, Some, None, Ok, Err}
+use Rattle.std.specs.Prelude.{ℕ, ◌+◌, ◌≤◌, ◌≡◌, List, length, take, drop}
+use Rattle.sheet.specs.declared.Refusal.{Refusal}
 use Rattle.sheet.specs.declared.Span.{Span}
+use Rattle.sheet.specs.declared.Tables.{Tables}
 use Rattle.sheet.specs.Sheet.{Sheet, rule_at}
-use Rattle.sheet.specs.Reading.{Result, accepted, refused, reading}
+use Rattle.sheet.specs.Reading.{Result, accepted, reading}
+use Rattle.sheet.specs.Tables.{refusal_of, answer_by}
 use Rattle.sheet.specs.Encode.{press_bytes, test_bytes}
 use Rattle.sheet.specs.WellFormed.{TestIn, WellFormed}
 use Rattle.sheet.specs.words.Tabled.{ByPair, rule_output, rule_target}
 use Rattle.station.specs.Station.{head_bytes}
-use Rattle.mutation.specs.declared.verdict.Judged.{Judged}
-use Rattle.mutation.specs.declared.verdict.Judged.TheVariants as judged
-use Rattle.station.specs.declared.suit.Suited.{Suited}
-use Rattle.station.specs.declared.suit.Suited.TheVariants as suit
-use Rattle.station.specs.declared.steps.Found.{Found}
-use Rattle.station.specs.declared.steps.Found.TheVariants as found
 
-abbrev pub suited_answer : Result Sheet → Suited
-suited_answer (accepted sh) = suit.Complete
-suited_answer (refused number place) = suit.Refused number place
+abbrev pub suited_answer : Result Sheet → Answer (Unit {0}) Refusal
+suited_answer r = answer_by (λ sh. tt) r
 
-abbrev pub suited_by : Judged → Suited
-suited_by judged.Complete = suit.Complete
-suited_by (judged.Survivor d) = suit.Refused 22 0
-suited_by (judged.Refused number place) = suit.Refused number place
-
-abbrev pub found_of : Option ℕ → Found
-found_of none = found.Nothing
-found_of (some x) = found.At x
+-- by what judging answers
+abbrev pub suited_by : Answer (Maybe ℕ) Refusal → Answer (Unit {0}) Refusal
+suited_by (Ok None) = Ok tt
+suited_by (Ok (Some d)) = Err (refusal_of 22 0)
+suited_by (Err why) = Err why
 
 -- the tables of an accepted sheet's rules
-pub record Ruled (sh : Sheet) (s outputs targets : List ℕ) : Type 0 where
+pub record Ruled (sh : Sheet) (s : List ℕ) (tables : Tables) : Type 0 where
   pub read : reading s ≡ accepted sh
-  pub outputs-are : ByPair outputs (λ p x. rule_output (rule_at sh.rules p x))
-  pub targets-are : ByPair targets (λ p x. rule_target (rule_at sh.rules p x))
+  pub outputs-are : ByPair tables.output (λ p x. rule_output (rule_at sh.rules p x))
+  pub targets-are : ByPair tables.target (λ p x. rule_target (rule_at sh.rules p x))
 
 -- a test of a sheet by its PRESS commands, and the tables of the rules
-pub record Walk (sh : Sheet) (t part outputs targets : List ℕ) : Type 0 where
+pub record Walk (sh : Sheet) (t part : List ℕ) (tables : Tables) : Type 0 where
   pub formed : WellFormed sh
   pub test : TestIn sh.rules t
   pub bytes : part ≡ press_bytes t
-  pub outputs-are : ByPair outputs (λ p x. rule_output (rule_at sh.rules p x))
-  pub targets-are : ByPair targets (λ p x. rule_target (rule_at sh.rules p x))
+  pub outputs-are : ByPair tables.output (λ p x. rule_output (rule_at sh.rules p x))
+  pub targets-are : ByPair tables.target (λ p x. rule_target (rule_at sh.rules p x))
 
-abbrev pub least_of : ℕ → ℕ → ℕ
-least_of a b = cond (ltb a b) a b
-
--- an accepted sheet has so many RULEs; has so many tests at least
-pub record RulesOf (sh : Sheet) (s : List ℕ) (rules : ℕ) : Type 0 where
-  pub read : reading s ≡ accepted sh
-  pub many : rules ≡ length sh.rules
-
+-- an accepted sheet has so many tests at least
 pub record TestsOf (sh : Sheet) (s : List ℕ) (tests : ℕ) : Type 0 where
   pub read : reading s ≡ accepted sh
   pub few : tests ≤ length sh.tests

@@ -2,8 +2,8 @@
 use Rattle.sweep.proofs.SweepLaw.{Sweeping, left}
 use Rattle.sweep.proofs.next_survivor.Given as goal
 
-abbrev pub invariant-loop-by : goal.invariant-loop-by
-invariant-loop-by l = Sweeping l.block l.log l.initial.p l.initial.blame l.p l.blame l.initial.store l.store l.initial.notes l.notes l.initial.sequence l.sequence
+abbrev pub invariant-loop-turned : goal.invariant-loop-turned
+invariant-loop-turned l = Sweeping l.block l.log l.initial.p l.initial.blame l.p l.blame l.initial.store l.store l.initial.notes l.notes l.initial.sequence l.sequence
 
-abbrev pub decreases-loop-by : goal.decreases-loop-by
-decreases-loop-by l = left l.p
+abbrev pub decreases-loop-turned : goal.decreases-loop-turned
+decreases-loop-turned l = left l.p

@@ -15,7 +15,7 @@ use Rattle.block.specs.Logged.{observations, GivesOf}
 use Rattle.block.specs.Tabulated.{step_of, start_of}
 use Rattle.cubes.specs.Cube.{Sought}
 use Rattle.cubes.specs.declared.goal.Goal.{Goal}
-use Rattle.refutation.specs.Lent.{StoreOk}
+use Rattle.refutation.specs.Lent.{StoreOk, Entry}
 use Rattle.clearing.specs.Sweep.{Cleared, Swept}
 
 -- ---- the sweep
@@ -66,12 +66,12 @@ gives-front move start s (reset ∷ l) k g = gives-front move start start l k g
 gives-front move start s (seen x o ∷ l) k g = (g.0, gives-front move start (move s x).target l k g.1)
 
 -- fewer mutants are sought along a longer log
-pub store-longer : {goal : Goal} {m old new store : List ℕ} (k : List Observation) → observations new ≡ observations old ++ k → StoreOk goal m old store → StoreOk goal m new store
+pub store-longer : {goal : Goal} {m old new : List ℕ} {store : List Entry} (k : List Observation) → observations new ≡ observations old ++ k → StoreOk goal m old store → StoreOk goal m new store
 unfolding Sought GivesOf
 store-longer {goal} {m} {old} {new} {store} k e ok =
     record {
-      at = λ i fits aged cube holds.
-          let none = ok.at i fits aged cube holds in
+      at = λ i d fits aged.
+          let none = ok.at i d fits aged in
           record {
             at = λ b ra inc sought.
                 none.at b ra inc

@@ -1,4 +1,5 @@
 -- One call of a walk: what a take and a test added leave.
+use Rattle.std.specs.Prelude.{Result as Answer, Ok, Err, Some, None}
 use Rattle.std.specs.Prelude.{◌*◌, ◌≤◌, ◌≡◌, ◌∷◌, ◌++◌}
 use Rattle.lists.specs.Proving.{ℕ, refl, ◌∙◌, ap, subst, Bool, true, false, Option, some, none, List, [], length, take, drop, ltb, le-ltb}
 use mathlib.Core.List.Memᴰ
@@ -7,8 +8,8 @@ use Rattle.lists.specs.Lists.{overlay}
 use Rattle.sheet.specs.Sheet.{Sheet}
 use Rattle.sheet.specs.Reading.{Result, accepted, refused, reading, with_tests}
 use Rattle.sheet.specs.laws.AcceptedLaw.{well-formed}
-use Rattle.writing.specs.declared.Written.{Written}
-use Rattle.writing.specs.declared.Written.TheVariants as written
+use Rattle.sheet.specs.declared.Refusal.{Refusal}
+use Rattle.machine.specs.Differences.{difference_of}
 use Rattle.adding.specs.Adding.{add_on, adding, Adds}
 use Rattle.adding.specs.laws.AddingLaw.{added-longer, written-front}
 use Rattle.model.specs.Mutant.{slots, IsMutant}
@@ -21,8 +22,7 @@ use Rattle.model.specs.Walk.{Taken as Next}
 use Rattle.model.proofs.laws.OperationLaw.{mutant-length, mutant-goes-on}
 use Rattle.model.proofs.laws.LongerLaw.{slots-longer, mutant-shorter}
 use Rattle.model.proofs.laws.WalkLaw.{rest-remains, rest_end}
-use Rattle.walking.specs.declared.Taken.TheVariants as taken
-use Rattle.walking.specs.Taking.{compared_taken, taken_answer, Takes, LastIs}
+use Rattle.walking.specs.Taking.{Taken, taken_answer, Takes, LastIs}
 use Rattle.walking.specs.Walked.{TakeCall, AddCall, Walk, walk_at, place_after, sheet_after, Promised, shown, test_of, took, added}
 
 -- a walk stands over an accepted sheet with mutants of n choices, at a place of it
@@ -62,12 +62,15 @@ module _ (sh : Sheet) (n : ℕ) (place : Standing) (many : length (slots sh) ≡
       front : take n t.new_board ≡ b
       front = rw ts.board (take_at b (drop (length b) t.board) n (mutant-length sh b is ∙ many))
 
+      shows : Option (List ℕ) → Taken
+      shows o = Ok (Some (difference_of o))
+
       one : (o : Option (List ℕ)) → compare_of sh b ≡ o → Turn sh n place t
       one none eo =
-          let ea : t.answer ≡ taken.Conforms = ts.answer ∙ ap compared_taken eo in
+          let ea : t.answer ≡ Ok (Some None) = ts.answer ∙ ap shows eo in
           goes b bs e (rw (ea, front) refl) (rw (ea, front, eo) refl)
       one (some xs) eo =
-          let ea : t.answer ≡ taken.Departs (length xs) = ts.answer ∙ ap compared_taken eo in
+          let ea : t.answer ≡ Ok (Some (Some (length xs))) = ts.answer ∙ ap shows eo in
           let es : t.new_sequence ≡ overlay xs t.sequence = ts.sequence ∙ ap (λ (o : Option (List ℕ)). overlay (found o) t.sequence) eo in
           let ex : take (length xs) t.new_sequence ≡ xs = rw es (take_at xs (drop (length xs) t.sequence) (length xs) refl) in
           goes b bs e (rw (ea, front) refl) (rw (ea, front, ex, eo) refl)
@@ -95,7 +98,7 @@ stands_on {sh} {n} {w} st t (ends e f g) = record { reads = st.reads; many = st.
 stands_on {sh} {n} {w} st t (goes b bs e f g) = record { reads = st.reads; many = st.many; last = rw f (rest-remains sh w.place {b = b} (rw e (Memᴰ.head refl))).is }
 
 -- after the end, with room, it gives the end
-pub end-given : {sh : Sheet} {n : ℕ} {w : Walk} → Stands sh n w → w.place ≡ end → (t : TakeCall) → Promised w (took t) → length (slots sh) ≤ length t.board → sh.size.states * sh.size.states ≤ length t.sequence → t.answer ≡ taken.End
+pub end-given : {sh : Sheet} {n : ℕ} {w : Walk} → Stands sh n w → w.place ≡ end → (t : TakeCall) → Promised w (took t) → length (slots sh) ≤ length t.board → sh.size.states * sh.size.states ≤ length t.sequence → t.answer ≡ Ok None
 unfolding take_of
 end-given {sh} {n} {w} st e t ts lb ls =
     let h = le-ltb (length t.board) (length (slots sh)) lb in
@@ -121,8 +124,8 @@ adding-on sh s e xs room = rw e refl
 pub grow : {sh : Sheet} {n : ℕ} {w : Walk} → Stands sh n w → (a : AddCall) → Promised w (added a) → Outcome sh n w a
 grow {sh} {n} {w} st a ad = one a.answer refl
   where
-    one : (r : Written) → a.answer ≡ r → Outcome sh n w a
-    one (written.Done m) e =
+    one : (r : Answer ℕ Refusal) → a.answer ≡ r → Outcome sh n w a
+    one (Ok m) e =
         let done = written-front (add_on sh a.presses (length a.buffer)) (subst (λ (o : Result (List ℕ)). Adds o a.answer a.buffer a.new_buffer) (adding-on sh w.sheet st.reads a.presses (length a.buffer)) ad) m e in
         let more = added-longer sh a.presses (length a.buffer) (well-formed w.sheet sh st.reads) (take m a.new_buffer) done in
         grows (rw e refl)
@@ -131,4 +134,4 @@ grow {sh} {n} {w} st a ad = one a.answer refl
           many = ap length (slots-longer sh (sh.tests ++ a.presses ∷ [])) ∙ st.many;
           last = last-longer sh (sh.tests ++ a.presses ∷ []) w.place st.last;
         })
-    one (written.Refused number place) e = keeps (rw e refl) (rw e st)
+    one (Err why) e = keeps (rw e refl) (rw e st)

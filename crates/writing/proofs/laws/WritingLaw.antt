@@ -1,5 +1,6 @@
 -- What writing means.
 use Rattle.std.specs.Prelude.{ℕ, ◌≤◌, ◌<◌, ◌≡◌, refl, Bool, true, false, cond, List, ltb, length, drop}
+use Rattle.std.specs.Prelude.{Result as Answer}
 use Rattle.std.proofs.Common.{sym, ◌∙◌, ap}
 use Rattle.std.proofs.Math.Seq.{take-append_seam}
 use borrow.Author.Tests.{lt-ltb, le-ltb}
@@ -10,13 +11,13 @@ use Rattle.sheet.specs.Encode.{encode}
 use Rattle.lists.specs.laws.TestLaw.{never}
 use Rattle.sheet.specs.laws.EncodedLaw.{encoded}
 use Rattle.sheet.specs.laws.InjectiveLaw.{encode_injective}
-use Rattle.writing.specs.declared.Written.{Written}
+use Rattle.sheet.specs.declared.Refusal.{Refusal}
 use Rattle.writing.specs.Drawing.{Drawing, Whole, is_cut, sheet_of, drawing_of}
 use Rattle.writing.specs.Writing.{placed, writing, written_answer, sheet_writes, Spells, Refuses, Writes}
 use Rattle.writing.proofs.laws.DrawingLaw.{sheet-again, never-cut, whole, cut, drawing-again}
 
 -- what an outcome makes of the answer and the buffer
-module _ (x : Result (List ℕ)) (r : Written) (old new : List ℕ) (a : r ≡ written_answer x) (b : new ≡ overlay (sheet_writes x) old) where
+module _ (x : Result (List ℕ)) (r : Answer ℕ Refusal) (old new : List ℕ) (a : r ≡ written_answer x) (b : new ≡ overlay (sheet_writes x) old) where
   pub refuses : (number : ℕ) → x ≡ refused number 0 → Refuses number r old new
   refuses number e = record { answer = rw e at a; untouched = rw e at b }
 

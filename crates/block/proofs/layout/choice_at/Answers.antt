@@ -5,10 +5,10 @@ use Rattle.block.proofs.layout.choice_at.Goals as goal
 pub returns-then-i : goal.returns-then-i
 returns-then-i c = sym (chosen_none _ _ _ (rw c.site-i.ensures at c.if-i.true))
 
-pub bounds-p-wide : goal.bounds-p-wide
-bounds-p-wide c =
-    omega (arith, c.wide.ensures, c.site-i.ensures, c.requires.0.sites c.args.k c.requires.1 (rw c.site-i.ensures at c.if-i.false))
+pub bounds-p-from : goal.bounds-p-from
+bounds-p-from c =
+    omega (arith, c.site-i.ensures, c.requires.0.sites c.args.k c.requires.1 (rw c.site-i.ensures at c.if-i.false))
 
 pub returns : goal.returns
 returns c =
-    rw (c.wide.ensures.0, c.site-i.ensures) (sym (chosen-some _ _ _ (rw c.site-i.ensures at c.if-i.false)))
+    rw (c.from.ensures, c.site-i.ensures) (sym (chosen-some _ _ _ (rw c.site-i.ensures at c.if-i.false)))

@@ -16,8 +16,8 @@ returns-then-c-eq0 c = let low : c.args.k < 256 = omega (arith, c.requires, c.if
 
 pub returns-then-f-ge256 : goal.returns-then-f-ge256
 returns-then-f-ge256 c = let low : c.args.k < 256 = omega (arith, c.requires, c.if-k-eq-WAKING.false) in
-    is_none c.args.k c.args.c _ _ low (rw c.rule_target-target.ensures at c.if-target.false) c.if-c-eq0.false (rw (c.wide.ensures.0, c.wide16.ensures.0)) c.if-f-ge256.true
+    is_none c.args.k c.args.c _ _ low (rw c.rule_target-target.ensures at c.if-target.false) c.if-c-eq0.false (rw (c.from.ensures, c.from-2.ensures)) c.if-f-ge256.true
 
 pub returns : goal.returns
 returns c = let low : c.args.k < 256 = omega (arith, c.requires, c.if-k-eq-WAKING.false) in
-    is-fault c.args.k c.args.c _ _ low (rw c.rule_target-target.ensures at c.if-target.false) c.if-c-eq0.false (rw (c.wide.ensures.0, c.wide16.ensures.0)) refl refl
+    is-fault c.args.k c.args.c _ _ low (rw c.rule_target-target.ensures at c.if-target.false) c.if-c-eq0.false (rw (c.from.ensures, c.from-2.ensures)) refl refl

@@ -1,9 +1,5 @@
-use Rattle.std.specs.Prelude.{◌-◌}
 use Rattle.block.specs.Packing.{ChoicesCopied}
 use Rattle.block.proofs.packing.copy_choices.Given as goal
 
 abbrev pub invariant-loop-i : goal.invariant-loop-i
 invariant-loop-i l = ChoicesCopied l.initial.block l.block l.choices l.i
-
-abbrev pub decreases-loop-i : goal.decreases-loop-i
-decreases-loop-i l = 32 - l.i

@@ -6,7 +6,7 @@ pub loop-k-init : goal.loop-k-init
 loop-k-init c = fill_none 512 256 _ c.requires
 
 pub loop-k-preserved : goal.loop-k-preserved
-loop-k-preserved c = fill_more _ (omega arith) c.loop-k.invariant c.loop-k-test.true c.narrow-x.ensures
+loop-k-preserved c = fill_more _ (omega arith) c.loop-k.invariant c.loop-k-test.true (λ l. omega arith)
 
 pub returns : goal.returns
 returns c = fill-all c.loop-k.invariant c.loop-k-test.false

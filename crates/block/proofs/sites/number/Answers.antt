@@ -1,21 +1,15 @@
 -- `number`: what holds after the pairs before an index.
 use Rattle.std.specs.Prelude.{◌<◌}
-use Rattle.lists.specs.Proving.{arith, sym, ◌∙◌}
+use Rattle.lists.specs.Proving.{arith, refl, sym, ◌∙◌, replicate}
 use Rattle.block.specs.Sites.{waking_first}
 use Rattle.block.proofs.SitesLaw.{number-start, number-open, number-shut, number-end, few-before, room}
 use Rattle.block.proofs.sites.number.Goals as goal
 use Rattle.block.proofs.sites.number.Goals.{then-is_open, else-is_open}
 
-pub waking_slot-first-requires : goal.waking_slot-first-requires
-waking_slot-first-requires c = tt
-
-pub no_sites-site-requires : goal.no_sites-site-requires
-no_sites-site-requires c = tt
-
 pub loop-i-init : goal.loop-i-init
 loop-i-init c = let a = c.args in
     let first = c.waking_slot-first in
-    number-start (waking_first a.waking) a.n a.k a.choices.now c.no_sites-site.result first.result.sizes first.result.count c.no_sites-site.ensures first.ensures.0 first.ensures.1
+    number-start (waking_first a.waking) a.n a.k a.choices.now (replicate 256 255) first.result.sizes first.result.count refl first.ensures.0 first.ensures.1
 
 pub overflow_cast-site : goal.overflow_cast-site
 overflow_cast-site c = let space : c.loop-i.count < 32 = let a = c.args in

@@ -6,7 +6,7 @@ pub returns-then-by-eq0 : goal.returns-then-by-eq0
 returns-then-by-eq0 c = refutes-none c.requires.0 c.requires.1 c.spoken-by.ensures c.if-by-eq0.true
 
 pub pass-requires : goal.pass-requires
-pass-requires c = let top = c.highest-j.ensures in (c.requires.0, top.low, omega (arith, c.requires.1.low c.wide-2.result (omega (arith, c.wide-2.ensures.0, top.low)), c.requires.0.choices c.wide-2.result (omega (arith, c.wide-2.ensures.0, top.low))))
+pass-requires c = let top = c.highest-j.ensures in (c.requires.0, top.low, omega (arith, c.requires.1.low c.from-i.result (omega (arith, c.from-i.ensures, top.low)), c.requires.0.choices c.from-i.result (omega (arith, c.from-i.ensures, top.low))))
 
 pub returns : goal.returns
-returns c = refutes-some c.requires.0 c.requires.1 c.spoken-by.ensures c.highest-j.ensures c.wide.ensures.0 c.wide-2.ensures.0 c.pass.ensures
+returns c = refutes-some c.requires.0 c.requires.1 c.spoken-by.ensures c.highest-j.ensures c.from-i.ensures c.from-i.ensures c.pass.ensures

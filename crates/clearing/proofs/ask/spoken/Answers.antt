@@ -5,10 +5,10 @@ use Rattle.clearing.proofs.AskLaw.{speaks-none, speaks_more, speaks-all}
 use Rattle.clearing.proofs.ask.spoken.Goals as goal
 
 pub loop-j-init : goal.loop-j-init
-loop-j-init c = (speaks-none, omega arith)
+loop-j-init c = speaks-none
 
 pub loop-j-preserved : goal.loop-j-preserved
-loop-j-preserved c = (speaks_more c.wide.ensures.0 refl c.loop-j.invariant.0 c.with_spoken-set.ensures, omega (arith, c.loop-j-test.true))
+loop-j-preserved c = speaks_more refl refl c.loop-j.invariant c.with_spoken-set.ensures
 
 pub returns : goal.returns
-returns c = speaks-all c.loop-j.invariant.0 c.loop-j-test.false
+returns c = speaks-all c.loop-j.invariant (omega arith)

@@ -5,4 +5,4 @@ pub returns-then-l-eq-ANY : goal.returns-then-l-eq-ANY
 returns-then-l-eq-ANY c = to_same c.if-l-eq-ANY.true
 
 pub returns : goal.returns
-returns c = to-joined c.requires c.joined.ensures
+returns c = to-joined c.requires c.with.ensures

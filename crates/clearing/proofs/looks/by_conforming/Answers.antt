@@ -1,4 +1,5 @@
+use Rattle.clearing.proofs.LookLaw.{or-all}
 use Rattle.clearing.proofs.looks.by_conforming.Goals as goal
 
 pub returns : goal.returns
-returns c = λ log. c.or_all.ensures _ _ _ (c.by_reach.ensures log)
+returns c = λ log. or-all _ c.unwrap_or.ensures (c.by_reach.ensures log)

@@ -1,5 +1,6 @@
 use Rattle.cubes.specs.declared.goal.Goal.TheVariants.{Nonconforming}
+use Rattle.clearing.proofs.LookLaw.{or-all}
 use Rattle.clearing.proofs.looks.by_test.Goals as goal
 
 pub returns : goal.returns
-returns c = c.or_all.ensures _ _ _ (c.by_log.ensures Nonconforming)
+returns c = or-all _ c.unwrap_or.ensures (c.by_log.ensures Nonconforming)

@@ -17,11 +17,11 @@ by_test-requires c = (lay-asks c.requires.full.0.1 c.requires.full.1).0
 pub distinguish-requires : goal.distinguish-requires
 distinguish-requires c = let a = compare-asks c.requires.full.0.1 c.requires.full.1 c.lay.ensures c.initial-start.ensures in record { valid = a.0; start_bound = a.1; block_in_bounds = c.requires.block_in_bounds }
 
-pub returns-in-At : goal.returns-in-At
-returns-in-At c = λ sh f. blames f c.requires.full.1 c.by_test.ensures (fails f c.requires.full.1 c.lay.ensures c.initial-start.ensures c.first_wrong.ensures c.in-At.is)
+pub returns-in-Some : goal.returns-in-Some
+returns-in-Some c = λ sh f. blames f c.requires.full.1 c.by_test.ensures (fails f c.requires.full.1 c.lay.ensures c.initial-start.ensures c.first_wrong.ensures c.in-Some.is)
 
-pub returns-in-Nothing-distinguish : goal.returns-in-Nothing-distinguish
-returns-in-Nothing-distinguish c = λ sh f. conforms f c.requires.full.1 c.lay.ensures c.initial-start.ensures c.distinguish.ensures.value c.in-Nothing-distinguish.is
+pub returns-in-None-distinguish : goal.returns-in-None-distinguish
+returns-in-None-distinguish c = λ sh f. conforms f c.requires.full.1 c.lay.ensures c.initial-start.ensures c.distinguish.ensures.value c.in-None-distinguish.is
 
-pub returns-in-Shown : goal.returns-in-Shown
-returns-in-Shown c = λ sh f. shown f c.requires.full.1 c.lay.ensures c.initial-start.ensures c.distinguish.ensures.value c.first_wrong.ensures c.in-Nothing.is c.in-Shown.is _ c.distinguish.ensures.buf_after
+pub returns-in-Some-distinguish : goal.returns-in-Some-distinguish
+returns-in-Some-distinguish c = λ sh f. shown f c.requires.full.1 c.lay.ensures c.initial-start.ensures c.distinguish.ensures.value c.first_wrong.ensures c.in-None.is c.in-Some-distinguish.is _ c.distinguish.ensures.buf_after

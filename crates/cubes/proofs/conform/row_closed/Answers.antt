@@ -2,11 +2,8 @@ use Rattle.lists.specs.Proving.{arith, never}
 use Rattle.cubes.specs.laws.ConformLaw.{row-none, row_more, row-all, row-not}
 use Rattle.cubes.proofs.conform.row_closed.Goals as goal
 
-pub holds-requires : goal.holds-requires
-holds-requires c = omega (arith, c.requires.2, c.requires.0.wf.few-states)
-
 pub returns-then-not-holds : goal.returns-then-not-holds
-returns-then-not-holds c = λ e. row-not (rw c.wide.ensures.0) (c.holds.ensures.1 c.if-not-holds.true)
+returns-then-not-holds c = λ e. row-not (rw c.wide.ensures.0) ((c.holds.ensures.exact (omega (arith, c.requires.2, c.requires.0.wf.few-states))).1 c.if-not-holds.true)
 
 pub loop-x-init : goal.loop-x-init
 loop-x-init c = row-none

@@ -3,7 +3,7 @@ use Rattle.cubes.specs.laws.WalkLaw.{lead-not, lead-lone, lead-freed}
 use Rattle.cubes.proofs.failing.leads.Goals as goal
 
 pub returns-then-not-holds : goal.returns-then-not-holds
-returns-then-not-holds c = lead-not (c.holds.ensures.1 c.if-not-holds.true)
+returns-then-not-holds c = lead-not ((c.holds.ensures.exact (omega (arith, c.requires.1, c.requires.0.wf.few-states))).1 c.if-not-holds.true)
 
 pub returns-then-i : goal.returns-then-i
 returns-then-i c =

@@ -5,7 +5,7 @@ pub loop-j-init : goal.loop-j-init
 loop-j-init c = meets-none c.requires
 
 pub loop-j-preserved : goal.loop-j-preserved
-loop-j-preserved c = meets-more c.loop-j.invariant c.loop-j-test.true c.both-l.ensures
+loop-j-preserved c = meets-more c.loop-j.invariant c.loop-j-test.true c.both.ensures
 
 pub returns : goal.returns
 returns c = meets-all c.loop-j.invariant c.loop-j-test.false

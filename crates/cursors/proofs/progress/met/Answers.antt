@@ -6,14 +6,11 @@ use Rattle.cursors.proofs.progress.met.Goals as goal
 pub loop-n-init : goal.loop-n-init
 loop-n-init c = (omega arith, met-none c.args.settled)
 
-pub returns-then-i-ge32 : goal.returns-then-i-ge32
-returns-then-i-ge32 c = c.loop-n.invariant.1
-
-pub returns-then-not-among : goal.returns-then-not-among
-returns-then-not-among c = c.loop-n.invariant.1
+pub returns-then-not-holds : goal.returns-then-not-holds
+returns-then-not-holds c = c.loop-n.invariant.1
 
 pub loop-n-preserved : goal.loop-n-preserved
-loop-n-preserved c = (omega arith, met-more c.args.settled (c.wait_of-i.result % 32) c.joined-used.ensures c.loop-n.invariant.1 (c.among.ensures.0 c.if-not-among.false))
+loop-n-preserved c = (omega arith, met-more c.args.settled (c.in-Suspect.i % 32) c.with-used.ensures c.loop-n.invariant.1 (c.holds.ensures.modulo.0 c.if-not-holds.false))
 
 pub returns : goal.returns
 returns c = c.loop-n.invariant.1

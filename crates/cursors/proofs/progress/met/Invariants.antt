@@ -1,9 +1,6 @@
-use Rattle.std.specs.Prelude.{◌-◌, ◌≤◌}
+use Rattle.std.specs.Prelude.{◌≤◌}
 use Rattle.cubes.specs.Sets.{HasAll}
 use Rattle.cursors.proofs.progress.met.Given as goal
 
 abbrev pub invariant-loop-n : goal.invariant-loop-n
 invariant-loop-n l = (l.n ≤ 33) × HasAll l.used l.settled
-
-abbrev pub decreases-loop-n : goal.decreases-loop-n
-decreases-loop-n l = 33 - l.n

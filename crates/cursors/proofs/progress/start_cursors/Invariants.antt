@@ -1,9 +1,6 @@
-use Rattle.std.specs.Prelude.{◌-◌, ◌≤◌}
+use Rattle.std.specs.Prelude.{◌≤◌}
 use Rattle.cursors.specs.Steering.{Begun}
 use Rattle.cursors.proofs.progress.start_cursors.Given as goal
 
 abbrev pub invariant-loop-t : goal.invariant-loop-t
 invariant-loop-t l = (l.t ≤ 256) × Begun l.t l.facts l.cursors
-
-abbrev pub decreases-loop-t : goal.decreases-loop-t
-decreases-loop-t l = 256 - l.t

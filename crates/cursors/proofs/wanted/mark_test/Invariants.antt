@@ -1,9 +1,5 @@
-use Rattle.std.specs.Prelude.{◌-◌, ◌≤◌}
 use Rattle.leaves.specs.Noted.{Changed}
 use Rattle.cursors.proofs.wanted.mark_test.Given as goal
 
-abbrev pub invariant-loop-n : goal.invariant-loop-n
-invariant-loop-n l = (l.n ≤ 16) × Changed 64 8768 l.initial.notes l.notes
-
-abbrev pub decreases-loop-n : goal.decreases-loop-n
-decreases-loop-n l = 16 - l.n
+abbrev pub invariant-loop-o : goal.invariant-loop-o
+invariant-loop-o l = (goal.iterator-loop-o).can_next l.o-iterator × (goal.iterator-loop-o).is_finite l.o-iterator × Changed 64 8768 l.initial.notes l.notes

@@ -1,9 +1,5 @@
-use Rattle.std.specs.Prelude.{◌-◌, ◌<◌, ◌≤◌}
 use Rattle.leaves.specs.Noted.{Changed}
 use Rattle.cursors.proofs.wanted.set_hints.Given as goal
 
-abbrev pub invariant-loop-n : goal.invariant-loop-n
-invariant-loop-n l = (l.n ≤ 16) × (l.k < 512) × Changed 576 8768 l.initial.notes l.notes
-
-abbrev pub decreases-loop-n : goal.decreases-loop-n
-decreases-loop-n l = 16 - l.n
+abbrev pub invariant-loop-s : goal.invariant-loop-s
+invariant-loop-s l = (goal.iterator-loop-s).can_next l.s-iterator × (goal.iterator-loop-s).is_finite l.s-iterator × Changed 576 8768 l.initial.notes l.notes

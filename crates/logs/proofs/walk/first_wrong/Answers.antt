@@ -14,7 +14,7 @@ loop-i-preserved-then-v-gt256 c = walk-nothing c.loop-i.invariant c.observe-seen
 
 pub returns-then-outputs-k : goal.returns-then-outputs-k
 returns-then-outputs-k c =
-    rw (walk-wrong c.loop-i.invariant c.observe-seen.ensures c.if-v-eq256.false (omega (arith, c.if-v-gt256.false)) c.some_place-k.ensures.0 c.input_of.ensures.0 c.output_of.ensures.0 c.if-outputs-k.true, c.last.ensures)
+    rw (walk-wrong c.loop-i.invariant c.observe-seen.ensures c.if-v-eq256.false (omega (arith, c.if-v-gt256.false)) c.some_place-k.ensures.0 c.input_of.ensures.0 c.output_of.ensures.0 c.if-outputs-k.true, c.saturating_sub-test.ensures)
 
 pub loop-i-preserved : goal.loop-i-preserved
 loop-i-preserved c =

@@ -3,14 +3,14 @@ use Rattle.machine.proofs.MisfitLaw.{few-slots, fit_length, fit-high, fit_low}
 use native.Mathlib.Omega.{arith}
 use Rattle.machine.proofs.fitting.fits.Goals as goal
 
-pub returns-then-mutant-count : goal.returns-then-mutant-count
-returns-then-mutant-count c = λ sh tb. fit_length tb _ (λ e. c.if-mutant-count.true (rw (c.wide-count.ensures.0, c.slots.ensures) e))
+pub returns-then-mutant-from : goal.returns-then-mutant-from
+returns-then-mutant-from c = λ sh tb. fit_length tb _ (λ e. c.if-mutant-from.true (rw (c.from.ensures, c.slots.ensures) e)) c.new.ensures
 
-pub first_high-high-requires : goal.first_high-high-requires
-first_high-high-requires c = omega (arith, few-slots c.requires.1, c.if-mutant-count.false, c.wide-count.ensures, c.slots.ensures)
+pub first_high-requires : goal.first_high-requires
+first_high-requires c = omega (arith, few-slots c.requires.1, c.if-mutant-from.false, c.from.ensures, c.slots.ensures)
 
-pub returns-then-high-count : goal.returns-then-high-count
-returns-then-high-count c = λ sh tb. fit-high tb _ (omega (arith, c.if-mutant-count.false, c.wide-count.ensures, c.slots.ensures)) c.first_high-high.ensures (omega (arith, c.if-high-count.true, c.wide-count.ensures, c.slots.ensures))
+pub returns-in-Some : goal.returns-in-Some
+returns-in-Some c = λ sh tb. let h = c.in-Some.ensures in fit-high tb _ (omega (arith, c.if-mutant-from.false, c.from.ensures, c.slots.ensures)) h.0 h.1 c.new-in-Some.ensures
 
-pub returns : goal.returns
-returns c = λ sh tb. fit_low tb _ (omega (arith, c.if-mutant-count.false, c.wide-count.ensures, c.slots.ensures)) c.first_high-high.ensures (omega (arith, c.if-high-count.false, c.wide-count.ensures, c.slots.ensures))
+pub returns-in-None : goal.returns-in-None
+returns-in-None c = λ sh tb. fit_low tb _ (omega (arith, c.if-mutant-from.false, c.from.ensures, c.slots.ensures)) c.in-None.ensures (omega arith)

@@ -2,8 +2,8 @@
 use Rattle.making.proofs.GrowLaw.{Turning}
 use Rattle.making.proofs.grow.grow.Given as goal
 
-abbrev pub invariant-loop-state : goal.invariant-loop-state
-invariant-loop-state l = Turning l.block l.initial.store l.initial.notes l.initial.bytes l.initial.log l.initial.g l.facts l.store l.notes l.bytes l.log l.p l.blame l.sequence l.g
+abbrev pub invariant-loop-d : goal.invariant-loop-d
+invariant-loop-d l = Turning l.block l.ready l.initial.store l.initial.bytes l.initial.log l.initial.growth l.facts l.store l.notes l.bytes l.log l.p l.blame l.sequence l.growth
 
-abbrev pub decreases-loop-state : goal.decreases-loop-state
-decreases-loop-state l = l.g.room
+abbrev pub decreases-loop-d : goal.decreases-loop-d
+decreases-loop-d l = l.growth.room

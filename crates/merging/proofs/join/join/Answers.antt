@@ -1,52 +1,48 @@
 -- `join`: another machine, or the united parts within the limits.
-use Rattle.lists.specs.Proving.{arith, refl, sym, ◌∙◌}
-use lib.Seq.{length-take-le}
+use Rattle.lists.specs.Proving.{arith, refl, sym, ◌∙◌, ap, length}
 use Rattle.renaming.specs.Merging.{merged}
-use Rattle.merging.proofs.PartsLaw.{head-inside, fault-part, fault-room, start-part, start-room}
-use Rattle.merging.proofs.JoinLaw.{short-parts, join-other, join-same, join-within, pieces}
+use Rattle.merging.proofs.PartsLaw.{fault-part, fault-room, start-part, start-room, head-short, tests-short}
+use Rattle.merging.proofs.JoinLaw.{join-short, other-heads, same-heads, join-other, join-same, join-within, pieces, take-fewer}
 use Rattle.merging.proofs.join.join.Goals as goal
 
-pub slice_bounds-same-end : goal.slice_bounds-same-end
-slice_bounds-same-end c = sym (length-take-le _ _ (head-inside c.requires.2.2))
+pub returns-then-buffer-lt16384 : goal.returns-then-buffer-lt16384
+returns-then-buffer-lt16384 c = λ x y p q e. join-short x y c.new.ensures c.if-buffer-lt16384.true
 
-pub slice_bounds-same-end-2 : goal.slice_bounds-same-end-2
-slice_bounds-same-end-2 c = sym (length-take-le _ _ (head-inside c.requires.2.3))
-
-pub returns-then-not-same : goal.returns-then-not-same
-returns-then-not-same c = λ x y p q e. join-other p q _ c.requires.0 (sym c.if-not-same.true ∙ c.same.ensures)
+pub returns-then-ne : goal.returns-then-ne
+returns-then-ne c = λ x y p q e. join-other x y _ c.if-buffer-lt16384.false c.new-then-ne.ensures (other-heads x y c.ne.ensures (c.head.ensures x p) (c.head-2.ensures y q) c.if-ne.true)
 
 pub unite-f-requires : goal.unite-f-requires
-unite-f-requires c = let p = c.requires.2.2 in
-    let q = c.requires.2.3 in
-    ((_, _, fault-part p, fault-part q), omega (arith, fault-room p, fault-room q, c.no_faults-faults.ensures))
+unite-f-requires c = let p = c.requires.1.2 in
+    let q = c.requires.1.3 in
+    let ep = c.faults.ensures _ p in
+    let eq = c.faults-2.ensures _ q in
+    ((_, _, fault-part p ep, fault-part q eq), omega (arith, fault-room p, fault-room q, ap length ep, ap length eq))
 
 pub unite-t-requires : goal.unite-t-requires
-unite-t-requires c = let p = c.requires.2.2 in
-    let q = c.requires.2.3 in
-    ((_, _, start-part p, start-part q), omega (arith, start-room p, start-room q, c.no_starts-starts.ensures))
-
-pub slice_bounds-close-end : goal.slice_bounds-close-end
-slice_bounds-close-end c = sym (length-take-le _ _ (head-inside c.requires.2.2))
-
-pub slice_bounds-close-end-2 : goal.slice_bounds-close-end-2
-slice_bounds-close-end-2 c = let wrote = c.unite-f.ensures.spelled _ _ (fault-part c.requires.2.2) (fault-part c.requires.2.3) in
-    sym (length-take-le _ _ (omega (arith, c.unite-f.ensures.inside, wrote.long)))
-
-pub slice_bounds-close-end-3 : goal.slice_bounds-close-end-3
-slice_bounds-close-end-3 c = let wrote = c.unite-t.ensures.spelled _ _ (start-part c.requires.2.2) (start-part c.requires.2.3) in
-    sym (length-take-le _ _ (omega (arith, c.unite-t.ensures.inside, wrote.long)))
-
-pub overflow_add-a : goal.overflow_add-a
-overflow_add-a c = let p = c.requires.2.2 in
-    let q = c.requires.2.3 in
-    omega (arith, p.many, p.formed.few-tests, q.many, q.formed.few-tests)
+unite-t-requires c = let p = c.requires.1.2 in
+    let q = c.requires.1.3 in
+    let ep = c.starts.ensures _ p in
+    let eq = c.starts-2.ensures _ q in
+    ((_, _, start-part p ep, start-part q eq), omega (arith, start-room p, start-room q, ap length ep, ap length eq))
 
 pub close-requires : goal.close-requires
-close-requires c = (c.requires.0, c.requires.1, short-parts c.requires.2.2 c.requires.2.3 c.unite-f.result c.unite-t.result c.unite-f.new.to c.unite-t.new.to (omega (arith, c.unite-f.ensures.inside, c.no_faults-faults.ensures)) (omega (arith, c.unite-t.ensures.inside, c.no_starts-starts.ensures)))
+close-requires c = let p = c.requires.1.2 in
+    let q = c.requires.1.3 in (
+      c.if-buffer-lt16384.false,
+      c.requires.0,
+      record {
+        head-short = omega (arith, ap length (c.head-3.ensures _ p), head-short p);
+        faults-short = omega (arith, take-fewer c.unite-f.result c.unite-f.new.to, c.unite-f.ensures.inside);
+        starts-short = omega (arith, take-fewer c.unite-t.result c.unite-t.new.to, c.unite-t.ensures.inside);
+        tests-short = omega (arith, ap length (c.tests.ensures _ p), tests-short p);
+        more-short = omega (arith, ap length (c.tests-2.ensures _ q), tests-short q);
+      },
+    )
 
 pub returns : goal.returns
 returns c = λ x y p q e.
-    let same = sym c.if-not-same.false ∙ c.same.ensures in
-    let faults = c.unite-f.ensures.spelled _ _ (fault-part p) (fault-part q) in
-    let starts = c.unite-t.ensures.spelled _ _ (start-part p) (start-part q) in
-    join-within p q _ c.requires.0 same (c.close.ensures (merged x y) (pieces p q faults starts refl (e (join-same p q same))))
+    let same = same-heads x y c.ne.ensures (c.head.ensures x p) (c.head-2.ensures y q) c.if-ne.false in
+    let faults = c.unite-f.ensures.spelled _ _ (fault-part p (c.faults.ensures x p)) (fault-part q (c.faults-2.ensures y q)) in
+    let starts = c.unite-t.ensures.spelled _ _ (start-part p (c.starts.ensures x p)) (start-part q (c.starts-2.ensures y q)) in
+    join-within x y _ c.if-buffer-lt16384.false same
+    (c.close.ensures (merged x y) (pieces x y (c.head-3.ensures x p) refl refl (c.tests.ensures x p) (c.tests-2.ensures y q) faults starts (omega (arith, p.many, q.many)) (e (join-same x y same))))

@@ -1,9 +1,5 @@
-use Rattle.std.specs.Prelude.{◌-◌}
 use Rattle.mirror.specs.Mirror.{Below, RowExchanges}
 use Rattle.mirror.proofs.exchange.all_exchange.Given as goal
 
 abbrev pub invariant-loop-s : goal.invariant-loop-s
 invariant-loop-s it = Below (λ q. RowExchanges it.block it.a it.b q) it.s
-
-abbrev pub decreases-loop-s : goal.decreases-loop-s
-decreases-loop-s l = l.end - l.s

@@ -1,9 +1,5 @@
-use Rattle.std.specs.Prelude.{◌-◌}
 use Rattle.mirror.proofs.ExchangeLaw.{SwapsTo}
 use Rattle.mirror.proofs.exchange.exchange_all.Given as goal
 
 abbrev pub invariant-loop-a : goal.invariant-loop-a
 invariant-loop-a l = SwapsTo l.block l.initial.facts l.facts l.a
-
-abbrev pub decreases-loop-a : goal.decreases-loop-a
-decreases-loop-a l = 16 - l.a

@@ -7,4 +7,4 @@ returns-then-not-holds c = λ m p. each_none
 
 pub returns : goal.returns
 returns c = λ m p.
-    known-partner p c.requires.2 (rw (← c.wide.ensures.0) (c.holds.ensures.0 cc)) c.one.ensures
+    known-partner p c.requires.2 (rw (← c.wide.ensures.0) ((c.holds.ensures.exact c.requires.1).0 cc)) c.one.ensures

@@ -1,10 +1,6 @@
-use Rattle.std.specs.Prelude.{◌-◌}
 use Rattle.block.specs.Layout.{pair}
 use Rattle.mirror.specs.Mirror.{other, Below, Exchanges}
 use Rattle.mirror.proofs.exchange.row_exchanges.Given as goal
 
 abbrev pub invariant-loop-x : goal.invariant-loop-x
 invariant-loop-x it = Below (λ y. Exchanges it.block it.a it.b (pair it.s y) (pair (other it.a it.b it.s) y)) it.x
-
-abbrev pub decreases-loop-x : goal.decreases-loop-x
-decreases-loop-x l = l.end - l.x

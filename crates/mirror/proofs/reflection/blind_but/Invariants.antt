@@ -1,4 +1,4 @@
-use Rattle.std.specs.Prelude.{◌-◌, ◌≡◌}
+use Rattle.std.specs.Prelude.{◌≡◌}
 use Rattle.lists.specs.Proving.{get_or}
 use Rattle.mirror.specs.Mirror.{Below}
 use Rattle.mirror.specs.Reflect.{Blind}
@@ -6,6 +6,3 @@ use Rattle.mirror.proofs.reflection.blind_but.Given as goal
 
 abbrev pub invariant-loop-j : goal.invariant-loop-j
 invariant-loop-j it = Below (λ h. (h ≡ it.i → ⊥) → Blind it.a it.b (get_or it.cube h 0)) it.j
-
-abbrev pub decreases-loop-j : goal.decreases-loop-j
-decreases-loop-j l = 32 - l.j

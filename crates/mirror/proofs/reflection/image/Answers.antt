@@ -15,4 +15,4 @@ returns-then-not-blind_but c = each_none
 
 pub returns : goal.returns
 returns c =
-    each-one c.args.b c.one.ensures (record { exchange = c.requires.1.at c.args.b (c.holds.ensures.0 c.if-not-holds.false); silent = c.silent.ensures c.if-not-silent.false; blind = c.blind_but.ensures c.if-not-blind_but.false })
+    each-one c.args.b c.one.ensures (record { exchange = c.requires.1.at c.args.b ((c.holds.ensures.exact c.requires.3).0 c.if-not-holds.false); silent = c.silent.ensures c.if-not-silent.false; blind = c.blind_but.ensures c.if-not-blind_but.false })

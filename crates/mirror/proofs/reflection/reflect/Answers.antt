@@ -12,4 +12,4 @@ images-requires c =
 
 pub returns : goal.returns
 returns c =
-    reflect-some c.requires.0 c.requires.2 c.requires.3 c.site-i.ensures (rw c.wide-2.ensures.0 at (c.means.ensures c.if-not-means.false)) (c.silent.ensures c.if-not-silent.false) c.images.ensures (λ e. omega (arith, e, c.literal.ensures.0)) c.literal.ensures.1 c.literal.ensures.2 c.note.ensures
+    reflect-some c.requires.0 c.requires.2 c.requires.3 c.site-i.ensures (rw c.wide-2.ensures.0 at (c.means.ensures c.if-not-means.false)) (c.silent.ensures c.if-not-silent.false) c.images.ensures (λ e. omega (arith, e, c.literal.ensures.1)) (omega (arith, c.literal.ensures.0, c.if-o-ge16.false)) (omega (arith, c.literal.ensures.0)) c.note.ensures

@@ -1,21 +1,13 @@
 -- `first_over`: each input before i is below k.
-use native.Mathlib.Omega.{arith}
-use borrow.Author.Count.{below_more}
-use Rattle.mutation.proofs.RespondLaw.{over-at, over-nowhere}
-use native.Mathlib.Omega.{arith}
+use Rattle.lists.specs.Proving.{below_more}
+use Rattle.mutation.proofs.OverLaw.{over-at, over-nowhere}
 use Rattle.mutation.proofs.respond.first_over.Goals as goal
 
-pub loop-i-init : goal.loop-i-init
-loop-i-init c = (omega arith, λ j l. absurd (omega arith))
-
-pub returns-then-k-inputs : goal.returns-then-k-inputs
-returns-then-k-inputs c = over-at _ _ _ c.loop-i.invariant.1 c.loop-i-test.true c.if-k-inputs.true
-
-pub overflow_add-i : goal.overflow_add-i
-overflow_add-i c = omega (arith, c.well_formed)
+pub returns-then-k-x : goal.returns-then-k-x
+returns-then-k-x c = over-at _ _ c.loop-i.invariant c.loop-i-test.true c.if-k-x.true
 
 pub loop-i-preserved : goal.loop-i-preserved
-loop-i-preserved c = (omega arith, below_more _ _ c.loop-i.invariant.1 c.if-k-inputs.false)
+loop-i-preserved c = below_more _ _ c.loop-i.invariant c.if-k-x.false
 
 pub returns : goal.returns
-returns c = over-nowhere _ _ _ c.loop-i.invariant.1 c.loop-i-test.false c.loop-i.invariant.0
+returns c = over-nowhere _ _ c.loop-i.invariant c.loop-i-test.false

@@ -12,9 +12,6 @@ place-at-requires c = place-low c.requires.runnable _ c.loop-i.invariant c.loop-
 pub bounds-buffer-i : goal.bounds-buffer-i
 bounds-buffer-i c = omega (arith, c.loop-i.invariant.long, c.loop-i-test.true, c.requires.inputs_in_bounds)
 
-pub overflow_add-i : goal.overflow_add-i
-overflow_add-i c = omega (arith, c.loop-i-test.true, c.well_formed)
-
 pub loop-i-preserved : goal.loop-i-preserved
 loop-i-preserved c = let inv = c.loop-i.invariant in
     let taken = c.loop-i-test.true in

@@ -1,11 +1,6 @@
 -- `respond`: the outputs of the inputs before i are written, and the slots they use are marked.
-use Prim.Native.Nat.{◌-◌}
-use lib.ListN.{length}
 use Rattle.mutation.proofs.RespondLaw.{Responding}
 use Rattle.mutation.proofs.respond.respond.Given as goal
 
 abbrev pub invariant-loop-i : goal.invariant-loop-i
-invariant-loop-i l = Responding l.block l.outputs l.targets l.start l.inputs l.initial.buffer l.buffer l.used l.s l.i
-
-abbrev pub decreases-loop-i : goal.decreases-loop-i
-decreases-loop-i l = length l.inputs - l.i
+invariant-loop-i l = Responding l.block l.machine.output l.machine.target l.machine.start l.inputs l.initial.buffer l.buffer l.used l.s l.i

@@ -1,21 +1,15 @@
 -- `judge_counting`: refused as reading refuses, or the judgement of the sheet that was read.
-use mathlib.Core.Path.{refl, ap₂}
-use Rattle.sheet.specs.laws.RefusalLaw.{refusal-told}
-use Rattle.mutation.specs.declared.verdict.Judged.TheVariants.{Refused}
-use Rattle.block.specs.laws.OpenedLaw.{opened}
-use Rattle.mutation.proofs.JudgingLaw.{judge-refused, judge-accepted}
+use Rattle.std.proofs.Common.{rules}
+use Rattle.mutation.proofs.JudgingLaw.{judge-refused, judge-accepted, measured-refused}
 use Rattle.mutation.proofs.verdict.judge_counting.Goals as goal
 
-pub returns-in_default : goal.returns-in_default
-returns-in_default c = let a = c.args in
-    let z = refusal-told _ _ _ _ c.refusal_of-why.ensures c.in_default.is in
-    let x = judge-refused a.sheet.now a.board.now a.sequence.now c.load-reading.result c.in_default.field-0 c.in_default.field-1 _ c.load-reading.ensures.value c.in_default.is (ap₂ Refused z.0 z.1) in record { answer = x.0.answer; board = x.0.board; sequence = x.0.sequence; told = x.1; nodes = refl }
-
-pub judge_read-requires : goal.judge_read-requires
-judge_read-requires c = let x = opened c.args.sheet.now c.load-reading.ensures.value c.in-Accepted.is c.load-reading.ensures.loads in
-    (x.sheet, x.holds)
+pub returns-in_err-loaded : goal.returns-in_err-loaded
+returns-in_err-loaded c = let a = c.args in
+    let x = judge-refused a.sheet.now a.board.now a.sequence.now c.in_err-loaded.ensures.refused {r = c.from_residual.result} (search rules) in
+    record { answer = x.0.answer; board = x.0.board; sequence = x.0.sequence; told = x.1; nodes = measured-refused c.in_err-loaded.field-0.0 _ (search rules) }
 
 pub returns : goal.returns
 returns c = let a = c.args in
-    let x = opened a.sheet.now c.load-reading.ensures.value c.in-Accepted.is c.load-reading.ensures.loads in
-    let y = judge-accepted a.sheet.now a.board.now a.sequence.now x.sheet x.is _ _ _ (c.judge_read.ensures.judges x.sheet x.holds) in record { answer = y.0.answer; board = y.0.board; sequence = y.0.sequence; told = y.1; nodes = c.judge_read.ensures.measured }
+    let o = c.in_ok-loaded.ensures.opened in
+    let y = judge-accepted a.sheet.now a.board.now a.sequence.now o.sheet o.is _ _ _ (c.judge_loaded.ensures.judges o.sheet o.holds) in
+    record { answer = y.0.answer; board = y.0.board; sequence = y.0.sequence; told = y.1; nodes = c.judge_loaded.ensures.measured }

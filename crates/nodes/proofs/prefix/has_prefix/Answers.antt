@@ -1,12 +1,8 @@
 use Rattle.nodes.proofs.PrefixLaw.{prefix-none, prefix-more, prefix-all}
-use Rattle.store.specs.laws.ToldLaw.{void}
 use Rattle.nodes.proofs.prefix.has_prefix.Goals as goal
 
 pub loop-i-init : goal.loop-i-init
 loop-i-init c = prefix-none
-
-pub returns-then-not-slot_has : goal.returns-then-not-slot_has
-returns-then-not-slot_has c = λ e. void e
 
 pub loop-i-preserved : goal.loop-i-preserved
 loop-i-preserved c = prefix-more c.loop-i.invariant (c.slot_has.ensures c.if-not-slot_has.false)

@@ -1,37 +1,40 @@
-use Prim.Native.Nat.{◌<◌}
-use native.Mathlib.Omega.{arith}
-use lib.ListN.{length}
+use Rattle.std.proofs.Common.{◌≡◌, ◌<◌, ◌∙◌, ap, length, get_or, arith}
+use Rattle.sheet.specs.declared.Tables.{Tables}
+use Rattle.sheet.specs.Tables.{no_row}
 use Rattle.reading.proofs.FillLaw as laws
 use Rattle.reading.proofs.filling.fill_faults.Goals as goal
+use Rattle.reading.proofs.filling.fill_faults.Goals.{in-Some, in_default}
 
-pub loop-i-init : goal.loop-i-init
-loop-i-init c = (omega arith, λ l h e t. laws.filling-start _ _ l _ _ _ _ h t)
+pub overflow_add-place : goal.overflow_add-place
+overflow_add-place c = let room = laws.fault-room c.requires.0.1 c.loop-i.i (omega (arith, c.requires.0.2)) in omega arith
 
 pub note_fault-requires : goal.note_fault-requires
-note_fault-requires c = let a = c.args in
-    let s = a.sheet.now in
-    let l = c.loop-i in
-    let f = c.fetch_from-f in
-    let rows = c.requires.0.0 in
+note_fault-requires c =
+    let l = c.requires.0.0 in
     let from = c.requires.0.1 in
-    let g = l.invariant.1 rows from c.requires.0.2 c.requires.1 in
-    let h : l.i < length rows = omega (arith, c.requires.0.2) in
-    let same = laws.row-fetched s a.place rows from l.at l.i h _ _ _ _ g f.result c.item_in.result c.row_of-row.result f.ensures c.item_in.ensures c.row_of-row.ensures in
-    (laws.row-digits s a.place rows from l.at l.i h _ _ _ _ g _ same, omega (arith, from.few), (_, laws.taken-length s a.place rows from l.at l.i h _ _ _ _ g, g.tables))
+    let i = c.loop-i.i in
+    let h : i < length l = omega (arith, c.requires.0.2) in
+    let there = c.fault_at.ensures _ (laws.fault-there from i h) in
+    let same : c.in-Some.row ≡ get_or l i no_row = cc in
+    (laws.row-digits from i h _ same, omega (arith, from.few), (_, laws.taken-length from i h, c.loop-i.invariant.noted l from c.requires.0.2 c.requires.1))
 
 pub loop-i-preserved : goal.loop-i-preserved
-loop-i-preserved c = let a = c.args in
-    let s = a.sheet.now in
-    let l = c.loop-i in
-    let f = c.fetch_from-f in (
-      omega arith,
-      λ rows from e t.
-          let g = l.invariant.1 rows from e t in
-          let h : l.i < length rows = omega arith in
-          let same = laws.row-fetched s a.place rows from l.at l.i h _ _ _ _ g f.result c.item_in.result c.row_of-row.result f.ensures c.item_in.ensures c.row_of-row.ensures in
-          laws.filling-next s a.place rows from l.at l.i h _ _ _ _ g f.result c.row_of-row.result _ _ _ _ f.ensures same
-          (c.note_fault.ensures _ (laws.taken-length s a.place rows from l.at l.i h _ _ _ _ g) g.tables),
-    )
-
-pub returns : goal.returns
-returns c = λ l h e. laws.filling-end _ l _ _ _ _ _ c.loop-i.i (omega arith) (c.loop-i.invariant.1 l h e c.requires.1)
+loop-i-preserved c = record {
+  noted = λ l from e none.
+      let i = c.loop-i.i in
+      let h : i < length l = omega arith in
+      let there = c.fault_at.ensures _ (laws.fault-there from i h) in
+      elim c.match-fault_at.branch [
+        | in-Some w ↦
+            let same : w.in-Some.row ≡ get_or l i no_row = cc in
+            rw w.tables-is (laws.noted-next from i h _ _ same (w.note_fault.ensures.noted _ (laws.taken-length from i h) (c.loop-i.invariant.noted l from e none)))
+        | in_default w ↦ (let empty = w.in_default.is in cc)
+      ];
+  others =
+      elim c.match-fault_at.branch [
+        | in-Some w ↦
+            let t = w.note_fault.new.tables in
+            rw w.tables-is (w.note_fault.ensures.others ∙ ap (λ (x : Tables). record x { choices = t.choices; first = t.first; mutated = t.mutated; diverted = t.diverted }) c.loop-i.invariant.others)
+        | in_default w ↦ rw w.tables-is c.loop-i.invariant.others
+      ];
+}

@@ -1,14 +1,10 @@
-use Prim.Native.Nat.{◌-◌, ◌≤◌}
-use mathlib.Core.Path.{◌≡◌}
-use mathlib.Core.List.{List, []}
-use lib.ListN.{length}
+use Rattle.std.proofs.Common.{◌≡◌, List, [], length, take}
 use Rattle.sheet.specs.declared.Row.{Row}
 use Rattle.reading.specs.words.Places.{FaultsFrom, FaultTables}
-use Rattle.reading.proofs.FillLaw as laws
 use Rattle.reading.proofs.filling.fill_faults.Given as goal
 
 abbrev pub invariant-loop-i : goal.invariant-loop-i
-invariant-loop-i it = (it.i ≤ it.faults) × ((l : List Row) → FaultsFrom it.sheet it.place l → it.faults ≡ length l → FaultTables it.initial.count it.initial.first it.initial.mutated it.initial.diverted [] → laws.Filling it.sheet l it.count it.first it.mutated it.diverted it.at it.i)
-
-abbrev pub decreases-loop-i : goal.decreases-loop-i
-decreases-loop-i l = l.faults - l.i
+invariant-loop-i it = record {
+  noted : (l : List Row) → FaultsFrom it.sheet it.place l → it.faults ≡ length l → FaultTables it.initial.tables [] → FaultTables it.tables (take it.i l);
+  others : it.tables ≡ record it.initial.tables { choices = it.tables.choices; first = it.tables.first; mutated = it.tables.mutated; diverted = it.tables.diverted };
+}

@@ -1,29 +1,20 @@
--- `put_fields` writes a blank and a number for each byte: after i of them, the first i are written.
-use native.Mathlib.Omega.{arith}
-use Rattle.report.specs.laws.TextLaw.{byte-digits, field-more, fields-none, fields-all}
+-- After some numbers, those are written.
+use Rattle.std.proofs.Common.{arith}
+use Rattle.report.specs.laws.TextLaw.{field-next, fields-none, fields-all}
 use Rattle.report.proofs.text.put_fields.Goals as goal
 
-pub loop-i-init : goal.loop-i-init
-loop-i-init c = (omega arith, omega arith, fields-none _ _)
+pub loop-number-init : goal.loop-number-init
+loop-number-init c = (omega arith, omega arith, fields-none _ _)
 
-pub byte-blank-requires : goal.byte-blank-requires
-byte-blank-requires c = omega (arith, c.loop-i.invariant.2.long)
+pub put_field-end-requires : goal.put_field-end-requires
+put_field-end-requires c = omega (arith, c.loop-number.invariant.2.long)
 
-pub overflow_cast-numbers : goal.overflow_cast-numbers
-overflow_cast-numbers c = omega (arith, c.shared_slice_known-in-loop-i-1.given c.loop-i.i)
-
-pub put_number-end-requires : goal.put_number-end-requires
-put_number-end-requires c = omega (arith, c.loop-i.invariant.2.long, c.byte-blank.ensures.many, c.byte-blank.ensures.long, byte-digits _ (c.shared_slice_known-in-loop-i-1.given c.loop-i.i))
-
-pub loop-i-preserved : goal.loop-i-preserved
-loop-i-preserved c = (
+pub loop-number-preserved : goal.loop-number-preserved
+loop-number-preserved c = (
   omega arith,
-  omega (arith, c.byte-blank.ensures.many, c.put_number-end.ensures.many, byte-digits _ (c.shared_slice_known-in-loop-i-1.given c.loop-i.i)),
-  field-more c.args.numbers.now c.loop-i.i c.loop-i.invariant.2 c.byte-blank.ensures c.put_number-end.ensures (omega arith),
+  omega (arith, c.put_field-end.ensures.short),
+  field-next c.args.numbers.now c.loop-number.number-index c.loop-number.invariant.2 c.put_field-end.ensures.text (omega arith),
 )
 
-pub shape_of-out : goal.shape_of-out
-shape_of-out c = c.loop-i.invariant.2.long
-
 pub returns : goal.returns
-returns c = record { text = fields-all c.args.numbers.now c.loop-i.i c.loop-i.invariant.2 (omega arith); short = omega arith }
+returns c = record { text = fields-all c.args.numbers.now c.loop-number.number-index c.loop-number.invariant.2 (omega arith); short = omega arith }

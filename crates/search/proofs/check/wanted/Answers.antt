@@ -13,10 +13,10 @@ pub meets-requires : goal.meets-requires
 meets-requires c =
     meets-asks c.requires.1 c.lay.ensures c.initial-start.ensures
 
-pub returns-in-Nothing : goal.returns-in-Nothing
-returns-in-Nothing c =
-    λ sh w. passes w c.lay.ensures c.initial-start.ensures c.args.log.now c.first_wrong.ensures c.in-Nothing.is c.meets.ensures
+pub returns-in-None : goal.returns-in-None
+returns-in-None c =
+    λ sh w. passes w c.lay.ensures c.initial-start.ensures c.args.log.now c.first_wrong.ensures c.in-None.is c.meets.ensures
 
-pub returns-in-At : goal.returns-in-At
-returns-in-At c =
-    λ sh w. fails w c.lay.ensures c.initial-start.ensures c.args.log.now c.first_wrong.ensures c.in-At.is
+pub returns-in-Some : goal.returns-in-Some
+returns-in-Some c =
+    λ sh w. fails w c.lay.ensures c.initial-start.ensures c.args.log.now c.first_wrong.ensures c.in-Some.is

@@ -4,6 +4,3 @@ use Rattle.search.proofs.settle.search_after.Given as goal
 
 abbrev pub invariant-loop-i : goal.invariant-loop-i
 invariant-loop-i l = Going l.goal l.block l.log l.last l.initial.store l.store l.initial.notes l.notes l.p l.i
-
-abbrev pub decreases-loop-i : goal.decreases-loop-i
-decreases-loop-i l = l.i

@@ -4,13 +4,10 @@ use Rattle.search.proofs.AfterLaw.{filled_none, filled_more, filled-all}
 use Rattle.search.proofs.settle.settled_as.Goals as goal
 
 pub loop-j-init : goal.loop-j-init
-loop-j-init c = filled_none c.unsettled-p.ensures
-
-pub overflow_cast-p : goal.overflow_cast-p
-overflow_cast-p c = omega (arith, c.shared_slice_known-in-loop-j-1.given c.loop-j.j)
+loop-j-init c = filled_none refl
 
 pub loop-j-preserved : goal.loop-j-preserved
-loop-j-preserved c = filled_more c.loop-j.invariant (omega arith) (omega arith) refl
+loop-j-preserved c = filled_more c.loop-j.invariant (omega arith) (omega arith) c.from.ensures
 
 pub returns : goal.returns
 returns c = filled-all c.loop-j.invariant c.loop-j-test.false

@@ -1,9 +1,9 @@
+use Rattle.lists.specs.Options.{coded}
 use Prim.Native.Nat.{ℕ, ◌-◌}
 use mathlib.Core.Path.{sym, ◌∙◌, ap}
 use mathlib.Core.List.{List, []}
 use lib.ListN.{get_or}
 use Rattle.station.specs.Station.{element_at, expected}
-use Rattle.station.specs.words.Parts.{found_of}
 use Rattle.station.proofs.PressLaw.{part-is, current-is}
 use Rattle.station.proofs.WalkLaw.{walks, none-expected}
 use Rattle.station.proofs.hearing.output_at.Goals as goal
@@ -22,4 +22,4 @@ returns c = λ sh r.
     let a = c.args in
     let i = a.begun - 1 in
     c.output_in.ensures sh (get_or sh.tests i []) (walks r i (c.test_part-part.ensures.bytes ∙ part-is a.sheet.now sh i r.read))
-    ∙ ap (λ (t : List ℕ). found_of (element_at (expected sh t) a.position)) (sym (current-is sh.tests a.begun c.if-begun-eq0.false))
+    ∙ ap (λ (t : List ℕ). coded (element_at (expected sh t) a.position)) (sym (current-is sh.tests a.begun c.if-begun-eq0.false))

@@ -1,9 +1,9 @@
+use Rattle.lists.specs.Options.{coded}
 use Prim.Native.Nat.{◌-◌}
 use mathlib.Core.Path.{sym, ◌∙◌, ap}
 use mathlib.Core.List.{List, []}
 use lib.ListN.{get_or}
 use Rattle.station.specs.Station.{element_at}
-use Rattle.station.specs.words.Parts.{found_of}
 use Prim.Native.Nat.{ℕ}
 use Rattle.station.proofs.PressLaw.{part-is, none-begun, current-is}
 use Rattle.station.proofs.steps.input_at.Goals as goal
@@ -16,4 +16,4 @@ returns c = λ sh e.
     let a = c.args in
     let i = a.begun - 1 in
     c.input_in.ensures (get_or sh.tests i []) (c.test_part-part.ensures.bytes ∙ part-is a.sheet.now sh i e)
-    ∙ ap (λ (t : List ℕ). found_of (element_at t a.position)) (sym (current-is sh.tests a.begun c.if-begun-eq0.false))
+    ∙ ap (λ (t : List ℕ). coded (element_at t a.position)) (sym (current-is sh.tests a.begun c.if-begun-eq0.false))

@@ -1,15 +1,17 @@
 -- `try_board`: the machine of the mutant along the suite's log.
-use Rattle.lists.specs.Proving.{◌∙◌, ap}
-use Rattle.model.specs.Tray.{result_of}
-use Rattle.tray.proofs.TryLaw.{walked, walked_low}
+use Rattle.lists.specs.Proving.{arith}
+use Rattle.tray.proofs.TryLaw.{machine-ok, passes, fails, few}
 use Rattle.tray.proofs.boards.try_board.Goals as goal
 
-pub machine_of-machine-requires : goal.machine_of-machine-requires
-machine_of-machine-requires c = let pre = c.requires in (pre.0, pre.1.tabled)
+pub unwrap-machine-requires : goal.unwrap-machine-requires
+unwrap-machine-requires c = let (sh, su, is) = c.requires in machine-ok sh _ is _ (c.machine_of.ensures sh su.tabled)
 
-pub result_along-requires : goal.result_along-requires
-result_along-requires c = let pre = c.requires in
-    walked_low pre.1 (c.machine_of-machine.ensures pre.0 pre.1.tabled) pre.2
+pub returns-in-None : goal.returns-in-None
+returns-in-None c = λ sh su is. passes su (rw c.unwrap-machine.ensures at (c.machine_of.ensures sh su.tabled)) c.first_wrong.ensures c.in-None.is
 
-pub returns : goal.returns
-returns c = λ sh su mutant. c.result_along.ensures ∙ ap result_of (walked su (c.machine_of-machine.ensures sh su.tabled) mutant)
+pub overflow_cast-result : goal.overflow_cast-result
+overflow_cast-result c = let (sh, su, is) = c.requires in
+    omega (arith, few su (rw c.unwrap-machine.ensures at (c.machine_of.ensures sh su.tabled)) c.first_wrong.ensures c.in-Some.is)
+
+pub returns-in-Some : goal.returns-in-Some
+returns-in-Some c = λ sh su is. fails su (rw c.unwrap-machine.ensures at (c.machine_of.ensures sh su.tabled)) c.first_wrong.ensures c.in-Some.is

@@ -8,53 +8,43 @@ use Rattle.tray.proofs.TryLaw.{tried-none, tried-end, tried-room, tried-mutant, 
 use Rattle.tray.proofs.boards.try_boards.Goals as goal
 
 pub loop-i-init : goal.loop-i-init
-loop-i-init c = (omega arith, λ sh su tr. tried-none)
+loop-i-init c = λ sh su tr. tried-none
 
 pub overflow_add-end : goal.overflow_add-end
-overflow_add-end c = let slots-count : (sh : Sheet) → ForSheet sh c.args.block.now c.args.log.now → c.wide-count.result ≡ length (slots sh) = λ sh su. c.wide-count.ensures.0 ∙ c.slots.ensures ∙ su.tabled.count in
+overflow_add-end c = let slots-count : (sh : Sheet) → ForSheet sh c.args.block.now c.args.log.now → c.from-count.result ≡ length (slots sh) = λ sh su. c.from-count.ensures ∙ c.slots.ensures ∙ su.tabled.count in
     let pre = c.requires in
-    omega (arith, c.well_formed, tried-end pre.2 c.loop-i-test.true (slots-count pre.0 pre.1) (c.loop-i.invariant.1 pre.0 pre.1 pre.2))
+    omega (arith, c.well_formed, tried-end pre.2 c.loop-i-test.true (slots-count pre.0 pre.1) (c.loop-i.invariant pre.0 pre.1 pre.2))
 
 pub slice_bounds-try_board-end : goal.slice_bounds-try_board-end
-slice_bounds-try_board-end c = let slots-count : (sh : Sheet) → ForSheet sh c.args.block.now c.args.log.now → c.wide-count.result ≡ length (slots sh) = λ sh su. c.wide-count.ensures.0 ∙ c.slots.ensures ∙ su.tabled.count in
+slice_bounds-try_board-end c = let slots-count : (sh : Sheet) → ForSheet sh c.args.block.now c.args.log.now → c.from-count.result ≡ length (slots sh) = λ sh su. c.from-count.ensures ∙ c.slots.ensures ∙ su.tabled.count in
     let pre = c.requires in
-    omega (arith, tried-end pre.2 c.loop-i-test.true (slots-count pre.0 pre.1) (c.loop-i.invariant.1 pre.0 pre.1 pre.2))
+    omega (arith, tried-end pre.2 c.loop-i-test.true (slots-count pre.0 pre.1) (c.loop-i.invariant pre.0 pre.1 pre.2))
 
 pub try_board-requires : goal.try_board-requires
-try_board-requires c = let slots-count : (sh : Sheet) → ForSheet sh c.args.block.now c.args.log.now → c.wide-count.result ≡ length (slots sh) = λ sh su. c.wide-count.ensures.0 ∙ c.slots.ensures ∙ su.tabled.count in
+try_board-requires c = let slots-count : (sh : Sheet) → ForSheet sh c.args.block.now c.args.log.now → c.from-count.result ≡ length (slots sh) = λ sh su. c.from-count.ensures ∙ c.slots.ensures ∙ su.tabled.count in
     let pre = c.requires in
-    (pre.0, pre.1, tried-mutant pre.2 c.loop-i-test.true (slots-count pre.0 pre.1) (c.loop-i.invariant.1 pre.0 pre.1 pre.2))
+    (pre.0, pre.1, tried-mutant pre.2 c.loop-i-test.true (slots-count pre.0 pre.1) (c.loop-i.invariant pre.0 pre.1 pre.2))
 
 pub offset_bounds-results-i : goal.offset_bounds-results-i
-offset_bounds-results-i c = let slots-count : (sh : Sheet) → ForSheet sh c.args.block.now c.args.log.now → c.wide-count.result ≡ length (slots sh) = λ sh su. c.wide-count.ensures.0 ∙ c.slots.ensures ∙ su.tabled.count in
+offset_bounds-results-i c = let slots-count : (sh : Sheet) → ForSheet sh c.args.block.now c.args.log.now → c.from-count.result ≡ length (slots sh) = λ sh su. c.from-count.ensures ∙ c.slots.ensures ∙ su.tabled.count in
     let pre = c.requires in
-    let inv = c.loop-i.invariant.1 pre.0 pre.1 pre.2 in
+    let inv = c.loop-i.invariant pre.0 pre.1 pre.2 in
     omega (arith, c.well_formed, inv.long, tried-room pre.2 c.loop-i-test.true (slots-count pre.0 pre.1) inv)
 
 pub bounds-results-i : goal.bounds-results-i
-bounds-results-i c = let slots-count : (sh : Sheet) → ForSheet sh c.args.block.now c.args.log.now → c.wide-count.result ≡ length (slots sh) = λ sh su. c.wide-count.ensures.0 ∙ c.slots.ensures ∙ su.tabled.count in
+bounds-results-i c = let slots-count : (sh : Sheet) → ForSheet sh c.args.block.now c.args.log.now → c.from-count.result ≡ length (slots sh) = λ sh su. c.from-count.ensures ∙ c.slots.ensures ∙ su.tabled.count in
     let pre = c.requires in
-    tried-room pre.2 c.loop-i-test.true (slots-count pre.0 pre.1) (c.loop-i.invariant.1 pre.0 pre.1 pre.2)
-
-pub overflow_add-i : goal.overflow_add-i
-overflow_add-i c = omega (arith, c.loop-i-test.true, c.well_formed)
-
-pub loop-i-smaller : goal.loop-i-smaller
-loop-i-smaller c = omega (arith, c.loop-i-test.true)
+    tried-room pre.2 c.loop-i-test.true (slots-count pre.0 pre.1) (c.loop-i.invariant pre.0 pre.1 pre.2)
 
 pub loop-i-preserved : goal.loop-i-preserved
-loop-i-preserved c = let slots-count : (sh : Sheet) → ForSheet sh c.args.block.now c.args.log.now → c.wide-count.result ≡ length (slots sh) = λ sh su. c.wide-count.ensures.0 ∙ c.slots.ensures ∙ su.tabled.count in
-    let taken = c.loop-i-test.true in (
-      omega (arith, taken),
-      λ sh su tr.
-          let inv = c.loop-i.invariant.1 sh su tr in
-          let count = slots-count sh su in
-          tried-more tr taken count inv (c.try_board.ensures sh su (tried-mutant tr taken count inv)),
-    )
+loop-i-preserved c = λ sh su tr.
+    let inv = c.loop-i.invariant sh su tr in
+    let count = c.from-count.ensures ∙ c.slots.ensures ∙ su.tabled.count in
+    tried-more tr c.loop-i-test.true count inv (c.try_board.ensures sh su (tried-mutant tr c.loop-i-test.true count inv))
 
 pub shape_of-results : goal.shape_of-results
 shape_of-results c = let pre = c.requires in
-    (c.loop-i.invariant.1 pre.0 pre.1 pre.2).long
+    (c.loop-i.invariant pre.0 pre.1 pre.2).long
 
 pub returns : goal.returns
-returns c = λ sh su tr. tried-all c.loop-i.invariant.0 c.loop-i-test.false (c.loop-i.invariant.1 sh su tr)
+returns c = λ sh su tr. tried-all c.loop-i.auto.i-end c.loop-i-test.false (c.loop-i.invariant sh su tr)

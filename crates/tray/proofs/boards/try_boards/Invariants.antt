@@ -1,5 +1,4 @@
 -- `try_boards`: the results of the first i stand at the front.
-use Rattle.std.specs.Prelude.{◌-◌, ◌≤◌}
 use Rattle.lists.specs.Proving.{length}
 use Rattle.sheet.specs.Sheet.{Sheet}
 use Rattle.search.specs.Search.{ForSheet}
@@ -8,7 +7,4 @@ use Rattle.tray.proofs.TryLaw.{TriedTo}
 use Rattle.tray.proofs.boards.try_boards.Given as goal
 
 abbrev pub invariant-loop-i : goal.invariant-loop-i
-invariant-loop-i l = (l.i ≤ l.boards) × ((sh : Sheet) → ForSheet sh l.block l.log → TrayOf sh l.boards l.tray (length l.initial.results) → TriedTo sh l.tray l.initial.results l.results l.at l.i)
-
-abbrev pub decreases-loop-i : goal.decreases-loop-i
-decreases-loop-i l = l.boards - l.i
+invariant-loop-i l = (sh : Sheet) → ForSheet sh l.block l.log → TrayOf sh l.boards l.tray (length l.initial.results) → TriedTo sh l.tray l.initial.results l.results l.at l.i

@@ -1,12 +1,10 @@
--- `mark_test`: the inputs before `at` are marked.
+-- `mark_test`: the inputs before i are marked.
+use Rattle.std.specs.Prelude.{◌+◌, ◌*◌, ◌-◌}
 use Rattle.model.specs.Used.{mark_from}
 use Rattle.logs.specs.Tests.{inputs_at}
 use Rattle.usage.specs.Marks.{acts_in}
 use Rattle.usage.proofs.TriedLaw.{Marking}
 use Rattle.usage.proofs.tried.mark_test.Given as goal
 
-abbrev pub invariant-loop-left : goal.invariant-loop-left
-invariant-loop-left l = Marking l.block l.targets l.sheet (mark_from (acts_in l.block l.targets) l.set l.initial' (inputs_at l.sheet l.start l.inputs)) l.used l.s l.at l.left
-
-abbrev pub decreases-loop-left : goal.decreases-loop-left
-decreases-loop-left l = l.left
+abbrev pub invariant-loop-i : goal.invariant-loop-i
+invariant-loop-i l = Marking l.loaded.block l.targets l.loaded.sheet.now (mark_from (acts_in l.loaded.block l.targets) l.set l.initial' (inputs_at l.loaded.sheet.now l.start l.inputs)) l.used l.s (l.start + 2 * l.i) (l.inputs - l.i)

@@ -1,9 +1,5 @@
-use Rattle.std.specs.Prelude.{◌-◌}
 use Rattle.walks.proofs.ReachLaw.{WithinTo}
 use Rattle.walks.proofs.reach.all_within.Given as goal
 
 abbrev pub invariant-loop-s : goal.invariant-loop-s
 invariant-loop-s l = WithinTo l.rows l.done l.s
-
-abbrev pub decreases-loop-s : goal.decreases-loop-s
-decreases-loop-s l = l.end - l.s

@@ -8,8 +8,8 @@ loop-x-init c = row-none
 pub cell-reach-requires : goal.cell-reach-requires
 cell-reach-requires c = (c.requires.0, rw c.inputs-end.ensures at c.loop-x-test.true, c.loop-x.invariant.further.grows.long ∙ c.requires.1)
 
-pub returns-then-reach : goal.returns-then-reach
-returns-then-reach c = row-stopped c.loop-x.invariant c.cell-reach.ensures c.if-reach.true
+pub returns-in-Wrong : goal.returns-in-Wrong
+returns-in-Wrong c = row-stopped c.loop-x.invariant c.cell-reach.ensures c.in-Wrong.is
 
 pub loop-x-preserved : goal.loop-x-preserved
 loop-x-preserved c = row_more c.loop-x.invariant c.cell-reach.ensures

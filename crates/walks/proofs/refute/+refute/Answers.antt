@@ -1,7 +1,8 @@
 -- `refute`: none of the mutants whose choice at the suspect is below c is sought.
-use Rattle.lists.specs.Proving.{arith, refl, ◌∙◌}
+use Rattle.lists.specs.Proving.{arith, refl, ◌∙◌, ap, ℕ, subst, not-false}
 use lib.Seq.{set-set}
-use Rattle.walks.proofs.SplitLaw.{tried-none, tried-more, tried-all, stands-child, told_parent, stands-as, told-as}
+use Rattle.cubes.specs.Sets.{Has}
+use Rattle.walks.proofs.SplitLaw.{tried-none, tried-more, tried-all, stands-child, none-parent, stands-as, none-as}
 use Rattle.walks.proofs.refute.+refute.Goals as goal
 
 pub returns-in_default : goal.returns-in_default
@@ -9,7 +10,7 @@ returns-in_default t c = c.told_of.ensures _ _ _ _ c.look-halt.ensures
 
 pub loop-c-init : goal.loop-c-init
 loop-c-init t c =
-    let split = c.to_settle-end.ensures (omega (arith, c.if-end-eq0.false)) in
+    let split = c.in_ok-end.ensures in
     record {
       split = split;
       few = omega (arith, split.count, c.requires.0.choices _ split.low);
@@ -18,23 +19,16 @@ loop-c-init t c =
       child = λ v. refl;
     }
 
-pub bounds-q-wide : goal.bounds-q-wide
-bounds-q-wide t c = omega (arith, c.wide.ensures, c.loop-c.invariant.split.low)
-
-pub overflow_sub-left : goal.overflow_sub-left
-overflow_sub-left t c = omega (arith, c.loop-c.invariant.split.some)
-
-pub refute-told-requires : goal.refute-told-requires
-refute-told-requires t c =
+pub refute-requires : goal.refute-requires
+refute-requires t c =
     let inv = c.loop-c.invariant in
-    (omega (arith, inv.split.some), (c.requires.0, rw c.wide.ensures.0 (stands-as (inv.child _) (stands-child _ _ _ inv.split.free inv.stands))))
+    (omega (arith, inv.split.some), (c.requires.0, rw c.from.ensures (stands-as (inv.child _) (stands-child _ _ _ inv.split.free inv.stands))))
 
-pub is_final-requires : goal.is_final-requires
-is_final-requires t c = c.loop-c.invariant.split.low
-
-pub returns-then-is_final : goal.returns-then-is_final
-returns-then-is_final t c =
-    told_parent _ _ c.loop-c.c (told-as (c.loop-c.invariant.child _) (rw c.wide.ensures.0 at c.refute-told.ensures)) (c.is_final.ensures.1 c.if-is_final.true)
+pub returns-then-not-holds : goal.returns-then-not-holds
+returns-then-not-holds t c =
+    let inv = c.loop-c.invariant in
+    none-parent _ _ c.loop-c.c (none-as (inv.child _) (rw c.from.ensures at c.in_ok-by.ensures))
+    (λ h. c.holds.ensures.modulo.1 c.if-not-holds.true (subst (λ (n : ℕ). Has c.in_ok-by.by n) (omega (arith, inv.split.low)) h))
 
 pub loop-c-preserved : goal.loop-c-preserved
 loop-c-preserved t c =
@@ -43,9 +37,9 @@ loop-c-preserved t c =
       split = inv.split;
       few = inv.few;
       stands = inv.stands;
-      tried = tried-more inv.split.free inv.tried (told-as (inv.child _) (rw c.wide.ensures.0 at c.refute-told.ensures) (c.is_final.ensures.0 c.if-is_final.false)) c.united-used.ensures;
-      child = λ v. rw c.wide.ensures.0 (set-set c.loop-c.q _ c.loop-c.c v ∙ inv.child v);
+      tried = tried-more inv.split.free inv.tried (none-as (inv.child _) (rw c.from.ensures at c.in_ok-by.ensures)) c.union-used.ensures;
+      child = λ v. rw c.from.ensures (set-set c.loop-c.q _ c.loop-c.c v ∙ inv.child v);
     }
 
 pub returns : goal.returns
-returns t c = λ e. tried-all c.loop-c.invariant.tried c.loop-c.invariant.split c.loop-c-test.false
+returns t c = tried-all c.loop-c.invariant.tried c.loop-c.invariant.split c.loop-c-test.false

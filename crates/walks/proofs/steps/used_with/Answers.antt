@@ -5,4 +5,4 @@ pub returns-then-i-eq255 : goal.returns-then-i-eq255
 returns-then-i-eq255 c = record { more = λ j h. h; has = λ n l. absurd (n c.if-i-eq255.true) }
 
 pub returns : goal.returns
-returns c = record { more = c.joined.ensures.left; has = λ n l. joined-has l c.joined.ensures }
+returns c = record { more = c.with.ensures.left; has = λ n l. joined-has l c.with.ensures }

@@ -4,8 +4,8 @@ use Rattle.lists.specs.Proving.{length}
 use Rattle.walks.specs.Walks.{Stands}
 use Rattle.walks.proofs.walk.walk.Given as goal
 
-abbrev pub invariant-loop-at : goal.invariant-loop-at
-invariant-loop-at l = Stands l.block l.log l.p (record { at = l.at; state = l.state; used = l.used })
+abbrev pub invariant-loop-here : goal.invariant-loop-here
+invariant-loop-here l = Stands l.block l.log l.p l.here
 
-abbrev pub decreases-loop-at : goal.decreases-loop-at
-decreases-loop-at l = length l.log - l.at
+abbrev pub decreases-loop-here : goal.decreases-loop-here
+decreases-loop-here l = length l.log - l.here.at

@@ -1,5 +1,5 @@
 -- `quieted`: the byte of QUIET, or nothing.
-use native.Mathlib.Omega.{arith}
+use Rattle.std.proofs.Common.{arith}
 use Rattle.sheet.specs.Encode.{quiet_bytes}
 use Rattle.writing.proofs.laws.SpelledLaw.{spelled_none}
 use Rattle.writing.proofs.spell.quieted.Goals as goal
@@ -9,13 +9,10 @@ unfolding quiet_bytes
 byte-requires c = let room = rw c.if-quiet.true at c.requires in
     omega arith
 
-pub shape_of-sheet-then-quiet : goal.shape_of-sheet-then-quiet
-shape_of-sheet-then-quiet c = c.byte.ensures.long
-
 pub returns-then-quiet : goal.returns-then-quiet
 unfolding quiet_bytes
 returns-then-quiet c = rw c.if-quiet.true c.byte.ensures
 
-pub returns : goal.returns
+pub returns-else-quiet : goal.returns-else-quiet
 unfolding quiet_bytes
-returns c = rw c.if-quiet.false spelled_none
+returns-else-quiet c = rw c.if-quiet.false spelled_none

@@ -1,23 +1,23 @@
--- `rows`: those before i are spelled.
-use native.Mathlib.Omega.{arith}
-use Rattle.writing.proofs.laws.SpelledLaw.{spelling-start, spelling-room, spelling-more, spelling-end}
-use Rattle.writing.proofs.RestLaw.{rows_next, rows_none}
+-- `rows`: those before are spelled.
+use Rattle.std.proofs.Common.{◌∙◌, arith}
+use Rattle.writing.proofs.laws.SpelledLaw.{spelling-room, spelling-more, spelling-end}
+use Rattle.writing.proofs.RestLaw.{rows_next, rows_short}
 use Rattle.writing.proofs.spell.rows.Goals as goal
 
-pub loop-i-init : goal.loop-i-init
-loop-i-init c = (omega arith, spelling-start c.requires)
-
 pub command-to-requires : goal.command-to-requires
-command-to-requires c = let a = c.args in
-    spelling-room c.loop-i.invariant.1 (rows_next a.b a.table.now c.loop-i.i c.loop-i-test.true)
+command-to-requires c =
+    let s = c.in-Some.ensures.steps in
+    spelling-room c.loop-row.invariant.spelled (rows_next c.args.b _ _ _ s.1.0 (s.1.1 ∙ c.loop-row.invariant.four))
 
-pub loop-i-preserved : goal.loop-i-preserved
-loop-i-preserved c = let a = c.args in
-    (omega arith, spelling-more c.loop-i.invariant.1 (rows_next a.b a.table.now c.loop-i.i c.loop-i-test.true) c.command-to.ensures)
-
-pub shape_of-sheet : goal.shape_of-sheet
-shape_of-sheet c = c.loop-i.invariant.1.wrote.long
+pub loop-row-preserved : goal.loop-row-preserved
+loop-row-preserved c =
+    let s = c.in-Some.ensures.steps in
+    record {
+      four = s.0 ∙ c.loop-row.invariant.four;
+      spelled = spelling-more c.loop-row.invariant.spelled (rows_next c.args.b _ _ _ s.1.0 (s.1.1 ∙ c.loop-row.invariant.four)) c.command-to.ensures;
+    }
 
 pub returns : goal.returns
-returns c = let a = c.args in
-    spelling-end c.loop-i.invariant.1 (rows_none a.b a.table.now c.loop-i.i c.loop-i-test.false)
+returns c =
+    let s = c.in-None.ensures.steps in
+    spelling-end c.loop-row.invariant.spelled (rows_short c.args.b _ (omega (arith, s.1.0, c.loop-row.invariant.four)))

@@ -1,13 +1,13 @@
--- `rows`: those before i are spelled.
-use Prim.Native.Nat.{◌-◌, ◌≤◌}
-use lib.ListN.{length, drop}
+-- `rows`: those before are spelled.
+use Rattle.std.proofs.Common.{◌≡◌}
 use Rattle.sheet.specs.Encode.{row_bytes}
+use Rattle.std.specs.Slice.Iter.{chunks_exact_rest, chunks_exact_size}
 use Rattle.writing.specs.Drawing.{rows_of}
 use Rattle.writing.proofs.laws.SpelledLaw.{Spelling}
 use Rattle.writing.proofs.spell.rows.Given as goal
 
-abbrev pub invariant-loop-i : goal.invariant-loop-i
-invariant-loop-i l = (l.i ≤ length l.table) × Spelling l.initial.sheet l.sheet l.at l.to (row_bytes l.b (rows_of l.table)) (row_bytes l.b (rows_of (drop l.i l.table)))
-
-abbrev pub decreases-loop-i : goal.decreases-loop-i
-decreases-loop-i l = length l.table - l.i
+abbrev pub invariant-loop-row : goal.invariant-loop-row
+invariant-loop-row l = record {
+  four : chunks_exact_size l.row-iterator ≡ 4;
+  spelled : Spelling l.initial.sheet l.sheet l.at l.to (row_bytes l.b (rows_of l.table)) (row_bytes l.b (rows_of (chunks_exact_rest l.row-iterator)));
+}

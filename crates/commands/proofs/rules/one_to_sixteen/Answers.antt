@@ -1,8 +1,0 @@
-use borrow.Author.Tests.{le-leb, lt-leb}
-use Rattle.commands.proofs.rules.one_to_sixteen.Goals as goal
-
-pub returns-then-n-ge1 : goal.returns-then-n-ge1
-returns-then-n-ge1 c = simp (le-leb _ _ c.if-n-ge1.true)
-
-pub returns : goal.returns
-returns c = simp (lt-leb _ _ c.if-n-ge1.false)

@@ -1,2 +1,0 @@
--- What the crate's own functions say to one another: no promise to a user rests on it.
-pub mod Suites

@@ -1,0 +1,5 @@
+use Rattle.leaves.specs.Members.{Literals}
+use Rattle.pairs.proofs.proposal.Proposal.spread.Given as goal
+
+abbrev pub invariant-loop : goal.invariant-loop
+invariant-loop l = Literals l.initial.self.cube → Literals l.self.cube

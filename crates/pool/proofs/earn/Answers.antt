@@ -1,6 +1,0 @@
-use native.Mathlib.Omega.{arith}
-use Rattle.leaves.specs.laws.NotedLaw.{changed-set}
-use Rattle.pool.proofs.earn.Goals as goal
-
-pub returns : goal.returns
-returns c = changed-set _ _ (omega arith) (omega arith) c.set_note.ensures
