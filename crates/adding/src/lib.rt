@@ -86,6 +86,8 @@ pub fn add_test(sheet: &[u8], presses: &[u8], buffer: &mut [u8]) -> Result<usize
     ensures bytes { buffer.new ≡ overlay (sheet_writes (adding sheet.now presses.now (length buffer.old))) buffer.old }
     ensures told { (sh : Sheet) → reading sheet.now ≡ accepted sh → ToldAdded sh presses.now result buffer.old buffer.new }
 {
-    let loaded = load(sheet)?;
-    add_read(&loaded, presses, buffer)
+    match &load(sheet) {
+        Ok(loaded) => add_read(loaded, presses, buffer),
+        Err(why) => Err(*why),
+    }
 }

@@ -88,8 +88,8 @@ pub fn load(sheet: &[u8]) -> Result<Loaded<'_>, Refusal>
     ensures opened { IfOk result (λ loaded. Opened sheet.now loaded) }
     ensures refused { IfErr result (λ why. reading sheet.now ≡ refused why.number why.place) }
 {
-    let mut tables = Tables::blank();
-    let size = reading::load(sheet, &mut tables)?;
+    let mut tables = Tables::noughts();
+    let size = reading::load_noughts(sheet, &mut tables)?;
     Ok(Loaded {
         sheet,
         block: tabulate(size, &tables),

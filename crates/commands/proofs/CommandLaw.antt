@@ -1,43 +1,54 @@
 -- The command at a place, by the definition.
-use Rattle.std.proofs.Common.{sym, ◌≡◌, ℕ, ◌+◌, ◌<◌, ◌≤◌, true, false, List, length, get_or, refl, arith}
-use Rattle.std.specs.Prelude.{Some, None, Err}
-use Rattle.std.specs.Option.{ok_or}
-use Rattle.std.specs.Prelude.{Option as Maybe}
-use Rattle.std.specs.Prelude.{Result as Answer}
+use Rattle.std.proofs.Common.{◌≡◌, ℕ, ◌+◌, ◌<◌, ◌≤◌, Bool, true, false, List, length, get_or, refl, arith}
+use Rattle.std.specs.Prelude.{Ok, Err}
 use borrow.Author.Tests.{le-leb, lt-leb, le-ltb, lt-ltb, eq-eqb, ne_eqb}
 use Rattle.sheet.specs.Reading.{Progress, go, stop, refused, finishing, doing, one_command, allowed, width, refusal}
-use Rattle.sheet.specs.declared.Refusal.{Refusal}
 use Rattle.sheet.specs.Tables.{refusal_of}
 use Rattle.sheet.specs.laws.ReadingLaw.{known-range}
-use Rattle.commands.specs.laws.FetchLaw.{fetched-whole, fetched-short}
+use Rattle.commands.specs.laws.FetchLaw.{UnknownAt, fetched-whole, fetched-short, fetched-none, fetched-unknown}
 use Rattle.commands.specs.declared.fetch.Command.{Command as Code}
 use Rattle.commands.specs.declared.fetch.Command.TheVariants as code
+use Rattle.commands.specs.declared.fetch.Missing.TheVariants.{Nothing, Short, Unknown}
 use Rattle.commands.specs.declared.rules.Broken.{Broken}
 use Rattle.commands.specs.declared.rules.Broken.TheVariants as broken
-use Rattle.commands.specs.words.Fetch.{byte_of, says, command_at}
+use Rattle.commands.specs.words.Fetch.{byte_of, says, fetch_at}
 use Rattle.commands.specs.words.Held.{number_of, advanced, Stands, Next}
 
 module _ (s : List ℕ) (at rank : ℕ) where
   -- no byte, or one that may not stand here
-  pub next-past : length s ≤ at → Next s at rank (Err (refusal_of 2 (length s)))
+  pub next-past : fetch_at s at ≡ Err Nothing → Next s at rank (Err (refusal_of 2 (length s)))
   unfolding one_command
-  next-past h = λ p e. rw (le-leb (length s) at h)
+  next-past i = λ p e. rw (le-leb (length s) at (fetched-none s at i))
 
-  pub next-unknown : at < length s → allowed rank (get_or s at 0) ≡ false → Next s at rank (Err (refusal_of 3 at))
+  barred : at < length s → allowed rank (get_or s at 0) ≡ false → Next s at rank (Err (refusal_of 3 at))
   unfolding one_command
-  next-unknown h a = λ p e. rw (lt-leb (length s) at h, ← e, a)
+  barred h a = λ p e. rw (lt-leb (length s) at h, ← e, a)
 
-  module _ (h : at < length s) (a : allowed rank (get_or s at 0) ≡ true) where
-    -- a whole command, or one whose operands are missing
-    pub next-chosen : (found : Maybe Code) (r : Answer Code Refusal) → found ≡ command_at s at → r ≡ ok_or found (refusal_of 2 at) → Next s at rank r
-    unfolding one_command
-    next-chosen (Some c) r e i =
-        let w = fetched-whole s at c (sym e) in
-        rw i (record { here = h; byte = w.byte; allowed-is = a; all = w.all; same = w.says })
-    next-chosen None r e i =
-        let k = known-range rank (get_or s at 0) a in
-        let few = (fetched-short s at (get_or s at 0) (sym e) h refl k.0 k.1).few in
-        rw i (λ p q. rw (lt-leb (length s) at h, ← q, a, lt-ltb (length s) (at + width (get_or s at 0)) few))
+  -- a whole command, or one whose operands are missing: may it stand here?
+  pub next-whole : (command : Code) → fetch_at s at ≡ Ok command → allowed rank (byte_of command) ≡ true → Next s at rank (Ok command)
+  next-whole command i a =
+      let w = fetched-whole s at command i in
+      record { here = w.here; byte = w.byte; allowed-is = rw w.byte at a; all = w.all; same = w.says }
+
+  pub next-barred : (command : Code) → fetch_at s at ≡ Ok command → allowed rank (byte_of command) ≡ false → Next s at rank (Err (refusal_of 3 at))
+  next-barred command i a = let w = fetched-whole s at command i in barred w.here (rw w.byte at a)
+
+  pub next-short : (b : ℕ) → fetch_at s at ≡ Err (Short b) → allowed rank b ≡ true → Next s at rank (Err (refusal_of 2 at))
+  unfolding one_command
+  next-short b i a = λ p q.
+      let w = fetched-short s at b i in
+      rw (lt-leb (length s) at w.here, ← q, rw w.byte at a, lt-ltb (length s) (at + width (get_or s at 0)) w.few)
+
+  pub next-short-barred : (b : ℕ) → fetch_at s at ≡ Err (Short b) → allowed rank b ≡ false → Next s at rank (Err (refusal_of 3 at))
+  next-short-barred b i a = let w = fetched-short s at b i in barred w.here (rw w.byte at a)
+
+  -- a byte that is no command's
+  pub next-unknown : (b : ℕ) → fetch_at s at ≡ Err (Unknown b) → Next s at rank (Err (refusal_of 3 at))
+  next-unknown b i = one (allowed rank b) refl (fetched-unknown s at b i)
+    where
+      one : (may : Bool) → allowed rank b ≡ may → UnknownAt s at b → Next s at rank (Err (refusal_of 3 at))
+      one true a w = let k = known-range rank b a in absurd (w.unknown k.0 k.1)
+      one false a w = barred w.here (rw w.byte at a)
 
 -- a command that stands, by what comes of it
 module _ (p : Progress) (s : List ℕ) (at : ℕ) {rank : ℕ} {command : Code} (e : rank ≡ p.phase) (w : Stands s at rank command) where

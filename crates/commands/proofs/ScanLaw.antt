@@ -136,3 +136,8 @@ module _ (s : List ℕ) (c : State) (few : length s ≤ 16384) where
       one : (d : Reading) → Scanned d (Err why) c → (Err why ≡ read_answer d) × RulesIn d os ts
       one (accepted sh) h = never (cc (h.end))
       one (refused k p) h = (cc (h.end), tt)
+
+-- of a refused sheet nothing is told of its rules
+pub nothing-told : (d : Reading) {why : Refusal} → Err why ≡ read_answer d → (os ts : List ℕ) → RulesIn d os ts
+nothing-told (accepted sh) e os ts = never (cc (e))
+nothing-told (refused k p) e os ts = tt

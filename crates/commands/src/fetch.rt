@@ -1,7 +1,7 @@
-// A command and its operands, cut out of the sheet: every command that this crate and `reading` read is read here.
+// A command and its operands, cut out of the sheet: every command byte and every operand that this crate and `reading` read is read here.
 ghost use Rattle.std.specs.Prelude.{◌≡◌};
 ghost use Rattle.sheet.specs.Reading.{width};
-ghost use Rattle.commands.specs.words.Fetch.{byte_of, command_at};
+ghost use Rattle.commands.specs.words.Fetch.{byte_of, command_at, fetch_at};
 
 use sheet::{Row, Size};
 
@@ -18,8 +18,18 @@ pub enum Command {
     Quiet,
 }
 
+// Why no command stands at a place: no byte is there; a command's byte whose operands are missing; a byte that is no command's.
+#[derive(Clone, Copy, Debug, PartialEq, Eq)]
+pub enum Missing {
+    Nothing,
+    Short(u8),
+    Unknown(u8),
+}
+
 impl Command {
     // The command at a place of the sheet; none where no command's byte stands there, or its operands are missing.
+    // Inlined, as each caller asks for one or two kinds: then only these are looked for.
+    #[inline(always)]
     pub fn at(sheet: &[u8], at: usize) -> Option<Command>
         ensures { result ≡ command_at sheet.now at }
     {
@@ -50,6 +60,37 @@ impl Command {
             [7, state, ..] => Some(Command::Start(*state)),
             [8, ..] => Some(Command::Quiet),
             _ => None,
+        }
+    }
+
+    // The same, or what is missing of it.
+    #[inline(always)]
+    pub fn fetch(sheet: &[u8], at: usize) -> Result<Command, Missing>
+        ensures { result ≡ fetch_at sheet.now at }
+    {
+        if let Some(command) = Command::at(sheet, at) {
+            return Ok(command);
+        }
+        match sheet.get(at) {
+            None => Err(Missing::Nothing),
+            Some(byte @ 1..=8) => Err(Missing::Short(*byte)),
+            Some(byte) => Err(Missing::Unknown(*byte)),
+        }
+    }
+
+    // Its own byte.
+    pub(crate) fn byte(self) -> u8
+        ensures { result ≡ byte_of self }
+    {
+        match self {
+            Command::Size(_) => 1,
+            Command::Rule(_) => 2,
+            Command::Fault(_) => 3,
+            Command::Test => 4,
+            Command::Press(_) => 5,
+            Command::End => 6,
+            Command::Start(_) => 7,
+            Command::Quiet => 8,
         }
     }
 

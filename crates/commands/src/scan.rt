@@ -3,7 +3,7 @@ ghost use Rattle.std.specs.Prelude.{◌≡◌, ◌+◌, length};
 ghost use Rattle.sheet.specs.Reading.{blank, from};
 ghost use Rattle.commands.specs.words.Held.{rank_of, Holds, Next, Scanned};
 
-use crate::fetch::Command;
+use crate::fetch::{Command, Missing};
 use crate::rules::{Phase, State, may_stand};
 use ending::finish;
 use sheet::Refusal;
@@ -20,13 +20,13 @@ impl<'a> Reader<'a> {
     fn next(&self, phase: Phase) -> Result<Command, Refusal>
         ensures { Next self.now.sheet.now self.now.at (rank_of phase) result }
     {
-        if self.at >= self.sheet.len() {
-            return Err(Refusal::new(2, self.sheet.len()));
+        match Command::fetch(self.sheet, self.at) {
+            Ok(command) if may_stand(phase, command.byte()) => Ok(command),
+            Err(Missing::Nothing) => Err(Refusal::new(2, self.sheet.len())),
+            Err(Missing::Unknown(_)) => Err(Refusal::new(3, self.at)),
+            Err(Missing::Short(byte)) if may_stand(phase, byte) => Err(Refusal::new(2, self.at)),
+            _ => Err(Refusal::new(3, self.at)),
         }
-        if !may_stand(phase, self.sheet[self.at]) {
-            return Err(Refusal::new(3, self.at));
-        }
-        Command::at(self.sheet, self.at).ok_or(Refusal::new(2, self.at))
     }
 }
 

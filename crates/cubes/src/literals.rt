@@ -1,6 +1,5 @@
 // Literals: which transitions of a suspect are meant. ANY: every one; else an output and a set of next states, output * 65536 + set.
-// stays: a number, no enum; `Means` and the laws of specs/laws (LiteralLaw, JoinLaw, SuspectedLaw) speak of the number, and the store
-// that C lends keeps it.
+// stays: a number, no enum; `Means` and the laws of specs/laws (LiteralLaw, JoinLaw, SuspectedLaw) speak of the number.
 ghost use Rattle.std.specs.Prelude.{◌≡◌, true, ◌<◌, ◌+◌, ◌*◌, ◌/◌, ◌%◌};
 ghost use Rattle.cubes.specs.Cube.{MeansStep, GoingOk, SoundsOk, BothOk};
 

@@ -114,7 +114,8 @@ pub fn size(set: u16) -> u32
 
 // The least member of a set that has one.
 pub fn least<S: Set>(set: S) -> u8
-    ensures { result < S.ROOM }
+    ensures bound { result < S.ROOM }
+    ensures member { 0 < S.number set → Has (S.number set) result }
 {
     (set.bits().trailing_zeros() as u8) % S::ROOM
 }
@@ -136,7 +137,7 @@ pub struct InOrder<S> {
 impl<S: Set> Iterator for InOrder<S> {
     type Item = u8;
 
-    ghost next_gives = { λ s r t. MatchOption r ⊤ (λ i. i < S.ROOM) };
+    ghost next_gives = { λ s r t. MatchOption r (S.number s.left ≡ 0) (λ i. (i < S.ROOM) × Has (S.number s.left) i × Later (S.number s.left) (S.number t.left)) };
 
     ghost remaining = { λ s. at_most (S.number s.left) };
 
@@ -151,7 +152,9 @@ impl<S: Set> Iterator for InOrder<S> {
 }
 
 // The members of a set, the least first.
-pub fn members<S: Set>(set: S) -> InOrder<S> {
+pub fn members<S: Set>(set: S) -> InOrder<S>
+    ensures { result.left ≡ set }
+{
     InOrder { left: set }
 }
 

@@ -1,20 +1,20 @@
 -- What steering by tests hands out, and what it leaves as it is.
-use Rattle.std.specs.Prelude.{◌≡◌, List, ℕ, ◌+◌, ◌*◌, ◌<◌, length, get_or, slice_get, Some, None, cond, ltb}
+use Rattle.std.specs.Prelude.{◌≡◌, List, ℕ, ◌+◌, ◌*◌, ◌<◌, length, get_or, slice_get, Some, None, cond, eqb}
 use Rattle.block.specs.Layout.{slots_of}
 use Rattle.cubes.specs.Sets.{Has, Joined}
 use Rattle.leaves.specs.Members.{Literals}
 use Rattle.leaves.specs.Noted.{Changed}
 use Rattle.cursors.specs.declared.progress.Cursor.{Cursor}
 use Rattle.cursors.specs.declared.progress.Wait.{Wait}
-use Rattle.cursors.specs.declared.progress.Wait.TheVariants.{Reset, Suspect}
+use Rattle.cursors.specs.declared.progress.Wait.TheVariants.{Reset, Suspect, Through, Failed}
 
 -- a test before its reset: where that stands, no state yet, and that it waits for the reset
 abbrev pub begin : List ℕ → ℕ → Cursor
 begin facts t = record { at = get_or facts (832 + t) 0 * 65536 + get_or facts (560 + t) 0; state = None; wait = Reset }
 
--- what the tests wait for that go on where a suspect was settled last: for it, or at a root (32 and more) for their resets
+-- what a test waits for, from a number: 254 its reset, 253 nothing as it has failed, 255 nothing as it is through, else that suspect
 abbrev pub waited : ℕ → Wait
-waited last = cond (ltb last 32) (Suspect last) Reset
+waited last = cond (eqb last 253) Failed (cond (eqb last 254) Reset (cond (eqb last 255) Through (Suspect last)))
 
 -- each of the first n tests is before its reset
 pub record Begun (n : ℕ) (facts : List ℕ) (cursors : List Cursor) : Type 0 where

@@ -129,18 +129,20 @@ fn advance_if(
     advance(block, log, p, settled, from)
 }
 
-// What the tests wait for that go on where a suspect was settled last: that suspect, or at the root of a question (32 and more) their
-// resets.
+// What a test waits for, from a number: the suspect settled last, or 254 at the root of a question, their resets; those that have failed
+// (253) or are through (255) have numbers too.
 fn waited(last: u8) -> Wait
     ensures { result ≡ waited last }
 {
-    if last < 32 {
-        return Wait::Suspect(last);
+    match last {
+        253 => Wait::Failed,
+        254 => Wait::Reset,
+        255 => Wait::Through,
+        suspect => Wait::Suspect(suspect),
     }
-    Wait::Reset
 }
 
-// Takes the tests on that wait for the suspect settled last; the first that fails.
+// Takes the tests on that wait for `last`, and no others; the first that fails.
 pub fn advance_all(
     block: &Block,
     facts: &Facts,

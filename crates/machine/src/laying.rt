@@ -72,13 +72,11 @@ pub fn machine_of(block: &[u8; BLOCK], mutant: &[u8]) -> Result<Machine, Refusal
 {
     fits(block, mutant)?;
     let p = widened(mutant);
-    let start = initial(block, &p);
-    let mut output = blank();
-    let mut target = blank();
-    lay(block, &p, &mut output, &mut target);
-    Ok(Machine {
-        start,
-        output,
-        target,
-    })
+    let mut machine = Machine {
+        start: initial(block, &p),
+        output: blank(),
+        target: blank(),
+    };
+    lay(block, &p, &mut machine.output, &mut machine.target);
+    Ok(machine)
 }

@@ -10,7 +10,7 @@ use Rattle.sheet.specs.declared.Summary.{Summary}
 use Rattle.sheet.specs.Sheet.{Sheet, open_pairs}
 use Rattle.sheet.specs.Encode.{encode}
 use Rattle.sheet.specs.Reading.{Result, accepted, refused, Reading, reading, summary_of}
-use Rattle.sheet.specs.Tables.{refusal_of, answer_by, read_answer, loaded_of, tables_of}
+use Rattle.sheet.specs.Tables.{refusal_of, answer_by, read_answer, read_into, tables_of}
 use Rattle.sheet.specs.laws.AcceptedLaw.{well-formed}
 use Rattle.model.specs.Suite.{complete, judge_of}
 use Rattle.model.specs.Operations.{refuse_if, judge_on, judging}
@@ -44,14 +44,14 @@ module _ (s : List ℕ) (which : Concerns) where
           let z : unmerged_by which n p ≡ u = cc in
           (ap (λ (w : Unmerged). refused w.why.number w.why.place) z, sym (ap (λ (w : Unmerged). w.concerns) z))
 
-  pub seen : {summary : Summary} {tables : Tables} → survey_answer which (reading s) ≡ Ok summary → tables ≡ loaded_of (reading s) → Seen s summary tables
-  seen {summary} {tables} h t = go (reading s) refl
+  pub seen : {summary : Summary} {tables : Tables} → survey_answer which (reading s) ≡ Ok summary → (before : Tables) → tables ≡ read_into (reading s) before → Seen s summary tables
+  seen {summary} {tables} h before t = go (reading s) refl
     where
       go : (d : Reading) → reading s ≡ d → Seen s summary tables
       go (refused n p) is = let z : Ok summary ≡ survey_answer which (refused n p) = sym h ∙ ap (survey_answer which) is in never (cc)
       go (accepted sh) is =
           let z : Ok summary ≡ survey_answer which (accepted sh) = sym h ∙ ap (survey_answer which) is in
-          record { sheet = sh; is = is; told = cc; tabled = t ∙ ap loaded_of is }
+          record { sheet = sh; is = is; told = cc; tabled = t ∙ ap (λ d. read_into d before) is }
 
 pub size_few : {s : List ℕ} {summary : Summary} {tables : Tables} → Seen s summary tables → (summary.states ≤ 16) × (summary.inputs ≤ 16)
 unfolding summary_of

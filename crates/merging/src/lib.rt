@@ -12,7 +12,7 @@ ghost use Rattle.std.specs.Prelude.{◌≡◌, length};
 ghost use Rattle.lists.specs.Lists.{overlay};
 ghost use Rattle.renaming.specs.Merging.{merging};
 ghost use Rattle.sheet.specs.Reading as reading;
-ghost use Rattle.sheet.specs.Tables.{loaded_of};
+ghost use Rattle.sheet.specs.Tables.{nought_tables, read_into};
 ghost use Rattle.merging.specs.Answers.{merged_answer, merged_writes, ToldMerge};
 ghost use Rattle.merging.specs.words.Outlined.{survey_answer};
 
@@ -35,12 +35,13 @@ pub struct Unmerged {
     pub why: Refusal,
 }
 
-// Reads one of the two sheets into tables.
+// Reads one of the two sheets into tables of noughts.
 fn survey(sheet: &[u8], concerns: Concerns, tables: &mut Tables) -> Result<Summary, Unmerged>
+    requires { tables.old ≡ nought_tables }
     ensures answer { result ≡ survey_answer concerns (reading.reading sheet.now) }
-    ensures tables { tables.new ≡ loaded_of (reading.reading sheet.now) }
+    ensures tables { tables.new ≡ read_into (reading.reading sheet.now) tables.old }
 {
-    reading::load(sheet, tables).map_err(|why| Unmerged { concerns, why })
+    reading::load_noughts(sheet, tables).map_err(|why| Unmerged { concerns, why })
 }
 
 // The sheet with the faults and STARTs of both, each once, in order, and the first sheet's tests followed by the second's, at the buffer's front;
@@ -50,9 +51,9 @@ pub fn merge(first: &[u8], second: &[u8], buffer: &mut [u8]) -> Result<usize, Un
     ensures bytes { buffer.new ≡ overlay (merged_writes (merging first.now second.now (length buffer.old))) buffer.old }
     ensures told { ToldMerge first.now second.now result buffer.old buffer.new }
 {
-    let mut one = Tables::blank();
-    let mut other = Tables::blank();
+    let mut one = Tables::noughts();
     let x = survey(first, Concerns::First, &mut one)?;
+    let mut other = Tables::noughts();
     let y = survey(second, Concerns::Second, &mut other)?;
     let pairs = open_pairs(&one.choices, &other.choices, x.states, x.inputs);
     let a = Outline::new(first, x);

@@ -53,7 +53,10 @@ pub fn run(sheet: &[u8], mutant: &[u8], inputs: &[u8], buffer: &mut [u8]) -> Res
     ensures bytes { buffer.new ≡ overlay (ran_writes (running sheet.now mutant.now inputs.now (length buffer.old))) buffer.old }
     ensures told { ToldRan sheet.now mutant.now inputs.now (length buffer.old) result buffer.new }
 {
-    respond::run_loaded(&load(sheet)?, mutant, inputs, buffer)
+    match &load(sheet) {
+        Ok(loaded) => respond::run_loaded(loaded, mutant, inputs, buffer),
+        Err(why) => Err(*why),
+    }
 }
 
 // First failed test: the lowest number of a test that the mutant fails, the position in it of its first wrong output, and the slots
@@ -62,7 +65,10 @@ pub fn first_failed(sheet: &[u8], mutant: &[u8]) -> Result<Tested, Refusal>
     ensures answer { result ≡ failed_answer (failing sheet.now mutant.now) }
     ensures told { ToldFailed sheet.now mutant.now result }
 {
-    suite::first_failed_loaded(&load(sheet)?, mutant)
+    match &load(sheet) {
+        Ok(loaded) => suite::first_failed_loaded(loaded, mutant),
+        Err(why) => Err(*why),
+    }
 }
 
 // Compare: conforms, or the shortest, then smallest, distinguishing sequence (01: departing sequence) at the buffer's front.
@@ -71,5 +77,8 @@ pub fn compare(sheet: &[u8], mutant: &[u8], buffer: &mut [u8]) -> Result<Differe
     ensures bytes { buffer.new ≡ overlay (compared_writes (comparing sheet.now mutant.now (length buffer.old))) buffer.old }
     ensures told { ToldCompared sheet.now mutant.now (length buffer.old) result buffer.new }
 {
-    conform::compare_loaded(&load(sheet)?, mutant, buffer)
+    match &load(sheet) {
+        Ok(loaded) => conform::compare_loaded(loaded, mutant, buffer),
+        Err(unread) => Err(*unread),
+    }
 }

@@ -67,5 +67,6 @@ pub(crate) fn run_loaded(
         return Err(Refusal::new(16, 0));
     }
     let set = respond(block, &machine, inputs, buffer);
-    Ok(counted(set))
+    let used = counted(set);
+    Ok(used)
 }

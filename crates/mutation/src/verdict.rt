@@ -30,7 +30,7 @@ fn judge_logged<const ROOM: usize>(
 {
     let mut log = [0u8; ROOM];
     let n = log_suite(loaded, &mut log);
-    first(
+    let survivor = first(
         &loaded.block,
         &log[..n],
         Goal::Nonconforming,
@@ -39,7 +39,8 @@ fn judge_logged<const ROOM: usize>(
         sequence,
         nodes,
     )
-    .flatten()
+    .flatten();
+    survivor
 }
 
 // The judgement of an accepted sheet: a short array for the log of a short one, a long one for any other.

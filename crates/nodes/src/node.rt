@@ -13,8 +13,7 @@ pub const UNHINTED: u16 = 32767;
 pub struct Node {
     pub p: [u8; 32],
     pub settled: u32,
-    // stays: a number with 254 for none, as in a cursor, of which `cursors::advance_all` says that it moves if it waits for `last`
-    // (`Advanced`)
+    // stays: a number with 254 for none, of which `cursors::advance_all` says which tests go on (`waited`, `Advanced`)
     pub last: u8,
     pub left: u8,
     // stays: one number with UNHINTED, as the notes lent hold hints, and as `hint >= FROM_TEST` tells a test from an entry

@@ -25,8 +25,8 @@ pub fn renumber(sheet: &[u8], buffer: &mut [u8]) -> Result<usize, Refusal>
     ensures bytes { buffer.new ≡ overlay (sheet_writes (numbering sheet.now (length buffer.old))) buffer.old }
     ensures told { ToldNumbered sheet.now result buffer.old buffer.new }
 {
-    let mut tables = Tables::blank();
-    let size = reading::load(sheet, &mut tables)?;
+    let mut tables = Tables::noughts();
+    let size = reading::load_noughts(sheet, &mut tables)?;
     if buffer.len() < sheet.len() {
         return Err(Refusal::new(16, 0));
     }

@@ -15,7 +15,7 @@ use Rattle.sheet.specs.Sheet.{Sheet, wakings, waking_choices}
 use Rattle.sheet.specs.Reading.{reading}
 use Rattle.sheet.specs.Part.{span_of}
 use Rattle.sheet.specs.declared.Tables.{Tables}
-use Rattle.sheet.specs.Tables.{read_answer, tables_of, blank_tables}
+use Rattle.sheet.specs.Tables.{read_answer, tables_of, nought_tables}
 use Rattle.sheet.specs.words.Tabled.{Within16}
 use Rattle.commands.specs.words.Held.{RulesIn}
 use Rattle.reading.specs.words.Places.{span_from, Table, FaultTables, TestTables, Countable, Fillable, Cleared}
@@ -85,9 +85,8 @@ module _ (s : List ℕ) (m : Summary) (t₀ : Tables) (sh : Sheet) (h : Fillable
         lengths = x i;
       }
 
--- blank tables are noughts where the passes begin
-pub cleared : (b : Tables) → b ≡ blank_tables → (os ts : List ℕ) → Cleared (record b { output = os; target = ts })
-unfolding blank_tables
+-- tables of noughts with the rules' tables filled are noughts where the passes begin
+pub cleared : (b : Tables) → b ≡ nought_tables → (os ts : List ℕ) → Cleared (record b { output = os; target = ts })
 cleared b e os ts = rw e (record { counts-are = refl; firsts-are = refl; mutated-are = refl; diverted-are = refl; starts-are = refl; lengths-are = refl })
 
 module _ (s : List ℕ) (m : Summary) (e : Ok m ≡ read_answer (reading s)) where

@@ -1,7 +1,8 @@
 // The tables of a sheet that was read before: one pass over its FAULTs, one over its STARTs, one over its tests, one over all pairs.
 ghost use Rattle.std.specs.Prelude.{◌≡◌, List, [], ◌∷◌, ◌++◌, ℕ, ◌/◌, ◌%◌, ◌<◌, length, get_or};
 ghost use Rattle.sheet.specs.Sheet.{Sheet, choices_at};
-ghost use Rattle.sheet.specs.Tables.{tables_of};
+ghost use Rattle.sheet.specs.Reading.{reading};
+ghost use Rattle.sheet.specs.Tables.{tables_of, read_answer, nought_tables, read_into};
 ghost use Rattle.commands.specs.words.Fetch.{command_at};
 ghost use Rattle.sheet.specs.words.Tabled.{Digits};
 ghost use Rattle.reading.specs.words.Places.{FaultsFrom, StartsFrom, TestsFrom, Table, FaultTables, TestTables, Countable, Fillable, Cleared};
@@ -9,8 +10,9 @@ ghost use Rattle.reading.specs.words.Places.{FaultsFrom, StartsFrom, TestsFrom, 
 use crate::layout::layout_of;
 use crate::part::test_at;
 use commands::fetch::Command;
+use commands::read_rules;
 use ending::unruled_choices;
-use sheet::{Row, Size, Summary, Tables};
+use sheet::{Refusal, Row, Size, Summary, Tables};
 
 // The FAULT at a place.
 fn fault_at(sheet: &[u8], at: usize) -> Option<Row>
@@ -67,11 +69,9 @@ fn count_choices(unruled: u16, target: &[u8; 256], choices: &mut [u16; 256])
         → Table 256 choices.new (λ i. choices_at sh (i / 16) (i % 16)) }
 {
     for p in 0..256 {
-        choices[p] = if target[p] < 16 {
-            choices[p] + 1
-        } else {
-            unruled
-        };
+        // read before the test, so that the loop goes several pairs at a time
+        let faults = choices[p];
+        choices[p] = if target[p] < 16 { faults + 1 } else { unruled };
     }
 }
 
@@ -106,7 +106,7 @@ fn fill_tests(sheet: &[u8], place: usize, tests: usize, tables: &mut Tables)
     }
 }
 
-// All tables of an accepted sheet, beside those of its rules, from blank ones.
+// All tables of an accepted sheet, beside those of its rules, from cleared ones.
 pub(crate) fn fill(sheet: &[u8], summary: Summary, tables: &mut Tables)
     requires fillable { (sh : Sheet) × Fillable sheet.now summary tables.old sh }
     requires cleared { Cleared tables.old }
@@ -126,4 +126,17 @@ pub(crate) fn fill(sheet: &[u8], summary: Summary, tables: &mut Tables)
     tables.waking = (starts + 1) as u8;
     tables.quiet = layout.quiet;
     fill_tests(sheet, layout.tests, summary.tests, tables);
+}
+
+// The sheet read into tables of noughts, which stay so where it is refused. Not inlined, so that the tables of a caller stay in one piece
+// and are not copied one by one.
+#[inline(never)]
+pub fn load_noughts(sheet: &[u8], tables: &mut Tables) -> Result<Summary, Refusal>
+    requires { tables.old ≡ nought_tables }
+    ensures reading { result ≡ read_answer (reading sheet.now) }
+    ensures tables { tables.new ≡ read_into (reading sheet.now) tables.old }
+{
+    let summary = read_rules(sheet, &mut tables.output, &mut tables.target)?;
+    fill(sheet, summary, tables);
+    Ok(summary)
 }

@@ -10,13 +10,13 @@ ghost use Rattle.sheet.specs.Part.{parting, part_of, LiesIn};
 ghost use Rattle.sheet.specs.Tables.{read_answer, part_answer, loaded_of};
 
 pub use commands::read;
-use commands::read_rules;
 use sheet::{Refusal, Span, Summary, Tables};
 
 mod filling;
 pub mod layout;
 mod part;
 
+pub use filling::load_noughts;
 pub use layout::layout_of;
 
 // 01's One test's part, as a place and a length: refused as Read refuses, then 17 if there is no such test.
@@ -50,12 +50,10 @@ pub fn load(sheet: &[u8], tables: &mut Tables) -> Result<Summary, Refusal>
     ensures reading { result ≡ read_answer (reading.reading sheet.now) }
     ensures tables { tables.new ≡ loaded_of (reading.reading sheet.now) }
 {
-    *tables = Tables::blank();
-    let read = read_rules(sheet, &mut tables.output, &mut tables.target);
-    let Ok(summary) = read else {
+    *tables = Tables::noughts();
+    let read = load_noughts(sheet, tables);
+    if read.is_err() {
         *tables = Tables::blank();
-        return read;
-    };
-    filling::fill(sheet, summary, tables);
+    }
     read
 }

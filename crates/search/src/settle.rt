@@ -105,7 +105,8 @@ fn search_from(
     ensures store_ok { StoreOk goal block.now log.now store.new }
     ensures store_len { IsErr result → length store.old ≡ 0 }
 {
-    for c in from..choices(block, i as u8) {
+    let end = choices(block, i as u8);
+    for c in from..end {
         let mut q = p;
         q[i] = c;
         let tried = search(block, facts, log, goal, store, notes, q, i + 1)?;

@@ -81,6 +81,27 @@ blank_tables =
       lengths = replicate 256 0;
     }
 
+-- what a sheet is read into: tables of noughts
+abbrev pub nought_tables : Tables
+nought_tables = record {
+  output = replicate 256 0;
+  target = replicate 256 0;
+  choices = replicate 256 0;
+  first = replicate 256 0;
+  mutated = replicate 256 0;
+  diverted = replicate 256 0;
+  wakings = replicate 16 0;
+  waking = 0;
+  quiet = false;
+  starts = replicate 256 0;
+  lengths = replicate 256 0;
+}
+
+-- the tables after a sheet was read into them: its own, or those before where it is refused
+abbrev pub read_into : Reading → Tables → Tables
+read_into (accepted sh) before = tables_of sh
+read_into (refused number place) before = before
+
 abbrev pub loaded_of : Reading → Tables
 loaded_of (accepted sh) = tables_of sh
 loaded_of (refused number place) = blank_tables

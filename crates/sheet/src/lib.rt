@@ -6,7 +6,7 @@
 
 ghost use Rattle.std.specs.Prelude.{◌≡◌};
 ghost use Rattle.sheet.specs.Reading.{in_range, size_in_range};
-ghost use Rattle.sheet.specs.Tables.{blank_tables};
+ghost use Rattle.sheet.specs.Tables.{blank_tables, nought_tables};
 ghost use Rattle.sheet.specs.words.Tabled.{pair_key, row_key};
 
 // SIZE: how many states, inputs (01: presses) and outputs (01: sounds).
@@ -118,6 +118,25 @@ pub struct Tables {
 }
 
 impl Tables {
+    // What a sheet is read into.
+    pub fn noughts() -> Tables
+        ensures { result ≡ nought_tables }
+    {
+        Tables {
+            output: [0u8; 256],
+            target: [0u8; 256],
+            choices: [0u16; 256],
+            first: [0u16; 256],
+            mutated: [0u8; 256],
+            diverted: [0u8; 256],
+            wakings: [0u8; 16],
+            waking: 0,
+            quiet: false,
+            starts: [0u16; 256],
+            lengths: [0u16; 256],
+        }
+    }
+
     // The tables of no sheet.
     pub fn blank() -> Tables
         ensures { result ≡ blank_tables }

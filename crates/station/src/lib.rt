@@ -15,7 +15,7 @@ mod steps;
 mod suit;
 
 use logs::Wrong;
-use reading::{load, read};
+use reading::{load_noughts, read};
 use sheet::{Refusal, Tables};
 
 // No input is due; one is; or a verdict was given.
@@ -93,8 +93,8 @@ pub fn take_output(sheet: &[u8], state: State, output: u8) -> Result<Heard, Refu
     ensures answer { result ≡ taken_answer (taking sheet.now state output) }
     ensures told { ToldTaken sheet.now state output result }
 {
-    let mut tables = Tables::blank();
-    let summary = load(sheet, &mut tables)?;
+    let mut tables = Tables::noughts();
+    let summary = load_noughts(sheet, &mut tables)?;
     let Some(right) = hearing::due_output(sheet, &tables, state) else {
         return Err(Refusal::new(24, 0));
     };

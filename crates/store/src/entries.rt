@@ -12,16 +12,16 @@ use leaves::*;
 // A cube in which no mutant is sought, the suspects it speaks of, and its age: 0 says that the entry is not in use.
 #[derive(Clone, Copy)]
 pub struct Entry {
-    pub(crate) cube: Cube,
-    pub(crate) speaks: u32,
-    pub(crate) age: u32,
+    pub cube: Cube,
+    pub speaks: u32,
+    pub age: u32,
 }
 
 fn unused() -> Entry
     ensures { result.age ≡ 0 }
 {
     Entry {
-        cube: [ANY; 32],
+        cube: [0; 32],
         speaks: 0,
         age: 0,
     }

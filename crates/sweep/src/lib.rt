@@ -44,9 +44,11 @@ pub fn next_survivor(
     ensures store_ok { StoreOk Nonconforming block.now log.now store.new × (IsErr result → length store.old ≡ 0) }
 {
     loop {
-        let turned = turn(
+        let Ok(turned) = turn(
             block, facts, ready, log, store, notes, steering, p, sequence,
-        )?;
+        ) else {
+            return Err(GaveUp);
+        };
         match turned {
             Turned::Survives(d) => return Ok(Some(d)),
             Turned::Cleared(clearing) => {

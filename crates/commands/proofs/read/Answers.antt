@@ -1,4 +1,4 @@
 use Rattle.commands.proofs.read.Goals as goal
 
 pub returns : goal.returns
-returns c = c.read_rules.ensures.answer
+returns c = c.read_into.ensures.answer

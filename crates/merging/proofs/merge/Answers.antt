@@ -10,27 +10,27 @@ returns-in_err-x c = let a = c.args in
 
 pub returns-in_err-y : goal.returns-in_err-y
 returns-in_err-y c = let a = c.args in
-    let v = seen a.first.now concerns.First (sym c.survey.ensures.answer ∙ c.in_ok-x.was) c.survey.ensures.tables in
+    let v = seen a.first.now concerns.First (sym c.survey.ensures.answer ∙ c.in_ok-x.was) _ c.survey.ensures.tables in
     let w = whole-second a.first.now a.second.now a.buffer.now v.is (sym c.survey-2.ensures.answer ∙ c.in_err-y.was) (search rules) in record { answer = w.answer; bytes = w.bytes; told = w.told }
 
 pub open_pairs-pairs-requires : goal.open_pairs-pairs-requires
-open_pairs-pairs-requires c = size_few (seen c.args.first.now concerns.First (sym c.survey.ensures.answer ∙ c.in_ok-x.was) c.survey.ensures.tables)
+open_pairs-pairs-requires c = size_few (seen c.args.first.now concerns.First (sym c.survey.ensures.answer ∙ c.in_ok-x.was) _ c.survey.ensures.tables)
 
 pub new-a-requires : goal.new-a-requires
-new-a-requires c = read-as (seen c.args.first.now concerns.First (sym c.survey.ensures.answer ∙ c.in_ok-x.was) c.survey.ensures.tables)
+new-a-requires c = read-as (seen c.args.first.now concerns.First (sym c.survey.ensures.answer ∙ c.in_ok-x.was) _ c.survey.ensures.tables)
 
 pub new-b-requires : goal.new-b-requires
-new-b-requires c = read-as (seen c.args.second.now concerns.Second (sym c.survey-2.ensures.answer ∙ c.in_ok-y.was) c.survey-2.ensures.tables)
+new-b-requires c = read-as (seen c.args.second.now concerns.Second (sym c.survey-2.ensures.answer ∙ c.in_ok-y.was) _ c.survey-2.ensures.tables)
 
 pub join-requires : goal.join-requires
-join-requires c = let v = seen c.args.first.now concerns.First (sym c.survey.ensures.answer ∙ c.in_ok-x.was) c.survey.ensures.tables in
-    let u = seen c.args.second.now concerns.Second (sym c.survey-2.ensures.answer ∙ c.in_ok-y.was) c.survey-2.ensures.tables in
+join-requires c = let v = seen c.args.first.now concerns.First (sym c.survey.ensures.answer ∙ c.in_ok-x.was) _ c.survey.ensures.tables in
+    let u = seen c.args.second.now concerns.Second (sym c.survey-2.ensures.answer ∙ c.in_ok-y.was) _ c.survey-2.ensures.tables in
     (c.open_pairs-pairs.ensures.few, (v.sheet, u.sheet, c.new-a.ensures v.sheet v.is, c.new-b.ensures u.sheet u.is))
 
 pub returns : goal.returns
 returns c = let a = c.args in
-    let v = seen a.first.now concerns.First (sym c.survey.ensures.answer ∙ c.in_ok-x.was) c.survey.ensures.tables in
-    let u = seen a.second.now concerns.Second (sym c.survey-2.ensures.answer ∙ c.in_ok-y.was) c.survey-2.ensures.tables in
+    let v = seen a.first.now concerns.First (sym c.survey.ensures.answer ∙ c.in_ok-x.was) _ c.survey.ensures.tables in
+    let u = seen a.second.now concerns.Second (sym c.survey-2.ensures.answer ∙ c.in_ok-y.was) _ c.survey-2.ensures.tables in
     let j = c.join.ensures v.sheet u.sheet (c.new-a.ensures v.sheet v.is) (c.new-b.ensures u.sheet u.is)
     (λ same. pairs_of a.first.now a.second.now v u same c.open_pairs-pairs.ensures.counted) in
     let w = whole-joined a.first.now a.second.now a.buffer.now v.is u.is j (search rules) (search rules) in record { answer = w.answer; bytes = w.bytes; told = w.told }

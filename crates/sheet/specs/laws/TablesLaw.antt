@@ -15,7 +15,11 @@ use Rattle.sheet.specs.declared.Size.{Size}
 use Rattle.lists.specs.Lists.{is_none, first, up_to, All, Ascending, Before}
 use Rattle.sheet.specs.Sheet.{Sheet, row_of, is_at, rows_at, unruled_choices}
 use Rattle.sheet.specs.WellFormed.{WellFormed}
-use Rattle.sheet.specs.Tables.{table, first_at, first_fault, no_row}
+use Rattle.std.specs.Prelude.{Ok, Err}
+use Rattle.sheet.specs.declared.Summary.{Summary}
+use Rattle.sheet.specs.declared.Refusal.{Refusal}
+use Rattle.sheet.specs.Reading.{Reading, accepted, refused}
+use Rattle.sheet.specs.Tables.{Tables, table, first_at, first_fault, no_row, read_answer, loaded_of, read_into, blank_tables}
 use Rattle.lists.specs.laws.ListLaw.{get_or-map-below, length-up_to, get_or-up_to}
 use Rattle.lists.specs.laws.TestLaw.{both, never}
 
@@ -140,3 +144,12 @@ module _ (s x : ℕ) where
 pub unruled-by : (sh : Sheet) (z : Size) (q : Bool) → z ≡ sh.size → q ≡ sh.quiet → cond q 1 (z.outputs * z.states) ≡ unruled_choices sh
 unfolding unruled_choices
 unruled-by sh z q e f = rw (e, f)
+
+-- an accepted sheet's tables do not rest on those that it was read into; a refused one leaves these
+pub into-accepted : (d : Reading) (t : Tables) {z : Summary} {u : Tables} → Ok z ≡ read_answer d → u ≡ read_into d t → u ≡ loaded_of d
+into-accepted (accepted sh) t e h = h
+into-accepted (refused number place) t e h = never (cc e)
+
+pub into-refused : (d : Reading) {why : Refusal} → Err why ≡ read_answer d → blank_tables ≡ loaded_of d
+into-refused (accepted sh) e = never (cc e)
+into-refused (refused number place) e = refl

@@ -21,4 +21,4 @@ respond-set-requires c = let (sh, ld) = c.requires in
 pub returns : goal.returns
 returns c = λ sh ld. let tb = ld.loads.tabled in
     run-done tb (c.in_ok-machine.ensures sh tb) _ c.inputs.ensures c.first_over.ensures c.in_default.is _ c.if-buffer-inputs.false
-    c.respond-set.ensures.buffer_after c.respond-set.ensures.value c.counted.ensures
+    c.respond-set.ensures.buffer_after c.respond-set.ensures.value c.counted-used.ensures

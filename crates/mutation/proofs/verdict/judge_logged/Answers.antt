@@ -17,4 +17,4 @@ first-requires g c = let given = c.requires.loaded in ((given.0.0, from_front gi
 
 pub returns : goal.returns
 returns g c = λ sh su.
-    rw c.flatten.ensures (judges-found sh (c.log_suite-n.ensures sh (suite-blank g.row.ROOM su)).is _ (c.first.ensures sh (from_front su.tabled)))
+    rw c.flatten-survivor.ensures (judges-found sh (c.log_suite-n.ensures sh (suite-blank g.row.ROOM su)).is _ (c.first.ensures sh (from_front su.tabled)))

@@ -18,13 +18,13 @@ search-returns-then-i-from-clause-answers t c =
 pub search_from-returns-then-is_some-clause-answers : goal.search_from-returns-then-is_some-clause-answers
 search_from-returns-then-is_some-clause-answers t c =
     let li = c.requires.i_bound.1 in
-    let ek = c.choices-c-end.ensures in
+    let ek = c.choices-end.ensures in
     λ sh w. one_found w li ek (c.loop-c.invariant.tried sh w) c.loop-c.invariant.low c.in_ok-tried.tried (sym c.is_some.ensures ∙ c.if-is_some.true) (rw c.in_ok-tried.was at (c.search.ensures.answers sh (searching-set w li ek c.loop-c-test.true)))
 
 pub search_from-loop-c-preserved : goal.search_from-loop-c-preserved
 search_from-loop-c-preserved t c =
     let li = c.requires.i_bound.1 in
-    let ek = c.choices-c-end.ensures in
+    let ek = c.choices-end.ensures in
     record {
       tried = λ sh w.
           let told = rw c.in_ok-tried.was at (c.search.ensures.answers sh (searching-set w li ek c.loop-c-test.true)) in
@@ -36,4 +36,4 @@ search_from-loop-c-preserved t c =
     }
 
 pub search_from-returns-clause-answers : goal.search_from-returns-clause-answers
-search_from-returns-clause-answers t c = λ sh w. all-tried w c.requires.i_bound.1 c.choices-c-end.ensures (c.loop-c.invariant.tried sh w) c.loop-c-test.false
+search_from-returns-clause-answers t c = λ sh w. all-tried w c.requires.i_bound.1 c.choices-end.ensures (c.loop-c.invariant.tried sh w) c.loop-c-test.false

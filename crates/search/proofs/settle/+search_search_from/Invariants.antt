@@ -10,4 +10,4 @@ abbrev pub decreases-search_from : goal.decreases-search_from
 decreases-search_from l = 2 * (32 - l.i)
 
 abbrev pub invariant-search_from-loop-c : goal.invariant-search_from-loop-c
-invariant-search_from-loop-c l = Trying l.goal l.block l.log l.p l.i l.from l.c-end l.initial.store l.store l.initial.notes l.notes l.c
+invariant-search_from-loop-c l = Trying l.goal l.block l.log l.p l.i l.from l.end l.initial.store l.store l.initial.notes l.notes l.c
