@@ -1,16 +1,16 @@
 -- Bits of a difference, and of a number without its least bit; sets of a room.
-use Rattle.std.specs.Prelude.{◌+◌, ◌-◌, ◌*◌, ◌/◌, ◌%◌, ◌^◌, ◌<◌, ◌≤◌, ◌≡◌, ◌⊎◌, true, false, Bool, eqb, leb}
+use Rattle.std.specs.Prelude.{◌-◌, ◌*◌, ◌/◌, ◌%◌, ◌^◌, ◌<◌, ◌≤◌, ◌≡◌, true, false, Bool, eqb, leb}
 use Rattle.lists.specs.Proving.{arith, ℕ, zero, suc, refl, sym, ◌∙◌, ap, subst, ℕ_discrete, eqb-true, eqb-false}
 use borrow.Author.Tests.{leb-true, leb-false}
 use Rattle.std.proofs.Common.{min, le_of_suc-le-suc, shr-shr}
 use lib.Bits.{bit_and, bit_xor, differ, and_step, xor_step, and_shr, xor_shr, and_self}
-use Rattle.cubes.specs.Sets.{Has, HasAll, Joined, Without, Later}
+use Rattle.cubes.specs.Sets.{Has, HasAll, NoneBelow, Joined, Without, Later}
 use Rattle.std.specs.Int.Bits.{bit_or}
 use Rattle.std.proofs.lemmas.Nat.{and_le_l, or_lt, xor_lt, pow_below}
 use Rattle.std.proofs.lemmas.Nat.Bits.{bit_at-trailing_zeros, bit_at_above}
 use Rattle.std.specs.Int.{trailing_zeros, bit_at, w32}
 use Rattle.std.proofs.Common.{mod-eq_of_lt}
-use Rattle.cubes.specs.laws.SetLaw.{nothing, shared-and, union-or, all-or, one_shl}
+use Rattle.cubes.specs.laws.SetLaw.{shared-and, union-or, all-or, one_shl}
 
 -- ---- a difference
 less-odd : (a b : ℕ) → bit_xor a (bit_and a b) % 2 ≡ a % 2 - b % 2
@@ -134,7 +134,7 @@ less-lt room a b l = xor_lt room a (bit_and a b) l (omega (arith, and_le_l a b))
 pub within-or : {a b m n : ℕ} → m ≡ a → n ≡ b → eqb (bit_or m n) n ≡ true → HasAll a b
 within-or {a} {b} {m} {n} em en e = rw (← em, ← en) (all-or m n (eqb-true _ _ e))
 
--- the least bit of a number below 2 ^ room is within the room, and of a set with members it is one
+-- the least bit of a number below 2 ^ room is within the room; of a set with members it is one, and none is below it
 module _ (n room : ℕ) (l : n < 2 ^ room) (some : 0 < n) (narrow : room ≤ 32) where
   in_word : n < 2 ^ 32
   in_word = one (ℕ_discrete room 32)
@@ -159,5 +159,14 @@ module _ (n room : ℕ) (l : n < 2 ^ room) (some : 0 < n) (narrow : room ≤ 32)
   unfolding Has
   least-member = rw (mod-eq_of_lt least-below) ((bit_at-trailing_zeros w32 n some in_word).1)
 
+  pub least-first : NoneBelow n (trailing_zeros w32 n % room)
+  unfolding Has
+  least-first j l h =
+      let nought = (bit_at-trailing_zeros w32 n some in_word).2 j (rw (mod-eq_of_lt least-below) at l) in
+      absurd (omega (arith, h, nought))
+
 pub least-in : {n number r room : ℕ} → n ≡ number → r ≡ room → (0 < room) × (room ≤ 32) → n < 2 ^ room → 0 < number → Has number (trailing_zeros w32 n % r)
 least-in {n} {number} {r} {room} en er h l some = rw (← en, er) (least-member n room l (omega (arith, en, some)) h.1)
+
+pub none-below : {n number r room : ℕ} → n ≡ number → r ≡ room → (0 < room) × (room ≤ 32) → n < 2 ^ room → 0 < number → NoneBelow number (trailing_zeros w32 n % r)
+none-below {n} {number} {r} {room} en er h l some = rw (← en, er) (least-first n room l (omega (arith, en, some)) h.1)

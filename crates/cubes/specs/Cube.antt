@@ -1,7 +1,7 @@
 -- Cubes: for each suspect which transitions are meant; what the functions promise of them.
 use Rattle.std.specs.Prelude.{◌≡◌, Bool, true, ◌⊎◌, List, ℕ, ◌+◌, ◌*◌, ◌/◌, ◌%◌, ◌<◌, length, get_or}
 use Rattle.model.specs.Machine.{Move, ConformingFrom}
-use Rattle.cubes.specs.Sets.{Has, HasAll}
+use Rattle.cubes.specs.Sets.{Has}
 use Rattle.block.specs.Layout.{pair, site_at, rule_output, rule_target, states_of, inputs_of, choices_of}
 use Rattle.block.specs.Tabulated.{Wf, Ranged, choice_of, chosen, step_of, start_of, pair_of}
 use Rattle.block.specs.Logged.{GivesOf}

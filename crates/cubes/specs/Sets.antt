@@ -5,6 +5,10 @@ use Rattle.std.specs.Prelude.{◌≡◌, ◌⊎◌, List, ℕ, ◌/◌, ◌%◌,
 unfoldable pub Has : ℕ → ℕ → Type 0
 Has set i = set / 2 ^ i % 2 ≡ 1
 
+-- i is the least member, if it is one
+abbrev pub NoneBelow : ℕ → ℕ → Type 0
+NoneBelow set i = (j : ℕ) → j < i → Has set j → ⊥
+
 -- every member of the one is a member of the other
 abbrev pub HasAll : ℕ → ℕ → Type 0
 HasAll a b = (j : ℕ) → Has a j → Has b j

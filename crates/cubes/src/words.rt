@@ -2,7 +2,7 @@
 ghost use Rattle.std.specs.Prelude.{◌≡◌, true, false, ⊤, ℕ, ◌%◌, ◌<◌, ◌≤◌, ◌^◌, MatchOption};
 ghost use Rattle.std.specs.Iterator.{at_most};
 ghost use Rattle.std.proofs.Common.{rules};
-ghost use Rattle.cubes.specs.Sets.{Has, HasAll, Joined, Shared, Without, Later};
+ghost use Rattle.cubes.specs.Sets.{Has, HasAll, NoneBelow, Joined, Shared, Without, Later};
 
 // By state, or by output, such a set.
 pub type Sets = [u16; 16];
@@ -116,6 +116,7 @@ pub fn size(set: u16) -> u32
 pub fn least<S: Set>(set: S) -> u8
     ensures bound { result < S.ROOM }
     ensures member { 0 < S.number set → Has (S.number set) result }
+    ensures first { 0 < S.number set → NoneBelow (S.number set) result }
 {
     (set.bits().trailing_zeros() as u8) % S::ROOM
 }
@@ -137,7 +138,7 @@ pub struct InOrder<S> {
 impl<S: Set> Iterator for InOrder<S> {
     type Item = u8;
 
-    ghost next_gives = { λ s r t. MatchOption r (S.number s.left ≡ 0) (λ i. (i < S.ROOM) × Has (S.number s.left) i × Later (S.number s.left) (S.number t.left)) };
+    ghost next_gives = { λ s r t. MatchOption r (S.number s.left ≡ 0) (λ i. (i < S.ROOM) × Has (S.number s.left) i × NoneBelow (S.number s.left) i × Later (S.number s.left) (S.number t.left)) };
 
     ghost remaining = { λ s. at_most (S.number s.left) };
 

@@ -54,7 +54,10 @@ fn judge_loaded(
     ensures judges { (sh : Sheet) → LoadedFrom sh loaded.now → Judges (judge_on sh (length board.old) (length sequence.old)) result board.old board.new sequence.old sequence.new }
     ensures measured { Measured result nodes.old nodes.new }
 {
-    room(&loaded.block, board.len(), sequence.len())?;
+    // stays for `?`: an edit tells another refusal here.
+    if let Err(why) = room(&loaded.block, board.len(), sequence.len()) {
+        return Err(why);
+    }
     if loaded.sheet.len() <= 1024 {
         Ok(judge_logged::<1536>(loaded, board, sequence, nodes))
     } else {

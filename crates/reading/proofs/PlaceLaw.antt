@@ -125,11 +125,11 @@ module _ (s : List ℕ) (b : ℕ) (xs rest : List ℕ) (place at : ℕ) where
 after_test : (s : List ℕ) (at : ℕ) (l : List ℕ) → drop at s ≡ 4 ∷ l → drop (at + 1) s ≡ l
 after_test s at l e = sym (drop-drop 1 at s) ∙ ap (λ (t : List ℕ). drop 1 t) e
 
-pub test-is : (s : List ℕ) (at end : ℕ) → OperandsTo s (at + 1) end → TestAt s at (record { start = at + 1; length = end - (at + 1) })
-test-is s at end p = record {
-  within = omega (arith, p.after, p.within);
+pub test-is : (s : List ℕ) (at end n : ℕ) → n ≡ end - (at + 1) → OperandsTo s (at + 1) end → TestAt s at (record { start = at + 1; length = n })
+test-is s at end n en p = record {
+  within = omega (arith, en, p.after, p.within);
   found = λ xs rest d calm quiet.
-      let c : end - (at + 1) ≡ 2 * length xs = omega (arith, p.counted 5 xs rest (inl refl) (after_test s at (press_bytes xs ++ rest) d) calm quiet) in
+      let c : n ≡ 2 * length xs = omega (arith, en, p.counted 5 xs rest (inl refl) (after_test s at (press_bytes xs ++ rest) d) calm quiet) in
       rw c;
 }
 

@@ -62,10 +62,10 @@ module _ {sh : Sheet} {m : List ℕ} (tb : Tabled sh m) (log : List ℕ) where
   unfolding differs_in
   differs-is = rw (rule-same tb) refl
 
-  pub compares : {o : Maybe ℕ} {r : Bool} → o ≡ coded (differs_from (rule_of m) none 0 log) → Decides (Given sh (observations log)) r →
-      ◌≡◌ {A = Recorded} (record { differs = o; given = r }) (recorded_of (outcome_of sh log))
+  pub compares : {o : Maybe ℕ} {r told : Bool} → o ≡ coded (differs_from (rule_of m) none 0 log) → Decides (Given sh (observations log)) r → told ≡ r →
+      ◌≡◌ {A = Recorded} (record { differs = o; given = told }) (recorded_of (outcome_of sh log))
   unfolding outcome_of
-  compares {o} {r} e d = ap₂ (λ (f : Maybe ℕ) (b : Bool). record { differs = f; given = b }) (e ∙ ap coded differs-is) (given_is d)
+  compares {o} {r} {told} e d same = ap₂ (λ (f : Maybe ℕ) (b : Bool). record { differs = f; given = b }) (e ∙ ap coded differs-is) (same ∙ given_is d)
 
   -- ---- the first mutant that gives it
   every_one : (b : List ℕ) → In every b

@@ -120,7 +120,10 @@ pub fn change(sheet: &[u8], changed: &[u8], state: State) -> Result<(), Refusal>
     ensures answer { result ≡ changed_answer (changing sheet.now state changed.now) }
     ensures told { ToldChanged sheet.now state changed.now result }
 {
-    suit::suit(changed)?;
+    // stays for `?`: an edit tells another refusal here.
+    if let Err(why) = suit::suit(changed) {
+        return Err(why);
+    }
     if is_open(state.phase) && agree::agree(sheet, changed, state.begun) {
         return Ok(());
     }

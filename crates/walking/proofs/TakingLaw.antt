@@ -1,6 +1,6 @@
 -- Take: what the search finds from a place is the walk's next mutant.
 use Rattle.std.specs.Prelude.{Result as Answer, Ok, Err, Option as Maybe, Some, None}
-use Prim.Native.Nat.{ℕ, ◌*◌, ◌<◌, ◌≤◌}
+use Prim.Native.Nat.{ℕ, ◌*◌, ◌≤◌}
 use native.Mathlib.Omega.{arith}
 use mathlib.Core.Path.{◌≡◌, refl, sym, ◌∙◌, ap, subst}
 use mathlib.Core.Option.{Option, none, some}
@@ -16,7 +16,7 @@ use Rattle.sheet.specs.laws.AcceptedLaw.{well-formed}
 use Rattle.model.specs.Mutant.{slots, IsMutant}
 use Rattle.model.specs.Compare.{found}
 use Rattle.model.specs.Log.{Observation, GivesLog, suite_log}
-use Rattle.model.specs.Suite.{Passes, compare_of}
+use Rattle.model.specs.Suite.{Passes}
 use Rattle.model.specs.Verdict.{ComparedMeans}
 use Rattle.model.specs.Walk.{Standing, start, after, end, with_standing, take_of, take_on, taking, Remains, TakenMeans}
 use Rattle.model.specs.Walk.{Taken as Next}
@@ -131,11 +131,11 @@ module _ (sh : Sheet) (at : Standing) where
             let h = rest_end sh in
             rw (goes-on, is) (record { answer = rw h refl; board = rw h refl; sequence = rw h refl })
 
-        pub takes-from : {from : Beginning} → o ≡ Some from → {r : Taken} {board' sequence' : List ℕ} → Takes (accepted (take_of sh (standing_from from))) r board board' sequence sequence' →
-            Takes (take_on sh at (length board) (length sequence)) r board board' sequence sequence'
-        takes-from {from} eo {r} {board'} {sequence'} ts =
+        pub takes-from : {from : Beginning} → o ≡ Some from → {r told : Taken} {board' sequence' : List ℕ} → Takes (accepted (take_of sh (standing_from from))) r board board' sequence sequence' →
+            told ≡ r → Takes (take_on sh at (length board) (length sequence)) told board board' sequence sequence'
+        takes-from {from} eo {r} {told} {board'} {sequence'} ts same =
             let is : at ≡ standing_from from = (rw eo at be).0 in
-            rw (goes-on, is) ts
+            rw (goes-on, is) (record { answer = same ∙ ts.answer; board = ts.board; sequence = ts.sequence })
 
 -- ---- what it tells
 module _ (s : List ℕ) (at : Standing) (board sequence : List ℕ) where

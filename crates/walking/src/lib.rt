@@ -68,7 +68,10 @@ fn beginning<'a>(
     match place {
         Place::Start => Ok(Some(Beginning::Front)),
         Place::Last => {
-            fits(block, last)?;
+            // stays for `?`: an edit tells another refusal here.
+            if let Err(why) = fits(block, last) {
+                return Err(why);
+            }
             Ok(Some(Beginning::After(last)))
         }
         Place::End => Ok(None),

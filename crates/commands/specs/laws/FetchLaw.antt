@@ -30,6 +30,7 @@ pub record ShortAt (s : List ℕ) (at b : ℕ) : Type 0 where
 -- a byte stands there that is no command's
 pub record UnknownAt (s : List ℕ) (at b : ℕ) : Type 0 where
   pub here : at < length s
+  pub all : at + width (get_or s at 0) ≤ length s
   pub byte : b ≡ get_or s at 0
   pub unknown : 1 ≤ b → b ≤ 8 → ⊥
 
@@ -144,7 +145,9 @@ module _ (s : List ℕ) (at : ℕ) where
       }
   fetched-by false e false g (Some command) i n =
       record { here = leb-false (length s) at e; few = leb-false (at + width (get_or s at 0)) (length s) g; byte = refl }
-  fetched-by false e all g None i n = record { here = leb-false (length s) at e; byte = refl; unknown = n }
+  fetched-by false e all g None i n =
+      let here : at < length s = leb-false (length s) at e in
+      record { here = here; all = omega (arith, here, alone (get_or s at 0) n); byte = refl; unknown = n }
 
   pub fetched : FetchedAt s at (fetch_at s at)
   fetched = fetched-by (leb (length s) at) refl (leb (at + width (get_or s at 0)) (length s)) refl (command_by s at (get_or s at 0)) refl (named s at (get_or s at 0))

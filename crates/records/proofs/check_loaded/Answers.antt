@@ -14,4 +14,4 @@ pub first_difference-differs-requires : goal.first_difference-differs-requires
 first_difference-differs-requires c = well-formed c.requires.1.tabled
 
 pub returns : goal.returns
-returns c = λ sh sz. checks-whole sz c.args.log.now (sym c.whole.ensures ∙ c.in_ok-whole.was) (compares sz.tabled c.args.log.now c.first_difference-differs.ensures (c.exists-given.ensures sh sz.tabled))
+returns c = λ sh sz. checks-whole sz c.args.log.now (sym c.whole.ensures ∙ c.in_ok-whole.was) (compares sz.tabled c.args.log.now c.first_difference-differs.ensures (c.exists-given.ensures sh sz.tabled) (search rules))

@@ -9,24 +9,24 @@ use Rattle.station.proofs.AnswerLaw.{suited-some, suited-none, change-refused, c
 use Rattle.station.proofs.change.Goals as goal
 use Rattle.station.proofs.change.Goals.{else-is_open-via-then-is_open+else-agree, else-is_open-via-else-is_open}
 
-pub returns-in_err-suit : goal.returns-in_err-suit
-returns-in_err-suit c = let a = c.args in
+pub returns-in-Err : goal.returns-in-Err
+returns-in-Err c = let a = c.args in
     let s = a.sheet.now in
     let d = a.changed.now in
-    let answer = change-refused s a.state d (suited-none d c.suit.ensures c.in_err-suit.was) (search rules) in record { answer = answer; told = changed-told s a.state d _ answer }
+    let answer = change-refused s a.state d (suited-none d c.suit.ensures c.in-Err.is) (search rules) in record { answer = answer; told = changed-told s a.state d _ answer }
 
 pub returns-then-agree : goal.returns-then-agree
 returns-then-agree c = let a = c.args in
     let s = a.sheet.now in
     let d = a.changed.now in
-    let (sh, e) = suited-some d c.suit.ensures c.in_ok-suit.was in
+    let (sh, e) = suited-some d c.suit.ensures c.in_default.is in
     let answer = change-goes-on s a.state d sh e (sym c.is_open.ensures ∙ c.if-is_open.true) (sym (c.agree.ensures sh (suited-as d sh e).read) ∙ c.if-agree.true) in record { answer = answer; told = changed-told s a.state d _ answer }
 
 pub returns : goal.returns
 returns c = let a = c.args in
     let s = a.sheet.now in
     let d = a.changed.now in
-    let (sh, e) = suited-some d c.suit.ensures c.in_ok-suit.was in
+    let (sh, e) = suited-some d c.suit.ensures c.in_default.is in
     let answer : Err c.new.result ≡ changed_answer (changing s a.state d) =
     elim c.else-is_open.branch [
       | else-is_open-via-then-is_open+else-agree w ↦ change-differs s a.state d sh e (sym c.is_open.ensures ∙ w.if-is_open.true) (sym (w.agree.ensures sh (suited-as d sh e).read) ∙ w.if-agree.false) c.new.ensures

@@ -39,10 +39,10 @@ pub returns-then-loaded-le1024 : goal.returns-then-loaded-le1024
 returns-then-loaded-le1024 c = λ sh ld. let tb = ld.loads.tabled in
     let be = c.in_ok-begins.ensures sh tb in
     takes-from sh _ _ _ _ be (sym (c.room.ensures sh tb) ∙ c.in_ok-room.was) c.in-Some.is
-    (c.next_logged.ensures sh (suite-short ld (omega (arith, c.if-loaded-le1024.true))) (last-ok sh _ _ be c.in-Some.is))
+    (c.next_logged.ensures sh (suite-short ld (omega (arith, c.if-loaded-le1024.true))) (last-ok sh _ _ be c.in-Some.is)) (search rules)
 
 pub returns-else-loaded-le1024 : goal.returns-else-loaded-le1024
 returns-else-loaded-le1024 c = λ sh ld. let tb = ld.loads.tabled in
     let be = c.in_ok-begins.ensures sh tb in
     takes-from sh _ _ _ _ be (sym (c.room.ensures sh tb) ∙ c.in_ok-room.was) c.in-Some.is
-    (c.next_logged-else-loaded-le1024.ensures sh (suite-long ld (omega arith)) (last-ok sh _ _ be c.in-Some.is))
+    (c.next_logged-else-loaded-le1024.ensures sh (suite-long ld (omega arith)) (last-ok sh _ _ be c.in-Some.is)) (search rules)

@@ -31,5 +31,5 @@ use_tried-set-requires g c = let (sh, su) = c.requires.loaded in
 pub returns : goal.returns
 returns g c = λ sh su.
     let is = c.in_ok-machine.ensures sh su.tabled in
-    ap (λ (t : Tested). Ok t) (first_found su is (c.log_suite-n.ensures sh (suite-blank g.row.ROOM su)) c.first_wrong-failed.ensures c.use_tried-set.ensures c.counted.ensures refl)
+    ap (λ (t : Tested). Ok t) (first_found su is (c.log_suite-n.ensures sh (suite-blank g.row.ROOM su)) c.first_wrong-failed.ensures c.use_tried-set.ensures c.counted.ensures (search rules))
     ∙ sym (ap failed_answer (mutant-goes-on sh c.args.mutant.now (accepted (finding_of sh c.args.mutant.now)) is.is))
