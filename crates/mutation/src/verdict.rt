@@ -54,7 +54,7 @@ fn judge_loaded(
     ensures judges { (sh : Sheet) → LoadedFrom sh loaded.now → Judges (judge_on sh (length board.old) (length sequence.old)) result board.old board.new sequence.old sequence.new }
     ensures measured { Measured result nodes.old nodes.new }
 {
-    // stays for `?`: an edit tells another refusal here.
+    // in place of `?`: an edit tells another refusal here.
     if let Err(why) = room(&loaded.block, board.len(), sequence.len()) {
         return Err(why);
     }

@@ -62,7 +62,7 @@ fn explain_loaded(
     ensures { (sh : Sheet) → Sized sh loaded.now → Explains (explain_on sh log.now (length board.old) (length sequence.old)) result board.old board.new sequence.old sequence.new }
 {
     whole(log, loaded.size.inputs, loaded.size.outputs)?;
-    // stays for `?`: an edit tells another refusal here.
+    // in place of `?`: an edit tells another refusal here.
     if let Err(why) = room(&loaded.block, board.len(), sequence.len()) {
         return Err(why);
     }

@@ -120,7 +120,7 @@ pub fn change(sheet: &[u8], changed: &[u8], state: State) -> Result<(), Refusal>
     ensures answer { result ≡ changed_answer (changing sheet.now state changed.now) }
     ensures told { ToldChanged sheet.now state changed.now result }
 {
-    // stays for `?`: an edit tells another refusal here.
+    // in place of `?`: an edit tells another refusal here.
     if let Err(why) = suit::suit(changed) {
         return Err(why);
     }

@@ -68,7 +68,7 @@ fn beginning<'a>(
     match place {
         Place::Start => Ok(Some(Beginning::Front)),
         Place::Last => {
-            // stays for `?`: an edit tells another refusal here.
+            // in place of `?`: an edit tells another refusal here.
             if let Err(why) = fits(block, last) {
                 return Err(why);
             }

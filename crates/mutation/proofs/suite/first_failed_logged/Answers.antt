@@ -3,7 +3,7 @@ use native.Mathlib.Omega.{arith}
 use Prim.Native.Nat.{ℕ}
 use Rattle.std.proofs.lemmas.List.{length-replicate}
 use Rattle.std.proofs.Common.{rules, Ok}
-use mathlib.Core.Path.{refl, sym, ◌∙◌, ap}
+use mathlib.Core.Path.{sym, ◌∙◌, ap}
 use Rattle.sheet.specs.Reading.{accepted}
 use Rattle.model.specs.Suite.{finding_of}
 use Rattle.model.proofs.laws.OperationLaw.{mutant-goes-on}
